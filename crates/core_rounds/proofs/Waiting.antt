@@ -16,7 +16,7 @@ use Rattle.turn_law.proofs.Columns.{other}
 use Rattle.updater.specs.Events.{how_many}
 use Rattle.index_core.specs.CoreCalls.{most_writes}
 use Rattle.index_core.specs.Indexes.{Index, IsIndex, map_of_index, world}
-use Rattle.index_core.specs.Lone.{HasSameList, IsQuiet, LeavesList, MergesFor, MergesNothing, NeedsNoTurn, RunsAlone, SplitsFor, SplitsNothing, taken_nodes}
+use Rattle.index_core.specs.Lone.{HasNoCalls, HasSameList, LeavesList, MergesFor, MergesNothing, NeedsNoTurn, RunsAlone, SplitsFor, SplitsNothing, taken_nodes}
 use Rattle.index_core.specs.declared.party.CoreCall.{CoreCall}
 use Rattle.index_core.specs.declared.party.CoreCall.TheVariants as call
 use Rattle.index_core.specs.declared.party.Whole.{Whole}
@@ -28,22 +28,22 @@ use Rattle.core_rounds.specs.Waiting.{one_if}
 use Rattle.core_rounds.proofs.CoreMaps.{locks_remain, next_unworn}
 
 -- a call for which there is room needs no turn
-pub needs_none : (caller : ℕ) (s : Index) (c : CoreCall) (changes writes puts : ℕ) → caller < s.layout.callers → IsIndex s → IsQuiet s → 0 < calls_left_of s →
+pub needs_none : (caller : ℕ) (s : Index) (c : CoreCall) (changes writes puts : ℕ) → caller < s.layout.callers → IsIndex s → HasNoCalls s → 0 < calls_left_of s →
     Waits s changes (writes + most_writes c) (puts + puts_for c) → NeedsNoTurn caller c s
-needs_none caller s (call.Put name value limit) changes writes puts here is quiet left waits =
+needs_none caller s (call.Put name value limit) changes writes puts here is idle left waits =
     let lines = waits.lines caller here in
     let nodes = waits.nodes in
     let four = locks_remain s left in
-    room_needs_no_turn s caller (call.Put name value limit) is quiet (omega arith) (omega arith) (omega arith) (omega arith)
-needs_none caller s (call.Del name limit) changes writes puts here is quiet left waits =
+    room_needs_no_turn s caller (call.Put name value limit) is idle (omega arith) (omega arith) (omega arith) (omega arith)
+needs_none caller s (call.Del name limit) changes writes puts here is idle left waits =
     let lines = waits.lines caller here in
     let nodes = waits.nodes in
     let four = locks_remain s left in
-    room_needs_no_turn s caller (call.Del name limit) is quiet (omega arith) (omega arith) (omega arith) (omega arith)
-needs_none caller s (call.Get name) changes writes puts here is quiet left waits = tt
-needs_none caller s (call.Part low count) changes writes puts here is quiet left waits = tt
-needs_none caller s (call.Recheck node version) changes writes puts here is quiet left waits = tt
-needs_none caller s (call.Turn stamp release) changes writes puts here is quiet left waits = tt
+    room_needs_no_turn s caller (call.Del name limit) is idle (omega arith) (omega arith) (omega arith) (omega arith)
+needs_none caller s (call.Get name) changes writes puts here is idle left waits = tt
+needs_none caller s (call.Part low count) changes writes puts here is idle left waits = tt
+needs_none caller s (call.Recheck node version) changes writes puts here is idle left waits = tt
+needs_none caller s (call.Turn stamp release) changes writes puts here is idle left waits = tt
 
 -- puts split, and puts and deletes alone change the shape
 split_is_put : (s new : Index) (c : CoreCall) → SplitsFor c s new → 1 ≤ puts_for c
@@ -110,11 +110,11 @@ one-fewer caller of w0 w made = elim (cases_eq of caller) [
 ]
 
 -- what a call leaves that changes the shape so often
-module _ (caller : ℕ) (s new : Index) (c : CoreCall) (r : Whole) (here : caller < s.layout.callers) (is : IsIndex s) (quiet : IsQuiet s) (left : 0 < calls_left_of s) (runs : RunsAlone s caller c new r) where
+module _ (caller : ℕ) (s new : Index) (c : CoreCall) (r : Whole) (here : caller < s.layout.callers) (is : IsIndex s) (idle : HasNoCalls s) (left : 0 < calls_left_of s) (runs : RunsAlone s caller c new r) where
   leaves : (changes writes puts more : ℕ) → (HasSameList s new → more ≡ changes) → (SplitsFor c s new ⊎ MergesFor c s new → more ≡ changes + 1) →
       Waits s changes (writes + most_writes c) (puts + puts_for c) → Waits new more writes puts
   leaves changes writes puts more kept_so changed_so waits =
-      let needs = needs_none caller s c changes writes puts here is quiet left waits in
+      let needs = needs_none caller s c changes writes puts here is idle left waits in
       let ready = waits.ready in
       let nodes = waits.nodes in
       let same_nodes : new.layout.nodes ≡ s.layout.nodes = ap (λ (l : Layout). l.nodes) runs.layout in
@@ -186,27 +186,27 @@ kept_counts s new c placed is left list same = ⊎_elim
     (λ (changed : SplitsFor c s new ⊎ MergesFor c s new). absurd (⊎_elim (cut_is_other s new c same) (merge_is_other s new c same) changed))
     list
 
-pub waits_placed : (caller : ℕ) (s new : Index) (c : CoreCall) (r : Whole) (placed : Placed) → caller < s.layout.callers → IsIndex s → IsQuiet s → 0 < calls_left_of s → r ≡ whole.Placed placed →
+pub waits_placed : (caller : ℕ) (s new : Index) (c : CoreCall) (r : Whole) (placed : Placed) → caller < s.layout.callers → IsIndex s → HasNoCalls s → 0 < calls_left_of s → r ≡ whole.Placed placed →
     RunsAlone s caller c new r → (changes writes puts : ℕ) → Waits s changes (writes + most_writes c) (puts + puts_for c) → Waits new (changes + changes_for s c) writes puts
-waits_placed caller s new c r placed here is quiet left answered runs changes writes puts =
+waits_placed caller s new c r placed here is idle left answered runs changes writes puts =
     let run : RunsAlone s caller c new (whole.Placed placed) = subst (RunsAlone s caller c new) answered runs in
-    leaves caller s new c (whole.Placed placed) here is quiet left run changes writes puts (changes + changes_for s c)
+    leaves caller s new c (whole.Placed placed) here is idle left run changes writes puts (changes + changes_for s c)
     (λ same. let none = kept_counts s new c placed is left run.list same in omega (arith, none))
     (λ changed. ap (λ (n : ℕ). changes + n) (⊎_elim (split_counts s new c) (merge_counts s new c) changed))
 
 -- and one that found no room
-pub waits_full : (caller : ℕ) (s new : Index) (c : CoreCall) (r : Whole) → caller < s.layout.callers → IsIndex s → IsQuiet s → 0 < calls_left_of s → r ≡ whole.Full → RunsAlone s caller c new r →
+pub waits_full : (caller : ℕ) (s new : Index) (c : CoreCall) (r : Whole) → caller < s.layout.callers → IsIndex s → HasNoCalls s → 0 < calls_left_of s → r ≡ whole.Full → RunsAlone s caller c new r →
     (changes writes puts : ℕ) → Waits s changes (writes + most_writes c) (puts + puts_for c) → Waits new changes writes puts
-waits_full caller s new c r here is quiet left answered runs =
+waits_full caller s new c r here is idle left answered runs =
     let run : RunsAlone s caller c new whole.Full = subst (RunsAlone s caller c new) answered runs in
-    waits_kept caller s new c whole.Full here is quiet left run run.list
+    waits_kept caller s new c whole.Full here is idle left run run.list
 
 -- a part of a scan changes nothing
-pub waits_listed : (caller : ℕ) (s new : Index) (low : List ℕ) (count : ℕ) (r : Whole) → caller < s.layout.callers → IsIndex s → IsQuiet s → 0 < calls_left_of s →
+pub waits_listed : (caller : ℕ) (s new : Index) (low : List ℕ) (count : ℕ) (r : Whole) → caller < s.layout.callers → IsIndex s → HasNoCalls s → 0 < calls_left_of s →
     RunsAlone s caller (call.Part low count) new r → (changes writes puts : ℕ) → Waits s changes writes puts → Waits new changes writes puts
-waits_listed caller s new low count r here is quiet left runs changes writes puts waits =
+waits_listed caller s new low count r here is idle left runs changes writes puts waits =
     let nodes = waits.nodes in
-    leaves caller s new (call.Part low count) r here is quiet left runs changes writes puts changes (λ _. refl)
+    leaves caller s new (call.Part low count) r here is idle left runs changes writes puts changes (λ _. refl)
     (λ changed. absurd (⊎_elim (λ (none : ⊥). none) (λ (none : ⊥). none) changed))
     (record { ready = waits.ready; lines = λ of there. (let lines = waits.lines of there in omega (arith, lines)); nodes = omega (arith, nodes) })
 

@@ -40,7 +40,7 @@ use Rattle.index_core.specs.CoreCalls.{machine_of, op_of, limit_of, count_of}
 use Rattle.index_core.specs.Listings.{ListsRange}
 use Rattle.index_core.specs.PartyStates.{state_with, next_index}
 use Rattle.index_core.specs.Indexes.{Index, IsIndex, map_of_index, view_of, started_index}
-use Rattle.index_core.specs.Lone.{IsQuiet, FindsNoRoom, names_beside, node_for, IsWholeAnswer, most_tries, alone_writes, state_done}
+use Rattle.index_core.specs.Lone.{HasNoCalls, FindsNoRoom, names_beside, node_for, IsWholeAnswer, most_tries, alone_writes, state_done}
 use Rattle.index_core.specs.Schedules.{BegunCall, AnsweredCall, begun_call, flying_call, once_of, listed_of, CallLists, IsNext, IsNextIndex, flying_in, IsAnsweredWrite, IsWriteInFlight, AreCounted}
 use Rattle.index_core.proofs.Stepping.{begins_limit, begins_count}
 use Rattle.index_core.proofs.Flights.{each_starts, each_alone}
@@ -164,7 +164,7 @@ module _ (first : Index) (begun : List BegunCall) (calls : List AnsweredCall) (s
               cc
 
     -- a whole call
-    module _ (result : Whole) (new : Index) (quiet : IsQuiet s) (is : IsWholeAnswer (most_tries c) s i c new result) where
+    module _ (result : Whole) (new : Index) (free : HasNoCalls s) (is : IsWholeAnswer (most_tries c) s i c new result) where
       abbrev base : Map
       base = map_of first.base
 
@@ -384,4 +384,4 @@ module _ (first : Index) (begun : List BegunCall) (calls : List AnsweredCall) (s
       }
         where
           none_flies : (p : ℕ) (state : PartyState) (machine : Running) → get_elem? s.states p ≡ some state → state.machine ≡ Some machine → ⊥
-          none_flies p state machine at flown = let both : None ≡ Some machine = sym (quiet.calls p state at) ∙ flown in cc
+          none_flies p state machine at flown = let both : None ≡ Some machine = sym (free p state at) ∙ flown in cc

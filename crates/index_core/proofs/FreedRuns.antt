@@ -1,5 +1,5 @@
 -- A turn that is to make a node FREE has found on it a stamp of its release, wherever a schedule stands.
-use Rattle.std.proofs.Common.{◌≡◌, ◌≢◌, ℕ, ⊎_elim, inl, inr, List, set, refl, sym, ap, ◌∙◌, subst}
+use Rattle.std.proofs.Common.{◌≡◌, ◌≢◌, ℕ, ⊎_elim, inl, inr, List, length, set, refl, sym, ap, ◌∙◌, subst}
 use Rattle.std.specs.Prelude.{Some, None}
 use mathlib.Core.Option.{some}
 use lib.ListN.{get_elem?}
@@ -18,7 +18,7 @@ use Rattle.index_law.proofs.Parties.{at_set}
 use Rattle.index_core.specs.declared.party.PartyState.{PartyState}
 use Rattle.index_core.specs.PartyStates.{state_after, turn_after}
 use Rattle.index_core.specs.Indexes.{Index, told}
-use Rattle.index_core.specs.Lone.{IsQuiet}
+use Rattle.index_core.specs.Lone.{IsQuiet, state_done}
 use Rattle.index_core.specs.Schedules.{BegunCall, AnsweredCall, Runs, begins, starts, goes_on, answers, alone, evicts, reserves, begins_turn, steps_turn, turns_alone}
 use Rattle.index_core.specs.Turns.{IsToFree, turn_told}
 use Rattle.index_core.specs.Freeing.{WasReleased, FreedWereReleased, StepsFreeReleased}
@@ -71,8 +71,9 @@ was first quiet (answers {old = old} {party = party} run step index) i making n 
     was first quiet run i making n
     (made_before old.states party i t.state (state_after t.state (running_turned t.machine (told old t.machine))) making t.there (after_turn t.state (running_turned t.machine (told old t.machine)))
     (subst (λ (s : Index). Makes s.states i making) t.is makes)) frees
-was first quiet (alone {old = old} {caller = caller} run rests ran index) i making n makes frees =
-    none_made old i making rests (made_before old.states caller i ran.state _ making ran.there refl (subst (λ (l : List PartyState). Makes l i making) ran.states makes))
+was first quiet (alone {old = old} {caller = caller} run free ran index) i making n makes frees =
+    was first quiet run i making n
+    (made_before old.states caller i ran.state (state_done ran.state (length old.history)) making ran.there refl (subst (λ (l : List PartyState). Makes l i making) ran.states makes)) frees
 was first quiet (evicts {old = old} run within same index) i making n makes frees =
     was first quiet run i making n (subst (λ (s : Index). Makes s.states i making) same makes) frees
 was first quiet (reserves {old = old} run same) i making n makes frees =

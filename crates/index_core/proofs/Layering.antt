@@ -5,8 +5,6 @@ use Rattle.std.proofs.lemmas.List.{set-get_or}
 use mathlib.Core.Option.{some}
 use lib.ListN.{get_elem?}
 use Rattle.pm_words.specs.Locations.{Volatile, image_words, address_of, at}
-use Rattle.pm_words.specs.Layouts.{IsLayout}
-use Rattle.pm_words.specs.declared.layout.Layout.{Layout}
 use Rattle.pm_words.specs.declared.action.Action.{Action}
 use Rattle.pm_words.specs.declared.machine.Turn.{Turn}
 use Rattle.pm_words.specs.declared.machine.Turn.TheVariants.{Go, Done}
@@ -24,8 +22,6 @@ use Rattle.node_ops.specs.CallStages.{stage_of, footing_of, footing_after, reply
 use Rattle.node_ops.specs.RunningSteps.{running_asks, running_turned}
 use Rattle.node_ops.proofs.CallLaw.{footing_stage}
 use Rattle.index_law.specs.Worlds.{Party, moved_on}
-use Rattle.index_law.specs.Laws.{fresh_world}
-use Rattle.index_law.specs.Lawful.{Each}
 use Rattle.index_law.specs.Whole.{Whole}
 use Rattle.index_law.specs.Footings.{stepped_whole}
 use Rattle.index_law.specs.Footed.{IsFooted}
@@ -39,13 +35,12 @@ use Rattle.layer_law.proofs.Restamping.{stamp_keeps_layer}
 use Rattle.layer_law.proofs.Beginnings.{beginning_keeps_layer, other_turns_may_rest}
 use Rattle.layer_law.proofs.CallLaw.{call_step_keeps}
 use Rattle.layer_law.proofs.LayerStays.{eviction_keeps_layer}
-use Rattle.layer_law.proofs.FreshLayer.{fresh_is_layered}
 use Rattle.index_core.specs.declared.party.PartyState.{PartyState}
-use Rattle.index_core.specs.PartyStates.{machine_stage, machine_footing, party_of, resting, turning_of, state_after, idle_states}
+use Rattle.index_core.specs.PartyStates.{machine_stage, machine_footing, party_of, resting, turning_of, state_after}
 use Rattle.index_core.specs.Crashes.{evicted_index}
-use Rattle.index_core.specs.Indexes.{Index, footed, layered, world, told, stepped_index, parties_of}
+use Rattle.index_core.specs.Indexes.{Index, footed, layered, world, told, stepped_index}
 use Rattle.index_core.proofs.Footings.{line_of, debt_of}
-use Rattle.index_core.proofs.Lists.{map_there, map_from, map_set, there_is, idle-length, idle-each}
+use Rattle.index_core.proofs.Lists.{map_there, map_from, map_set, there_is}
 
 abbrev pub turn_of : PartyState → Turning
 turn_of state = turning_of state.turn

@@ -21,10 +21,10 @@ use Rattle.lone_turn.proofs.ReadyCounts.{empty_are_counted, ready_are_counted}
 use Rattle.index_core.specs.declared.party.CoreCall.{CoreCall}
 use Rattle.index_core.specs.declared.party.CoreCall.TheVariants as call
 use Rattle.index_core.specs.Indexes.{Index, IsIndex, world}
-use Rattle.index_core.specs.Lone.{HasSameList, IsQuiet, MergesFor, NeedsNoTurn, SplitsFor, locks_left, taken_nodes}
+use Rattle.index_core.specs.Lone.{HasNoCalls, HasSameList, MergesFor, NeedsNoTurn, SplitsFor, locks_left, taken_nodes}
 use Rattle.index_core.specs.Logs.{LogIsCounted, QuietHasNoneOpen, RoomNeedsNoTurn}
 use Rattle.index_core.proofs.LoneTurning.{quiet_is_idle_for_turns}
-use Rattle.index_core.proofs.Quiet.{quiet_parties}
+use Rattle.index_core.proofs.Quiet.{idle_parties}
 use Rattle.index_core.proofs.Taken.{gone_few}
 
 pub log_is_counted : LogIsCounted
@@ -78,8 +78,8 @@ find_free f (suc n) = ⊎_elim
     (cases_eq (f.status n) free_status)
 
 -- there is one where some node is neither listed nor GONE
-has_free : (s : Index) → IsIndex s → IsQuiet s → 0 < locks_left s → taken_nodes s < s.layout.nodes → HasFree s.layout s.generation s.words
-has_free s is quiet left room = ⊎_elim
+has_free : (s : Index) → IsIndex s → HasNoCalls s → 0 < locks_left s → taken_nodes s < s.layout.nodes → HasFree s.layout s.generation s.words
+has_free s is idle left room = ⊎_elim
     (λ (found : (k : ℕ) × (k < s.layout.nodes) × ((facts (world s)).status k ≡ free_status)). record {
       node = found.0;
       within = found.1;
@@ -88,7 +88,7 @@ has_free s is quiet left room = ⊎_elim
     })
     (λ (none : (k : ℕ) → k < s.layout.nodes → (facts (world s)).status k ≢ free_status).
     let all : length (anchors_in (world s)) ≡ members_most (world s) =
-    (nodes_are_counted (world s) is.lawful).all (no_free_is_each (world s) is.lawful (quiet_parties s quiet) none) in
+    (nodes_are_counted (world s) is.lawful).all (no_free_is_each (world s) is.lawful (idle_parties s idle) none) in
     let few = gone_few s.layout.nodes (facts (world s)) in
     absurd (omega arith))
     (find_free (facts (world s)) s.layout.nodes)
@@ -102,6 +102,6 @@ for_call s caller (call.Recheck node version) line free = tt
 for_call s caller (call.Turn stamp release) line free = tt
 
 pub room_needs_no_turn : RoomNeedsNoTurn
-room_needs_no_turn s caller c is quiet here left some room =
+room_needs_no_turn s caller c is idle here left some room =
     let found = some_of (is_own_empty caller (world s)) 8 some in
-    for_call s caller c (has_line s caller here found.0 found.1 found.2) (has_free s is quiet left room)
+    for_call s caller c (has_line s caller here found.0 found.1 found.2) (has_free s is idle left room)

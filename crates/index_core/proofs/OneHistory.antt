@@ -193,7 +193,7 @@ kept first index quiet fresh (answers {begun = begun} {calls = calls} {old = old
     (along.is_answered first begun calls old party t.state t.machine k t.there t.flies answer done new.spare few (listed_by reply)
     (subst (λ (v : Index). IsAnswerOf v.layout.slots (map_of v.base) v.history t.state (op_in t.machine) (running_call t.machine).limit answer) t.is t.says)
     (subst (λ (v : Index). CallLists (map_of v.base) v.history (op_in t.machine) (count_in t.machine) answer (listed_by reply)) t.is lists) (subst IsIndex t.is is))
-kept first index quiet fresh (alone {begun = begun} {calls = calls} {old = old} {new = new} {caller = party} {call = c} {result = result} run still r is) few =
+kept first index quiet fresh (alone {begun = begun} {calls = calls} {old = old} {new = new} {caller = party} {call = c} {result = result} run free r is) few =
     let b = begun_call r.state (length old.history) c in
     let k = kept first index quiet fresh run (fewer first begun (b ∷ []) few) in
     let caller_is : r.state.caller ≡ party = (k.index.states party r.state r.there).caller in
@@ -201,7 +201,7 @@ kept first index quiet fresh (alone {begun = begun} {calls = calls} {old = old} 
     let same : Path Index new (record new { states = set old.states party (state_done r.state (length old.history)); base = old.base; history = old.history ++ alone_writes r.state.caller r.state.index c result }) =
     (λ t. record new { states = r.states t; base = r.base t; history = history t }) in
     subst (λ (v : Index). Kept first (begun ++ b ∷ []) (calls ++ record { call = b; until = length v.history; answer = once_of result; part = listed_of result; whole = true; next = next_index r.state.index } ∷ []) v) (sym same)
-    (kept_alone first begun calls old party r.state c k r.there (still.calls party r.state r.there) few result new still r.answer new r.layout (subst IsIndex same is))
+    (kept_alone first begun calls old party r.state c k r.there (free party r.state r.there) few result new free r.answer new r.layout (subst IsIndex same is))
 kept first index quiet fresh (evicts {begun = begun} {calls = calls} {old = old} {new = new} {word = word} run within e is) few =
     subst (Kept first begun calls) (sym e) (kept_as first begun calls old (evicted old.layout old.words word) old.spare (kept first index quiet fresh run few) (subst IsIndex e is))
 kept first index quiet fresh (reserves {begun = begun} {calls = calls} {old = old} {new = new} run e) few =

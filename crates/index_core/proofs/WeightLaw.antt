@@ -1,5 +1,5 @@
 -- What an index weighs along a schedule.
-use Rattle.std.proofs.Common.{true, false, ◌≡◌, ◌≢◌, ℕ, zero, suc, ◌+◌, ◌≤◌, ◌⊎◌, ⊎_elim, List, [], ◌∷◌, length, set, refl, sym, ap, ◌∙◌, subst, arith}
+use Rattle.std.proofs.Common.{true, false, ◌≡◌, ℕ, zero, suc, ◌+◌, ◌≤◌, ⊎_elim, List, [], ◌∷◌, length, set, refl, sym, ap, ◌∙◌, subst, arith}
 use Rattle.std.specs.Prelude.{Option, Some, None, IfSome}
 use Rattle.std.specs.List.{sum_by}
 use Rattle.std.proofs.lemmas.List.Sums.{sum_by-cons, sum_by_push}
@@ -23,7 +23,7 @@ use Rattle.node_ops.specs.CallStages.{stage_of, stage_after, reply_of}
 use Rattle.node_ops.proofs.OpLaw.{op_told, pends_own_change}
 use Rattle.index_law.specs.Worlds.{Party}
 use Rattle.index_law.specs.Weights.{AddsName, weight_sum}
-use Rattle.index_law.proofs.Weights.{swap_weighs, evict_weighs, idle_weighs}
+use Rattle.index_law.proofs.Weights.{swap_weighs, evict_weighs}
 use Rattle.index_core.specs.declared.party.CoreCall.{CoreCall}
 use Rattle.index_core.specs.declared.party.PartyState.{PartyState}
 use Rattle.index_core.specs.declared.party.Whole.{Whole}
@@ -31,12 +31,13 @@ use Rattle.index_core.specs.declared.party.Whole.TheVariants as whole
 use Rattle.index_core.specs.CoreCalls.{op_of, machine_of}
 use Rattle.index_core.specs.PartyStates.{machine_stage, party_of, state_with, state_after, index_after, next_index, answer_in, listed_by, turn_after}
 use Rattle.index_core.specs.Indexes.{Index, IsIndex, world, view_of, told}
-use Rattle.index_core.specs.Lone.{IsQuiet, state_done}
+use Rattle.index_core.specs.Lone.{HasNoCalls, IsQuiet, state_done}
 use Rattle.index_core.specs.Schedules.{BegunCall, AnsweredCall, begun_call, flying_call, once_of, listed_of, Runs, begins, starts, goes_on, answers, alone, evicts, reserves, begins_turn, steps_turn, turns_alone}
 use Rattle.index_core.specs.Weights.{weight_of, put_count, added_if, added_by, added_whole, put_in}
 use Rattle.index_core.specs.WeightBounds.{names_added, puts_in_flight, WeightIsBounded}
 use Rattle.index_core.proofs.Crashing.{crash_light}
-use Rattle.index_core.proofs.Quiet.{quiet_parties}
+use Rattle.index_core.proofs.MachineLaw.{none_weigh}
+use Rattle.index_core.proofs.Quiet.{none_then}
 use Rattle.index_core.proofs.Told.{go_of, done_of}
 use Rattle.updater.specs.declared.making.MakeTurn.{MakeTurn}
 use Rattle.updater.specs.Makings.{making_from, making_turned}
@@ -47,7 +48,6 @@ use Rattle.index_core.proofs.OneHistory.{none_flies}
 use Rattle.index_core.specs.MachineLaws.{shows}
 use Rattle.index_core.proofs.Shown.{new_if, told_new, shows_few, step_shows, adds_shows}
 use Rattle.index_core.proofs.Stepping.{machine_idle, respare}
-use Rattle.index_law.proofs.Parties.{at_set}
 
 -- sums of which one part is another
 sum_set : {A : Type 0} (f : A → ℕ) (l : List A) (i : ℕ) (was now : A) → get_elem? l i ≡ some was → sum_by f (set l i now) + f was ≡ sum_by f l + f now
@@ -172,10 +172,6 @@ counts_added asked whole.Full = omega arith
 counts_added asked (whole.Spent clock) = omega arith
 counts_added asked (whole.Worn node word) = omega arith
 
--- with no call in flight the sum is the weight
-quiet_sum : (s : Index) → IsQuiet s → weight_sum (world s) ≡ weight_of s
-quiet_sum s quiet = idle_weighs (world s) (quiet_parties s quiet)
-
 -- a turn shows no name
 turned_shows : (states : List PartyState) (i : ℕ) (e : PartyState) (t : Option MakeTurn) → get_elem? states i ≡ some e → showing_sum (set states i (record e { turn = t })) ≡ showing_sum states
 turned_shows states i e t there =
@@ -208,7 +204,7 @@ start_weighs s i state c there idle =
 
 module _ (first : Index) (quiet : IsQuiet first) (index : IsIndex first) where
   weighs : {begun : List BegunCall} {calls : List AnsweredCall} {s : Index} → Runs first begun calls s → Weighs first calls s
-  weighs begins = record { index = index; sum = let same = quiet_sum first quiet in omega arith }
+  weighs begins = record { index = index; sum = let same = none_weigh first quiet.calls in omega arith }
   weighs (starts {calls = calls} {old = old} {new = new} {party = party} {call = c} run none t is) =
       let before = weighs run in
       let sum = before.sum in
@@ -271,24 +267,13 @@ module _ (first : Index) (quiet : IsQuiet first) (index : IsIndex first) where
             absurd (idle_adds old.layout (stage_of m) m (subst (λ (turn : Turn Running (Once Placed)). AddsName old.layout (stage_of m) (running_asks m) (stage_after turn)) done adds.0)))
             t.turn.weighs;
       }
-  weighs (alone {calls = calls} {old = old} {new = new} {caller = caller} {call = c} {result = result} run still r is) =
+  weighs (alone {calls = calls} {old = old} {new = new} {caller = caller} {call = c} {result = result} run free r is) =
       let before = weighs run in
       let sum = before.sum in
-      let at_new : (i : ℕ) (state : PartyState) → get_elem? new.states i ≡ some state → ((i ≡ caller) × (state_done r.state (length old.history) ≡ state)) ⊎ ((i ≢ caller) × (get_elem? old.states i ≡ some state)) =
-      λ i state at. at_set old.states caller i (state_done r.state (length old.history)) state (ap (λ (l : List PartyState). get_elem? l i) (sym r.states) ∙ at) in
-      let quiet_new : IsQuiet new = record {
-        calls = λ i state at. ⊎_elim
-            (λ (mine : (i ≡ caller) × (state_done r.state (length old.history) ≡ state)). ap (λ (e : PartyState). e.machine) (sym mine.1))
-            (λ (other : (i ≢ caller) × (get_elem? old.states i ≡ some state)). still.calls i state other.1)
-            (at_new i state at);
-        turns = λ i state at. ⊎_elim
-            (λ (mine : (i ≡ caller) × (state_done r.state (length old.history) ≡ state)). ap (λ (e : PartyState). e.turn) (sym mine.1) ∙ still.turns caller r.state r.there)
-            (λ (other : (i ≢ caller) × (get_elem? old.states i ≡ some state)). still.turns i state other.1)
-            (at_new i state at);
-      } in
+      let free_new : HasNoCalls new = none_then old new caller r.state (state_done r.state (length old.history)) r.there r.states refl refl free in
       let more : weight_sum (world new) ≤ weight_sum (world old) + added_whole (op_of c) result =
-      subst (λ (q : ℕ × ℕ). q.0 ≤ q.1 + added_whole (op_of c) result) (λ k. (sym (quiet_sum new quiet_new) k, sym (quiet_sum old still) k)) r.weighs in
-      let none = quiet_shows old.states still.calls in
+      subst (λ (q : ℕ × ℕ). q.0 ≤ q.1 + added_whole (op_of c) result) (λ k. (sym (none_weigh new free_new) k, sym (none_weigh old free) k)) r.weighs in
+      let none = quiet_shows old.states free in
       let within = counts_added (op_of c) result in
       let call : AnsweredCall = record { call = begun_call r.state (length old.history) c; until = length new.history; answer = once_of result; part = listed_of result; whole = true; next = next_index r.state.index } in
       let longer = sum_by_push (λ (d : AnsweredCall). added_by d.call.op d.answer) calls call in
@@ -324,9 +309,9 @@ module _ (first : Index) (quiet : IsQuiet first) (index : IsIndex first) where
   weighs (turns_alone {calls = calls} {old = old} {new = new} run still t is) =
       let before = weighs run in
       let sum = before.sum in
-      let quiet_new : IsQuiet new = subst IsQuiet (sym t.is) (record { calls = still.calls; turns = still.turns }) in
+      let free_new : HasNoCalls new = subst HasNoCalls (sym t.is) still.calls in
       let less : weight_sum (world new) ≤ weight_sum (world old) =
-      subst (λ (q : ℕ × ℕ). q.0 ≤ q.1) (λ k. (sym (quiet_sum new quiet_new) k, sym (quiet_sum old still) k)) t.weighs in
+      subst (λ (q : ℕ × ℕ). q.0 ≤ q.1) (λ k. (sym (none_weigh new free_new) k, sym (none_weigh old still.calls) k)) t.weighs in
       let shown : showing_sum new.states ≡ showing_sum old.states = ap (λ (v : Index). showing_sum v.states) t.is in
       record { index = is; sum = omega arith }
 

@@ -5,7 +5,7 @@ use Rattle.lone_turn.specs.LoneTurns.{AreEmptyOrReady}
 use Rattle.index_core.specs.declared.party.CoreCall.{CoreCall}
 use Rattle.index_core.specs.declared.party.Whole.{Whole}
 use Rattle.index_core.specs.Indexes.{Index, IsIndex, world}
-use Rattle.index_core.specs.Lone.{HasSameList, IsQuiet, MergesFor, NeedsNoTurn, RunsAlone, SplitsFor, locks_left}
+use Rattle.index_core.specs.Lone.{HasNoCalls, HasSameList, IsQuiet, MergesFor, NeedsNoTurn, RunsAlone, SplitsFor, locks_left}
 use Rattle.index_core.specs.Lone.{taken_nodes}
 
 -- With nothing in flight no log line is OPEN.
@@ -22,8 +22,8 @@ LogIsCounted = (s : Index) (caller : ℕ) (c : CoreCall) (new : Index) (result :
     ((SplitsFor c s new ⊎ MergesFor c s new) × (ready_lines (world new) ≡ ready_lines (world s) + 1) ×
     (empty_lines caller (world new) + 1 ≡ empty_lines caller (world s)))
 
--- With nothing in flight no call needs a turn whose caller has an EMPTY line, where a lock is left of each node and some
+-- With no call in flight no call needs a turn whose caller has an EMPTY line, where a lock is left of each node and some
 -- node is neither listed nor GONE.
 abbrev pub RoomNeedsNoTurn : Type 0
-RoomNeedsNoTurn = (s : Index) (caller : ℕ) (c : CoreCall) → IsIndex s → IsQuiet s → caller < s.layout.callers →
+RoomNeedsNoTurn = (s : Index) (caller : ℕ) (c : CoreCall) → IsIndex s → HasNoCalls s → caller < s.layout.callers →
     0 < locks_left s → 0 < empty_lines caller (world s) → taken_nodes s < s.layout.nodes → NeedsNoTurn caller c s

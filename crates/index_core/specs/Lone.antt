@@ -1,6 +1,6 @@
 -- A call that is made with no other in flight.
-use Rattle.std.specs.Prelude.{◌≡◌, ◌≢◌, ℕ, ◌+◌, ◌<◌, ◌≤◌, ◌==◌, ◌⊎◌, Bool, true, false, List, [], ◌++◌, length, slice_set}
-use Rattle.std.specs.Prelude.{Option, Some, None, IsSomeAnd}
+use Rattle.std.specs.Prelude.{◌≡◌, ◌≢◌, ℕ, ◌+◌, ◌<◌, ◌≤◌, ◌==◌, ◌⊎◌, Bool, true, false, List, [], ◌++◌, length}
+use Rattle.std.specs.Prelude.{slice_set, Option, Some, None, IsSomeAnd}
 use Rattle.std.specs.FinMap.{keys}
 use Rattle.std.specs.List.{filter}
 use mathlib.Core.Option.{some}
@@ -63,8 +63,8 @@ HoldsLock None = ⊥
 HoldsLock (Some (Taking terms)) = ⊥
 HoldsLock (Some (Working work)) = Unit {0}
 
--- No call is in flight, and no turn of the updater but, maybe, one of another party than this, which has stopped under
--- the updater lock. So a quiet index is, for each party.
+-- No call is in flight, and no turn of the updater but, maybe, one of another party than this, which has stopped
+-- under the updater lock. A quiet index is still for each party.
 pub record IsStill (party : ℕ) (s : Index) : Type 0 where
   pub calls : HasNoCalls s
   pub turns : (i : ℕ) (state : PartyState) → get_elem? s.states i ≡ some state →

@@ -4,7 +4,6 @@ use Rattle.std.specs.Prelude.{None, IfSome, IsSomeAnd, All, map, take, Bool, tru
 use Rattle.std.specs.List.Sorted.{IsPermutation}
 use mathlib.Core.Option.{some}
 use lib.ListN.{get_elem?}
-use Rattle.pm_words.specs.declared.layout.Layout.{Layout}
 use Rattle.pm_words.specs.Locations.{image_words}
 use Rattle.pm_words.specs.declared.again.Again.{Again}
 use Rattle.pm_words.specs.declared.again.Again.TheVariants as again
@@ -41,7 +40,7 @@ use Rattle.index_core.specs.Crashes.{evicted_index}
 use Rattle.updater.specs.declared.making.TurnReply.{TurnReply}
 use Rattle.updater.specs.declared.terms.Turned.{Turned}
 use Rattle.index_core.specs.Turns.{StartsTurn, TurnSteps, TurnsAlone}
-use Rattle.index_core.specs.Lone.{IsQuiet, RunsAlone}
+use Rattle.index_core.specs.Lone.{HasNoCalls, IsQuiet, RunsAlone}
 
 -- A call that was begun.
 pub record BegunCall : Type 0 where
@@ -106,7 +105,7 @@ listed_of (whole.Worn node word) = None
 -- A schedule of the core from this index to another: calls of the core one after another, each with what its contract
 -- says. The first list has the calls that were begun on the way, in their order, the second those that were answered,
 -- in the order of their answers. One that a step turned back isn't counted for its caller's next index; a whole call is
--- counted whatever it is answered.
+-- counted whatever it is answered. It is made with no other call in flight, maybe beside turns of the updater.
 pub data Runs (first : Index) : List BegunCall → List AnsweredCall → Index → Type 0 where
   begins : Runs first [] [] first
   starts : {begun : List BegunCall} {calls : List AnsweredCall} {old new : Index} {party : ℕ} {call : CoreCall} →
@@ -130,7 +129,7 @@ pub data Runs (first : Index) : List BegunCall → List AnsweredCall → Index �
       } ∷ []) new
   alone : {begun : List BegunCall} {calls : List AnsweredCall} {old new : Index} {caller : ℕ} {call : CoreCall}
       {result : Whole} →
-      Runs first begun calls old → IsQuiet old → (run : RunsAlone old caller call new result) → IsIndex new →
+      Runs first begun calls old → HasNoCalls old → (run : RunsAlone old caller call new result) → IsIndex new →
       Runs first (begun ++ begun_call run.state (length old.history) call ∷ [])
       (calls ++ record {
         call = begun_call run.state (length old.history) call;

@@ -3,8 +3,9 @@
 //! Each event takes one of the budget. Where it is used up before an event that the call still has to make, the call
 //! stays in flight as it is, or the turn of the updater does that it wanted, which the party makes itself.
 //!
-//! Beside them a turn of the updater by another party may have stopped so, and has the updater lock for ever. A call that
-//! needs no turn is made as if it weren't there; one that needs a turn tries for the lock until its budget is used up.
+//! Beside them a turn of the updater by another party may have stopped so, and has the updater lock for ever. A call
+//! that needs no turn is made as if it weren't there; one that needs a turn tries for the lock until its budget is used
+//! up.
 
 ghost use Rattle.std.specs.Prelude.{◌≡◌, ◌≢◌, ◌+◌, ◌<◌, ◌≤◌, ℕ, length, None, IfSome};
 ghost use Rattle.index_core.specs.declared.party.CoreCall.TheVariants as CoreCall;
@@ -31,16 +32,18 @@ use updater::{TurnReply, Turned};
 const STAMP: u64 = 1;
 
 impl Core {
-    /// A whole call of a party, with no other in flight, as `run_alone` makes it, within a budget of events, of which it
-    /// takes one for each that it makes. It is `Unstarted` exactly where the budget was 0, and then nothing changes. It
-    /// is `Cut` only where the budget is used up: then the call is in flight, or a turn of the updater is that it wanted,
-    /// by the same party. A turn of another party may have stopped under the updater lock: beside it each turn is `Cut`,
-    /// and each call that wants one. So a turn is `Turned` only with nothing else in flight; and where it is `Cut` there,
-    /// others may still make their calls beside it.
+    /// A whole call of a party, with no other in flight, as `run_alone` makes it, within a budget of events, of which
+    /// it takes one for each that it makes. It is `Unstarted` exactly where the budget was 0, and then nothing changes.
+    /// It is `Cut` only where the budget is used up: then the call is in flight, or a turn of the updater is that it
+    /// wanted, by the same party.
+    ///
+    /// A turn of another party may have stopped under the updater lock: beside it each turn is `Cut`, and each call
+    /// that wants one. So a turn is `Turned`, and a put `Full`, only with nothing else in flight; and where a turn is
+    /// `Cut` there, others may still make their calls beside it.
     ///
     /// On an index whose ways are short a call that needs no turn makes no more than `most_actions`, whatever it is
-    /// answered, and is cut off only with a budget below that; so is a turn of the updater with one below `turn_actions`,
-    /// where no other turn is in flight.
+    /// answered, and is cut off only with a budget below that; so is a turn of the updater with one below
+    /// `turn_actions`, where no other turn is in flight.
     pub fn run_within<L: Ledger>(
         &mut self,
         caller: u64,
@@ -171,8 +174,8 @@ impl Core {
     }
 
     /// A whole turn of the updater, as `turn_alone` makes it, within a budget. It begins with the updater lock, and as
-    /// long as another party has that, it is begun again and again, each time by one event. So it is answered only where
-    /// no other turn is in flight; and where it is cut off there with an event made, it has the lock itself.
+    /// long as another party has that, it is begun again and again, each time by one event. So it is answered only
+    /// where no other turn is in flight; and where it is cut off there with an event made, it has the lock itself.
     pub fn turn_within<L: Ledger>(
         &mut self,
         party: u64,
