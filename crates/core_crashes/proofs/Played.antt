@@ -1,5 +1,5 @@
 -- A round of one caller that stopped, its crash, and the index that is opened behind it.
-use Rattle.std.proofs.Common.{◌≡◌, ℕ, suc, ◌+◌, ◌<◌, ◌≤◌, ◌^◌, List, [], ◌∷◌, true, false, length, get_or, map, All, refl, sym, ap, subst, ◌∙◌, arith}
+use Rattle.std.proofs.Common.{◌≡◌, ℕ, suc, ◌+◌, ◌<◌, ◌≤◌, ◌^◌, List, [], ◌∷◌, true, false, length, get_or, map, take, All, refl, sym, ap, subst, ◌∙◌, arith}
 use Rattle.std.proofs.lemmas.Option.{slice_get-get_or}
 use Rattle.std.specs.Prelude.{Some, slice_get}
 use Rattle.std.specs.FinMap.{len}
@@ -26,7 +26,7 @@ use Rattle.shapes.specs.Runs.{IsFullInTime, opening}
 use Rattle.shapes.specs.ShapeRounds.{FullIsPaid, IsBoundedByShape, IsShapeWithin, RoundInShape, puts_added}
 use Rattle.shapes.proofs.PaidRounds.{timely_rounds_are_paid}
 use Rattle.shapes.proofs.RoundLemmas.{stops_within}
-use Rattle.stopped_rounds.specs.InTime.{AreInTime, AreOnNames, HasNoTurns}
+use Rattle.stopped_rounds.specs.InTime.{AreInTime, AreOnNames, HasNoTurns, HasTimelyTurns}
 use Rattle.stopped_rounds.specs.Replies.{SettlesToReport}
 use Rattle.stopped_rounds.specs.Stops.{HasStopped}
 use Rattle.stopped_rounds.specs.declared.crash_round.StoppedRound.{StoppedRound}
@@ -36,6 +36,7 @@ use Rattle.turn_row.proofs.RowColumns.{column-same}
 use Rattle.lone_turn.specs.LoneTurns.{stamp_in}
 use Rattle.index_law.specs.Anchors.{anchors_in}
 use Rattle.index_law.specs.Weights.{weight_sum}
+use Rattle.index_core.specs.Costs.{turn_actions}
 use Rattle.index_core.specs.CrashLaws.{chosen_index, crash_image}
 use Rattle.index_core.specs.Crashes.{cut_changes}
 use Rattle.index_core.specs.Fulls.{HasLowStamps}
@@ -47,8 +48,9 @@ use Rattle.index_core.proofs.MachineLaw.{idle_weigh}
 use Rattle.index_core.proofs.Rounds.{round_is}
 use Rattle.core_rounds.specs.CoreMaps.{IsCoreMap}
 use Rattle.core_rounds.specs.Rounds.{IsLoneCrash}
+use Rattle.core_rounds.specs.Waiting.{puts_among}
 use Rattle.core_rounds.proofs.CoreMaps.{core_light, core_shape, opened_is_map}
-use Rattle.core_crashes.specs.CrashMaps.{MakeNoTurns, Stoppable, anchors_by, members_by, members_of, most_events, state_of, weighs_of}
+use Rattle.core_crashes.specs.CrashMaps.{MakeNoTurns, Stoppable, anchors_by, members_by, members_of, most_between, most_events, state_of, weighs_of}
 use Rattle.core_crashes.specs.Power.{IsBehindCrash}
 use Rattle.core_crashes.specs.Rounds.{IsPlayedLoneCrash}
 use Rattle.core_crashes.specs.Stops.{StopsOn}
@@ -116,13 +118,14 @@ has_budget caller callers budgets read within sizes same =
 
 -- ---- the round as far as it came
 
-pub stopped_on : (first : Anchors) (core new : Index) (m m' : Stoppable) (plan : RoundPlan) (budget : ℕ) (round : StoppedRound) → m ≡ record { index = core; stopped = false; placed = false } → new ≡ m'.index →
+pub stopped_on : (first : Anchors) (core new : Index) (m m' : Stoppable) (plan : RoundPlan) (budget updater_budget : ℕ) (round : StoppedRound) → m ≡ record { index = core; stopped = false; turning = false; placed = false } → new ≡ m'.index →
     core.history ≡ [] → first ≡ anchors_in (world core) → IsIndex new → new.layout ≡ core.layout → new.generation ≡ core.generation →
     HasStopped m.index.layout.slots m.index.layout.nodes plan.limit budget (state_of first m) plan.ops round.records (state_of first m') → round.writes ≡ length (writes_of round.records) →
     All SettlesToReport round.records → weighs_of m' ≤ weighs_of m + puts_added round.records → (MakeNoTurns core plan.ops → AreOnNames plan.ops → HasNoTurns plan → AreInTime most_events budget round.records) →
-    StopsOn core plan budget round new
-stopped_on first core new m m' plan budget round is left begins anchors index layout generation stopped placed told weighs in_time =
-    let begin : Stoppable = record { index = core; stopped = false; placed = false } in
+    (MakeNoTurns core (take plan.updater plan.ops) → length (anchors_in (world core)) + puts_among plan.ops < core.layout.nodes → AreOnNames plan.ops → HasTimelyTurns most_between (turn_actions core.layout) plan updater_budget → AreInTime most_events budget round.records) →
+    StopsOn core plan budget updater_budget round new
+stopped_on first core new m m' plan budget updater_budget round is left begins anchors index layout generation stopped placed told weighs in_time with_turns =
+    let begin : Stoppable = record { index = core; stopped = false; turning = false; placed = false } in
     let members : members_by first core ≡ anchors_in (world core) = ap (anchors_by core.layout.slots (map_of core.base) first) begins ∙ anchors in
     let here : HasStopped core.layout.slots core.layout.nodes plan.limit budget (state_of first begin) plan.ops round.records (state_of first m') =
     subst (λ (b : Stoppable). HasStopped b.index.layout.slots b.index.layout.nodes plan.limit budget (state_of first b) plan.ops round.records (state_of first m')) is stopped in
@@ -138,6 +141,7 @@ stopped_on first core new m m' plan budget round is left begins anchors index la
           let after = ap (λ (n : Index). weight_sum (world n)) left in
           omega (arith, weighs, before, after);
       in_time = in_time;
+      in_time_with_turns = with_turns;
       index = index;
       layout = layout;
       generation = generation;
@@ -146,8 +150,8 @@ stopped_on first core new m m' plan budget round is left begins anchors index la
 -- ---- the round that was played
 
 module _ (core mid stopped next : Index) (plan : RoundPlan) (crash : CrashPlan) (caller budget : ℕ) (round : StoppedRound) (index : IsIndex core) (quiet : IsQuiet core) (stamps : HasLowStamps core)
-    (begun : IsBegun core mid) (still : IsQuiet mid) (stops : StopsOn mid plan budget round stopped) (behind : IsBehindCrash crash.seed stopped next)
-    (lone : All (λ (a : CallerOp). a.caller ≡ caller) plan.ops) (has : slice_get crash.budgets caller ≡ Some budget) (turnless : MakeNoTurns core plan.ops → MakeNoTurns mid plan.ops) where
+    (begun : IsBegun core mid) (still : IsQuiet mid) (stops : StopsOn mid plan budget crash.updater_budget round stopped) (behind : IsBehindCrash crash.seed stopped next)
+    (lone : All (λ (a : CallerOp). a.caller ≡ caller) plan.ops) (has : slice_get crash.budgets caller ≡ Some budget) (turnless : (asked : List CallerOp) → MakeNoTurns core asked → MakeNoTurns mid asked) where
   abbrev base : Map
   base = map_of_index core
 
@@ -264,7 +268,14 @@ module _ (core mid stopped next : Index) (plan : RoundPlan) (crash : CrashPlan) 
         within = subst (λ (n : ℕ). IsShapeWithin slots nodes (weight_of core + n) (len base + n) end (anchors_in (world next))) (sym same) within;
         weighs = omega (arith, light, same);
         in_time = λ of given own gives none named still. in_time-settled end most_events given round.records
-            (in_time-of caller of budget given plan.ops crash.budgets most_events round.records lone own h.in_script_order has gives (stops.in_time (turnless none) named still));
+            (in_time-of caller of budget given plan.ops crash.budgets most_events round.records lone own h.in_script_order has gives (stops.in_time (turnless plan.ops none) named still));
+        in_time_with_turns = λ of given own gives none room named timely.
+            let nodes = ap (λ (l : Layout). l.nodes) begun.layout in
+            let members = ap length begun.anchors in
+            let each = subst (λ (l : Layout). HasTimelyTurns most_between (turn_actions l) plan crash.updater_budget) (sym begun.layout) timely in
+            in_time-settled end most_events given round.records
+            (in_time-of caller of budget given plan.ops crash.budgets most_events round.records lone own h.in_script_order has gives
+            (stops.in_time_with_turns (turnless (take plan.updater plan.ops) none) (omega (arith, nodes, members, room)) named each));
         layout = layout_is;
         generation = behind.generation ∙ ap suc (stops.generation ∙ begun.generation);
         image = image;

@@ -1,14 +1,15 @@
 -- Calls that make no turns of the updater: how many events each takes of its budget, and what it leaves to those behind it.
-use Rattle.std.proofs.Common.{◌≡◌, ℕ, ◌+◌, ◌*◌, ◌<◌, ◌≤◌, ◌==◌, ◌⊎◌, ⊎_elim, Bool, true, false, List, [], ◌∷◌, length, map, All, refl, sym, ap, subst, ◌∙◌, arith}
-use Rattle.std.proofs.lemmas.List.Sums.{sum_by-cons}
+use Rattle.std.proofs.Common.{◌≡◌, ◌≢◌, ℕ, zero, suc, ◌+◌, ◌*◌, ◌/◌, ◌<◌, ◌≤◌, ◌==◌, ◌⊎◌, ⊎_elim, Bool, true, false, cond, List, [], ◌∷◌, ◌++◌, drop, take, length, map, All, refl, sym, ap, subst, ◌∙◌, arith}
+use Rattle.std.proofs.lemmas.List.Sums.{sum_by-cons, sum_by-take-drop}
 use Rattle.std.proofs.lemmas.Option.{slice_get-map, slice_get_within}
-use Rattle.std.specs.Prelude.{Option, Some, None, option_map, slice_get}
+use Rattle.std.specs.Prelude.{Option, Some, None, Result, Ok, Err, option_map, slice_get}
 use Rattle.cat_history.specs.Maps.{Map}
-use Rattle.cat_history.specs.Records.{as_op, call_of, numbered}
+use Rattle.cat_history.specs.Records.{as_op, call_of, change_of, numbered}
 use Rattle.cat_history.specs.Rounds.{IsAnswered}
 use Rattle.cat_history.specs.CrashRounds.{all_settled, settled, settled_reply}
 use Rattle.cat_history.specs.declared.op.CallerOp.{CallerOp}
 use Rattle.cat_history.specs.declared.op.Op.{Op}
+use Rattle.cat_history.specs.declared.op.Op.TheVariants.{Put, Get, Del, Scan}
 use Rattle.cat_history.specs.declared.record.Record.{Record}
 use Rattle.cat_history.specs.declared.record.Reply.{Reply}
 use Rattle.cat_history.specs.declared.record.Reply.TheVariants.{Old, Parts, Full, Spent, Cut, Unstarted}
@@ -28,20 +29,38 @@ use Rattle.updater.specs.Events.{how_many}
 use Rattle.index_core.specs.CoreCalls.{most_writes, op_of}
 use Rattle.index_core.specs.Costs.{WithMost, most_actions}
 use Rattle.index_core.specs.Indexes.{Index, IsIndex, map_of_index, world}
-use Rattle.index_core.specs.Lone.{HasShortWays, IsQuiet, NeedsNoTurn, RunsAlone, taken_nodes, whole_of}
+use Rattle.index_core.specs.Lone.{HasShortWays, IsQuiet, IsStill, NeedsNoTurn, RunsAlone, locks_left, taken_nodes, whole_of}
 use Rattle.index_core.specs.Rounds.{BeginsRound, round_index}
 use Rattle.index_core.specs.Withins.{ComesInTime}
 use Rattle.index_core.specs.declared.party.CoreCall.{CoreCall}
 use Rattle.index_core.specs.declared.party.CoreCall.TheVariants as call
 use Rattle.index_core.proofs.Costs.{actions_are_few}
-use Rattle.index_core.proofs.Taken.{taken_kept}
-use Rattle.shapes.specs.Anchors.{merges, splits}
-use Rattle.index_law.specs.Anchors.{anchors_in}
-use Rattle.stopped_rounds.specs.InTime.{AreInTime, AreOnNames, HasNoTurns}
+use Rattle.index_core.proofs.Taken.{del_length, put_length, taken_kept}
+use Rattle.call_stages.specs.Kinds.{gone_status}
+use Rattle.version_lock.specs.Versions.{IsWorn}
+use Rattle.shapes.specs.Anchors.{Anchors, del_anchors, merges, middle_of, past, put_anchors, splits, up_to}
+use Rattle.shapes.specs.declared.map.Full.{Full as NoRoom}
+use Rattle.index_law.specs.Anchors.{anchors_in, anchors_of, gone_nodes}
+use Rattle.index_law.specs.Facts.{Facts}
+use Rattle.index_law.specs.Worlds.{facts}
+use Rattle.lone_law.specs.Locks.{fewest_locks}
+use Rattle.lone_law.proofs.Locks.{worn_has_none}
+use Rattle.lone_turn.specs.CallLogs.{is_own_empty}
+use Rattle.lone_turn.specs.LoneTurns.{is_ready, stamp_in}
+use Rattle.lone_turn.proofs.Ending.{gone_are_held_back}
+use Rattle.updater.specs.declared.terms.Turned.{Turned}
+use Rattle.index_core.specs.Fulls.{HasLowStamps}
+use Rattle.index_core.specs.Indexes.{layered}
+use Rattle.index_core.specs.Turns.{TurnsAlone}
+use Rattle.index_core.proofs.Retrying.{turned_short}
+use Rattle.stopped_rounds.specs.Bounded.{MapState}
+use Rattle.stopped_rounds.specs.InTime.{AreInTime}
 use Rattle.core_rounds.specs.CoreMaps.{IsUnlimited, Waits, calls_left_of, changes_for, puts_for}
 use Rattle.core_rounds.specs.Waiting.{one_if, one_put, one_write, puts_among, writes_among}
+use Rattle.core_rounds.proofs.CoreMaps.{all_many, locks_remain, none_many}
 use Rattle.core_rounds.proofs.Waiting.{needs_none, waits_full, waits_placed}
-use Rattle.core_crashes.specs.CrashMaps.{IsTurnless, MakeNoTurns, Stoppable, most_events}
+use Rattle.std.proofs.lemmas.Bool.{eq-eqb, ne_eqb}
+use Rattle.core_crashes.specs.CrashMaps.{FindRoom, Gave, MakeNoTurns, Stoppable, anchors_left, calls_of, members_of, most_events}
 
 -- ---- the calls, counted
 
@@ -99,7 +118,7 @@ few_events s (call.Part low count) is unlimited few = absurd unlimited
 few_events s (call.Recheck node version) is unlimited few = absurd unlimited
 few_events s (call.Turn stamp release) is unlimited few = absurd unlimited
 
-module _ (s : Index) (caller : ℕ) (c : CoreCall) (a : CallerOp) (rest : List CallerOp) (here : caller < s.layout.callers) (is : IsIndex s) (quiet : IsQuiet s) (left : 0 < calls_left_of s)
+module _ (s : Index) (caller : ℕ) (c : CoreCall) (a : CallerOp) (rest : List CallerOp) (here : caller < s.layout.callers) (is : IsIndex s) (still : IsStill caller s) (left : 0 < calls_left_of s)
     (unlimited : IsUnlimited c) (same : a.op ≡ as_op (op_of c)) (m : MakeNoTurns s (a ∷ rest)) where
   writes : writes_among (a ∷ rest) ≡ writes_among rest + most_writes c
   writes = let more = writes_more a rest in let one = (one_so c a.op unlimited same).0 in omega (arith, more, one)
@@ -111,7 +130,7 @@ module _ (s : Index) (caller : ℕ) (c : CoreCall) (a : CallerOp) (rest : List C
   waits = subst (λ (q : ℕ × ℕ). Waits s m.changes q.0 q.1) (λ k. (writes k, puts k)) m.waits
 
   needs : NeedsNoTurn caller c s
-  needs = needs_none caller s c m.changes (writes_among rest) (puts_among rest) here is quiet left waits
+  needs = needs_none caller s c m.changes (writes_among rest) (puts_among rest) here is still.calls left waits
 
   few : most_actions s.layout c (ready_lines (world s)) ≤ 70000
   few = let ready = m.waits.ready in let small = m.few in few_events s c is unlimited (omega (arith, ready, small))
@@ -137,7 +156,7 @@ module _ (s : Index) (caller : ℕ) (c : CoreCall) (a : CallerOp) (rest : List C
           short = short_then;
           changes = m.changes + changes_for s c;
           few = omega (arith, more, small, all);
-          waits = waits_placed caller s new c (whole_of answer) placed here is quiet left (ap whole_of done) ran m.changes (writes_among rest) (puts_among rest) waits;
+          waits = waits_placed caller s new c (whole_of answer) placed here is still.calls left (ap whole_of done) ran m.changes (writes_among rest) (puts_among rest) waits;
         }
 
     full_then : (why : Again) → answer ≡ once.Again why → MakeNoTurns new rest
@@ -148,7 +167,7 @@ module _ (s : Index) (caller : ℕ) (c : CoreCall) (a : CallerOp) (rest : List C
           short = short_then;
           changes = m.changes;
           few = omega (arith, small, all);
-          waits = waits_full caller s new c (whole_of answer) here is quiet left (ap whole_of full) ran m.changes (writes_among rest) (puts_among rest) waits;
+          waits = waits_full caller s new c (whole_of answer) here is still.calls left (ap whole_of full) ran m.changes (writes_among rest) (puts_among rest) waits;
         }
 
     pub answered_in_time : (budget left' before after : ℕ) → WithMost s caller c (ComesInTime (Some answer) budget before after) → after + left' ≡ before + budget
@@ -160,6 +179,122 @@ module _ (s : Index) (caller : ℕ) (c : CoreCall) (a : CallerOp) (rest : List C
           (λ (full : (why : Again) × (answer ≡ once.Again why)). full_then full.0 full.1)
           ends,
     )
+
+-- ---- room for calls
+
+anchors_few : (slots : ℕ) (s : MapState) (c : CoreCall) → IsUnlimited c → length (anchors_left slots s (change_of (op_of c))) ≤ length s.anchors + puts_for c
+anchors_few slots s (call.Put name value limit) unlimited = at (splits slots s.contents s.anchors name) refl
+  where
+    at : (b : Bool) → splits slots s.contents s.anchors name ≡ b → length (put_anchors slots s.contents s.anchors name) ≤ length s.anchors + 1
+    at true is = let more = put_length slots s.contents s.anchors name is in omega (arith, more)
+    at false is =
+        let same : put_anchors slots s.contents s.anchors name ≡ s.anchors = ap (λ (b : Bool). cond b (up_to s.anchors name ++ middle_of slots s.contents s.anchors name ∷ past s.anchors name) s.anchors) is in
+        let size = ap length same in
+        omega (arith, size)
+anchors_few slots s (call.Get name) unlimited = omega arith
+anchors_few slots s (call.Del name limit) unlimited = at (merges slots s.contents s.anchors name) refl
+  where
+    at : (b : Bool) → merges slots s.contents s.anchors name ≡ b → length (del_anchors slots s.contents s.anchors name) ≤ length s.anchors + 0
+    at true is = let less = del_length slots s.contents s.anchors name is in omega (arith, less)
+    at false is =
+        let same : del_anchors slots s.contents s.anchors name ≡ s.anchors = ap (λ (b : Bool). cond b (up_to s.anchors name ++ drop 1 (past s.anchors name)) s.anchors) is in
+        let size = ap length same in
+        omega (arith, size)
+anchors_few slots s (call.Part low count) unlimited = absurd unlimited
+anchors_few slots s (call.Recheck node version) unlimited = absurd unlimited
+anchors_few slots s (call.Turn stamp release) unlimited = absurd unlimited
+
+pub members_after : (slots most : ℕ) (s : MapState) (c : CoreCall) (answer : Result (Option ℕ) NoRoom) (new : MapState) → IsUnlimited c → Gave slots most s c answer new → length new.anchors ≤ length s.anchors + puts_for c
+members_after slots most s c (Ok old) new unlimited (none, told, contents, anchors, cut) = let same = ap length anchors in let few = anchors_few slots s c unlimited in omega (arith, same, few)
+members_after slots most s c (Err full) new unlimited (is, kept) = let same = ap length kept.1 in omega (arith, same)
+
+pub room_then : (first : Anchors) (m new : Stoppable) (c : CoreCall) (a : CallerOp) (more : List CallerOp) → IsUnlimited c → a.op ≡ as_op (op_of c) → FindRoom first m (a ∷ more) → new.index.layout ≡ m.index.layout → calls_of m ≤ calls_of new + 1
+    → length (members_of first new) ≤ length (members_of first m) + puts_for c → new.turning ≡ m.turning → FindRoom first new more
+room_then first m new c a more unlimited same room layout calls members turns =
+    let nodes : new.index.layout.nodes ≡ m.index.layout.nodes = ap (λ (l : Layout). l.nodes) layout in
+    let puts = puts_more a more in
+    let one = (one_so c a.op unlimited same).1 in
+    let has = room.nodes in
+    let left = room.calls in
+    record { turns = turns ∙ room.turns; nodes = omega (arith, nodes, puts, one, has, members); calls = omega (arith, left, calls) }
+
+pub fewer_room : (first : Anchors) (m : Stoppable) (a : CallerOp) (more : List CallerOp) → FindRoom first m (a ∷ more) → FindRoom first m more
+fewer_room first m a more room =
+    let puts = puts_more a more in
+    let has = room.nodes in
+    let left = room.calls in
+    record { turns = room.turns; nodes = omega (arith, puts, has); calls = omega (arith, left) }
+
+pub room_stays : (first : Anchors) (m new : Stoppable) (more : List CallerOp) → FindRoom first m more → new.index.layout ≡ m.index.layout → members_of first new ≡ members_of first m → calls_of m ≤ calls_of new → new.turning ≡ m.turning → FindRoom first new more
+room_stays first m new more room layout members calls turns =
+    let nodes : new.index.layout.nodes ≡ m.index.layout.nodes = ap (λ (l : Layout). l.nodes) layout in
+    let size = ap length members in
+    let has = room.nodes in
+    let left = room.calls in
+    record { turns = turns ∙ room.turns; nodes = omega (arith, nodes, size, has); calls = omega (arith, left, calls) }
+
+-- ---- a turn of the updater
+
+pub turned_calls : (s new : Index) (answer : Turned) → TurnsAlone s 1 1 answer new → calls_left_of new ≡ calls_left_of s
+turned_calls s new answer t =
+    let locks : locks_left new ≡ locks_left s = λ k. fewest_locks (t.is k).generation (t.lone.kept.facts k).version (t.is k).layout.nodes in
+    ap (λ (n : ℕ). n / 4) locks
+
+writes_few : (asked : List CallerOp) → writes_among asked ≤ length asked
+writes_few [] = omega arith
+writes_few (a ∷ rest) = let more = writes_more a rest in let few = writes_few rest in let one = one_write_few a.op in omega (arith, more, few, one)
+  where
+    one_write_few : (op : Op) → one_write op ≤ 1
+    one_write_few (Put name value) = omega arith
+    one_write_few (Get name) = omega arith
+    one_write_few (Del name) = omega arith
+    one_write_few (Scan from count) = omega arith
+
+take_few : (calls : ℕ) (asked : List CallerOp) → length (take calls asked) ≤ calls
+take_few zero asked = omega arith
+take_few (suc calls) [] = omega arith
+take_few (suc calls) (a ∷ rest) = let few = take_few calls rest in omega (arith, few)
+
+none_gone : (f : Facts) (n : ℕ) → ((k : ℕ) → k < n → f.status k ≢ gone_status) → gone_nodes n f ≡ 0
+none_gone f zero none = refl
+none_gone f (suc n) none =
+    let before = none_gone f n (λ k small. none k (omega (arith, small))) in
+    let here : (f.status n == gone_status) ≡ false = ne_eqb (f.status n) gone_status (none n (omega arith)) in
+    let one = ap {B = ℕ} (λ (b : Bool). cond b 1 0) here in
+    omega (arith, before, one)
+
+-- behind it the next calls make none, as many as there are lines, if there is room
+pub turned_turnless : (s new : Index) (answer : Turned) (calls : ℕ) (more : List CallerOp) → TurnsAlone s 1 1 answer new → IsIndex new → IsQuiet new → HasLowStamps new → 0 < calls_left_of new → length (anchors_in (world s)) + puts_among more < s.layout.nodes → calls ≤ 8
+    → MakeNoTurns new (take calls more)
+turned_turnless s new answer calls more t is quiet low left room few =
+    let writes = writes_few (take calls more) in
+    let size = take_few calls more in
+    record {
+      short = turned_short s new 1 1 answer t is quiet;
+      changes = 0;
+      few = omega (arith, writes, size, few);
+      waits = record {
+        ready = none_many (is_ready (world new)) (line_count new.layout) (λ k small. ap (λ (state : ℕ). state == ready_state) (t.lone.empty k));
+        lines = λ caller here.
+            (let all = all_many (is_own_empty caller (world new)) 8 (λ k small. eq-eqb (line_state (world new) (8 * caller + k)) empty_state (t.lone.empty (8 * caller + k))) in
+            omega (arith, all, writes, size, few));
+        nodes =
+            let same : new.layout.nodes ≡ s.layout.nodes = ap (λ (v : Index). v.layout.nodes) t.is in
+            let members : length (anchors_in (world new)) ≡ length (anchors_in (world s)) = λ k. length (anchors_of (t.lone.kept.facts k).list) in
+            let none : gone_nodes new.layout.nodes (facts (world new)) ≡ 0 = none_gone (facts (world new)) new.layout.nodes (λ n here gone. held n here gone) in
+            let puts = sum_by-take-drop (λ (a : CallerOp). one_put a.op) more calls in
+            omega (arith, same, members, none, puts, room);
+      };
+    }
+  where
+    held : (n : ℕ) → n < new.layout.nodes → (facts (world new)).status n ≡ gone_status → ⊥
+    held n here gone = ⊎_elim
+        (λ (worn : IsWorn ((facts (world new)).version n) new.generation).
+        let none = worn_has_none new.generation (facts (world new)).version n new.layout.nodes here worn in
+        let some = locks_remain new left in
+        omega (arith, none, some))
+        (λ (high : 1 < stamp_in (world new) n). let small = low n here in omega (arith, high, small))
+        (gone_are_held_back (layered s) 1 1 answer (layered new) n t.lone (subst (λ (l : Layout). n < l.nodes) (ap (λ (v : Index). v.layout) t.is) here) gone)
 
 -- ---- a round begins
 

@@ -1,6 +1,7 @@
--- The index, called by one caller within budgets of events, up to a call or a turn that is cut off, as a map of names.
-use Rattle.std.specs.Prelude.{◌≡◌, ℕ, ◌+◌, ◌≤◌, ◌^◌, Bool, false, if◌then◌else◌, List}
-use Rattle.std.specs.Prelude.{[], ◌∷◌, Option, Some, None, Result, Ok, Err, MatchResult}
+-- The index, called by one caller within budgets of events, up to a call that is cut off, as a map of names. A turn of
+-- the updater may be cut off before.
+use Rattle.std.specs.Prelude.{◌≡◌, ℕ, ◌+◌, ◌<◌, ◌≤◌, ◌^◌, Bool, true, false, if◌then◌else◌, List}
+use Rattle.std.specs.Prelude.{[], ◌∷◌, length, Option, Some, None, Result, Ok, Err, MatchResult}
 use Rattle.version_lock.specs.declared.TheConstants.{LAST_COUNT}
 use Rattle.cat_history.specs.Maps.{Map, map_of, at}
 use Rattle.cat_history.specs.Records.{as_op, change_of}
@@ -22,7 +23,7 @@ use Rattle.index_core.specs.CoreCalls.{op_of}
 use Rattle.index_core.specs.Crashes.{cut_changes}
 use Rattle.index_core.specs.Fulls.{HasLowStamps}
 use Rattle.index_core.specs.Indexes.{Index, IsIndex, map_of_index, world}
-use Rattle.index_core.specs.Lone.{HasShortWays, IsQuiet}
+use Rattle.index_core.specs.Lone.{HasShortWays, IsQuiet, IsStill}
 use Rattle.index_core.specs.Weights.{added_if, put_count}
 use Rattle.index_law.specs.Weights.{weight_sum}
 use Rattle.core_rounds.specs.CoreMaps.{Waits, calls_left_of, writes_left_of}
@@ -45,11 +46,12 @@ anchors_by slots m anchors (w ∷ ws) =
 abbrev pub members_by : Anchors → Index → Anchors
 members_by first s = anchors_by s.layout.slots (map_of s.base) first s.history
 
--- The index, whether a call or a turn of the updater was cut off, and is in flight, and whether that is a call which has
+-- The index, whether a call was cut off, and is in flight; whether a turn of the updater was; and whether the call has
 -- its place. Where it has, the members begin where the listed nodes do.
 pub record Stoppable : Type 0 where
   pub index : Index
   pub stopped : Bool
+  pub turning : Bool
   pub placed : Bool
 
 abbrev pub members_of : Anchors → Stoppable → Anchors
@@ -63,8 +65,8 @@ state_of first m = record {
   cut = cut_changes m.index.states;
 }
 
--- How many more calls it can have, and how many of them can be puts and deletes. Where one was cut off the next ones are
--- cut off at once.
+-- How many more calls it can have, and how many of them can be puts and deletes. Behind a call that was cut off the
+-- next ones are cut off at once.
 abbrev pub calls_of : Stoppable → ℕ
 calls_of m = if m.stopped then LAST_COUNT else calls_left_of m.index
 
@@ -88,21 +90,40 @@ pub record MakeNoTurns (s : Index) (asked : List CallerOp) : Type 0 where
 abbrev pub most_events : ℕ
 most_events = 70000
 
--- So it is where none was cut off.
+-- So it is where no call was cut off. A turn of the updater may have been.
 pub record IsTurnless (m : Stoppable) (asked : List CallerOp) : Type 0 where
   pub going : m.stopped ≡ false
   pub turnless : MakeNoTurns m.index asked
 
--- Nothing is in flight, no node has a stamp that turns don't release, and the members begin where the writes say.
-pub record IsStill (first : Anchors) (s : Index) : Type 0 where
-  pub quiet : IsQuiet s
-  pub stamps : HasLowStamps s
+-- There is room for these calls, made one after another with turns of the updater between: no turn was cut off, there
+-- are as many more nodes as there are puts among them, and as many calls are left.
+pub record FindRoom (first : Anchors) (m : Stoppable) (asked : List CallerOp) : Type 0 where
+  pub turns : m.turning ≡ false
+  pub nodes : length (members_of first m) + puts_among asked < m.index.layout.nodes
+  pub calls : length asked ≤ calls_of m
+
+-- Behind a turn of the updater so many calls make no turns, as many as a caller has log lines.
+abbrev pub most_between : ℕ
+most_between = 8
+
+-- No call is in flight, and for each caller no turn but one that has stopped under the updater lock. The members begin
+-- where the writes say.
+pub record IsGoing (first : Anchors) (s : Index) : Type 0 where
+  pub still : (caller : ℕ) → caller < s.layout.callers → IsStill caller s
   pub anchors : anchors_in (world s) ≡ members_by first s
 
--- So it is until a call or a turn is cut off. The members are always of a shape that they can have.
+-- A turn can be made: no other one is in flight either, and no node has a stamp that turns don't release.
+pub record CanTurn (s : Index) : Type 0 where
+  pub quiet : IsQuiet s
+  pub stamps : HasLowStamps s
+
+-- The one is so until a call is cut off, and the other until a turn is, which then is in flight. The members are always
+-- of a shape that they can have.
 pub record IsStoppable (first : Anchors) (m : Stoppable) : Type 0 where
   pub index : IsIndex m.index
-  pub still : m.stopped ≡ false → IsStill first m.index
+  pub going : m.stopped ≡ false → IsGoing first m.index
+  pub can_turn : m.stopped ≡ false → m.turning ≡ false → CanTurn m.index
+  pub turns : m.stopped ≡ false → m.turning ≡ true → IsQuiet m.index → ⊥
   pub unplaced : m.stopped ≡ false → m.placed ≡ false
   pub shape : IsShape m.index.layout.slots m.index.layout.nodes (map_of_index m.index) (members_of first m)
 

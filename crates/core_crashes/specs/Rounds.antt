@@ -1,5 +1,5 @@
 -- A round of one caller that a crash ended, and the core that its image opens as.
-use Rattle.std.specs.Prelude.{◌≡◌, ℕ, suc, ◌+◌, ◌≤◌, All, Some, slice_get}
+use Rattle.std.specs.Prelude.{◌≡◌, ℕ, suc, ◌+◌, ◌<◌, ◌≤◌, All, Some, length, slice_get, take}
 use Rattle.std.specs.FinMap.{len}
 use Rattle.cat_history.specs.LoneRounds.{writes_of}
 use Rattle.cat_history.specs.Writes.{after_all}
@@ -10,13 +10,15 @@ use Rattle.cat_text.specs.declared.report.RoundReport.{RoundReport}
 use Rattle.pm_words.specs.Images.{Row}
 use Rattle.shapes.specs.ShapeRounds.{puts_added, FullIsPaid, IsShapeWithin}
 use Rattle.index_law.specs.Anchors.{anchors_in}
+use Rattle.index_core.specs.Costs.{turn_actions}
 use Rattle.index_core.specs.CrashLaws.{chosen_index, crash_image}
 use Rattle.index_core.specs.Indexes.{Index, map_of_index, world}
 use Rattle.index_core.specs.Weights.{weight_of}
 use Rattle.recovery.specs.Opened.{IsOpenedFrom}
-use Rattle.stopped_rounds.specs.InTime.{AreInTime, AreOnNames, HasNoTurns}
+use Rattle.stopped_rounds.specs.InTime.{AreInTime, AreOnNames, HasNoTurns, HasTimelyTurns}
 use Rattle.core_rounds.specs.Rounds.{IsCrashedRound, IsLoneCrash}
-use Rattle.core_crashes.specs.CrashMaps.{MakeNoTurns, most_events}
+use Rattle.core_rounds.specs.Waiting.{puts_among}
+use Rattle.core_crashes.specs.CrashMaps.{MakeNoTurns, most_between, most_events}
 
 -- A round of one caller was played on the map of this core up to its crash, and reported; and the image was opened that
 -- the crash left. That has the map which is reported found, and a shape that the weight and the names before the round
@@ -36,6 +38,13 @@ pub record IsPlayedLoneCrash (core : Index) (plan : RoundPlan) (crash : CrashPla
   -- it, its caller's budget has 70,000 events
   pub in_time : (caller budget : ℕ) → All (λ a. a.caller ≡ caller) plan.ops →
       slice_get crash.budgets caller ≡ Some budget → MakeNoTurns core plan.ops → AreOnNames plan.ops → HasNoTurns plan →
+      AreInTime most_events budget report.records
+  -- so it is where the updater makes turns, one behind each eight calls or fewer and each within its budget, so that no
+  -- call makes one: those before the first turn need none, and there are enough nodes for all
+  pub in_time_with_turns : (caller budget : ℕ) → All (λ a. a.caller ≡ caller) plan.ops →
+      slice_get crash.budgets caller ≡ Some budget → MakeNoTurns core (take plan.updater plan.ops) →
+      length (anchors_in (world core)) + puts_among plan.ops < core.layout.nodes → AreOnNames plan.ops →
+      HasTimelyTurns most_between (turn_actions core.layout) plan crash.updater_budget →
       AreInTime most_events budget report.records
   pub layout : next.layout ≡ core.layout
   pub generation : next.generation ≡ suc core.generation

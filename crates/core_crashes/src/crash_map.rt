@@ -9,7 +9,7 @@ ghost use Rattle.shapes.specs.Anchors.{next_of};
 ghost use Rattle.cat_history.specs.declared.op.CallerOp.{CallerOp};
 ghost use Rattle.stopped_rounds.specs.Bounded.{ComesTo, IsInTime, IsSame};
 ghost use Rattle.core_rounds.specs.CoreMaps.{IsOfRun, IsUnlimited};
-ghost use Rattle.core_crashes.specs.CrashMaps.{Gave, IsStill, IsTurnless, WasCutBy, added_within, most_events};
+ghost use Rattle.core_crashes.specs.CrashMaps.{FindRoom, Gave, IsTurnless, WasCutBy, added_within, most_events};
 ghost use Rattle.index_core.specs.Fulls.{HasLowStamps};
 ghost use Rattle.index_core.specs.Lone.{IsQuiet};
 ghost use Rattle.index_law.specs.Anchors.{anchors_in};
@@ -56,15 +56,18 @@ impl CrashRun for Brand {
     ghost anchors = { [] ∷ [] };
 }
 
-/// The index as a map of names whose calls, all of one caller, have a budget. Once a call or a turn of the updater was cut
-/// off, which stays in flight, each call is cut off before its first event.
+/// The index as a map of names whose calls, all of one caller, have a budget. Once a call was cut off, which stays in
+/// flight, each call is cut off before its first event. A turn of the updater that was cut off stays in flight too, and
+/// has the updater lock: no other one is begun, and calls that need one are cut off.
 #[derive(Drop)]
 pub struct CrashMap<L: Ledger, K: CrashRun> {
     core: Core,
     caller: u64,
-    /// Whether a call or a turn was cut off.
+    /// Whether a call was cut off.
     stopped: bool,
-    /// Whether that was a call whose write has its place.
+    /// Whether a turn of the updater was.
+    turning: bool,
+    /// Whether the call that was cut off is a write that has its place.
     placed: bool,
     steps: Steps<L>,
     run: PhantomData<K>,
@@ -77,9 +80,10 @@ impl<L: Ledger, K: CrashRun> Model for CrashMap<L, K> {
 
     ghost Value = { Stoppable };
 
-    ghost view = { λ m. record { index = m.core; stopped = m.stopped; placed = m.placed } };
+    ghost view = { λ m. record { index = m.core; stopped = m.stopped; turning = m.turning; placed = m.placed } };
 
-    ghost invariant = { λ m. IsStoppable K.anchors (record { index = m.core; stopped = m.stopped; placed = m.placed }) ×
+    ghost invariant = { λ m. IsStoppable K.anchors
+        (record { index = m.core; stopped = m.stopped; turning = m.turning; placed = m.placed }) ×
         IsOfRun K.layout K.generation m.core × (m.caller < K.layout.callers) };
 }
 
@@ -95,12 +99,13 @@ impl<L: Ledger, K: CrashRun> CrashMap<L, K> {
         requires run { IsOfRun K.layout K.generation core }
         requires caller { caller < core.layout.callers }
         requires anchors { K.anchors ≡ anchors_in (world core) }
-        ensures { result ≡ record { index = core; stopped = false; placed = false } }
+        ensures { result ≡ record { index = core; stopped = false; turning = false; placed = false } }
     {
         CrashMap {
             core,
             caller,
             stopped: false,
+            turning: false,
             placed: false,
             steps,
             run: PhantomData,
@@ -133,6 +138,9 @@ impl<L: Ledger, K: CrashRun> CrashMap<L, K> {
         ensures weighs { weighs_of self.new ≤ weighs_of self.old + added_within (op_of call) result }
         ensures in_time { (a : CallerOp) (rest : List CallerOp) → a.op ≡ as_op (op_of call) → IsTurnless self.old (a ∷ rest) →
             IsInTime result most_events budget.old budget.new (IsTurnless self.new rest) }
+        ensures room { (a : CallerOp) (rest : List CallerOp) → a.op ≡ as_op (op_of call) →
+            FindRoom K.anchors self.old (a ∷ rest) →
+            ComesTo result (λ _. FindRoom K.anchors self.new rest) (λ _. Unit {0}) }
     {
         if self.stopped {
             *budget = 0;
@@ -150,7 +158,7 @@ impl<L: Ledger, K: CrashRun> CrashMap<L, K> {
         };
         match answer {
             Once::Done(placed) => Bounded::Answered(Ok(placed.old)),
-            // A call that is alone is turned back for want of room only.
+            // A lone call is turned back for want of room only, and that behind a whole turn of its own.
             Once::Again(_) => Bounded::Answered(Err(Full)),
             // There is a lock left, and the clock is below the limit.
             Once::Spent { .. } | Once::Worn { .. } => unreachable!(),
@@ -192,7 +200,9 @@ impl<L: Ledger, K: CrashRun> CrashMap<L, K> {
 }
 
 impl<L: Ledger, K: CrashRun> BoundedMap for CrashMap<L, K> {
-    ghost use Rattle.core_crashes.specs.CrashMaps.{IsTurnless, calls_of, most_events, state_of, weighs_of, writes_of};
+    ghost use Rattle.index_core.specs.Costs.{turn_actions};
+    ghost use Rattle.core_crashes.specs.CrashMaps.{FindRoom, IsTurnless, calls_of, most_between, most_events, state_of};
+    ghost use Rattle.core_crashes.specs.CrashMaps.{weighs_of, writes_of};
 
     ghost state = { state_of K.anchors };
 
@@ -209,6 +219,12 @@ impl<L: Ledger, K: CrashRun> BoundedMap for CrashMap<L, K> {
     ghost turnless = { IsTurnless };
 
     ghost call_events = { most_events };
+
+    ghost has_room = { FindRoom K.anchors };
+
+    ghost calls_between = { most_between };
+
+    ghost turn_events = { turn_actions K.layout };
 
     fn has_shape(&self) {
         // Its fields have what is known of it.
@@ -267,7 +283,7 @@ impl<L: Ledger, K: CrashRun> BoundedMap for CrashMap<L, K> {
     }
 
     fn turn(&mut self, budget: &mut u64) {
-        if self.stopped || *budget == 0 {
+        if self.stopped || self.turning || *budget == 0 {
             return;
         }
         let updater = self.core.layout().callers();
@@ -275,7 +291,7 @@ impl<L: Ledger, K: CrashRun> BoundedMap for CrashMap<L, K> {
             .core
             .turn_within(updater, STAMP, STAMP, budget, &mut self.steps)
         else {
-            self.stopped = true;
+            self.turning = true;
             return;
         };
     }

@@ -126,7 +126,7 @@ fn stop_on_core<L: Ledger, K: CrashRun>(
     requires parts { (blank.parts ≡ L.parts) × (0 < L.parts) }
     requires run { IsOfRun K.layout K.generation core }
     requires anchors { K.anchors ≡ anchors_in (world core) }
-    ensures { IfOk result (λ done. StopsOn core plan.now budget done.round done.core) }
+    ensures { IfOk result (λ done. StopsOn core plan.now budget updater_budget done.round done.core) }
 {
     let (book, share) = blank.open::<L>();
     let steps = Steps::new(book, share);

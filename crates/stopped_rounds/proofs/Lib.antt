@@ -4,4 +4,5 @@ pub mod ScanStops
 pub mod Came
 pub mod Replying
 pub mod Stopping
+pub mod Turns
 pub mod Timing

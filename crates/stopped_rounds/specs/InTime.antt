@@ -1,5 +1,5 @@
 -- Which calls of a round were surely answered within a budget.
-use Rattle.std.specs.Prelude.{◌≡◌, ℕ, ◌+◌, ◌*◌, ◌<◌, ◌≤◌, ◌⊎◌, List, All, length, slice_get, Some}
+use Rattle.std.specs.Prelude.{◌≡◌, ℕ, ◌+◌, ◌*◌, ◌/◌, ◌<◌, ◌≤◌, ◌⊎◌, List, All, length, slice_get, Some}
 use Rattle.cat_history.specs.Rounds.{IsAnswered}
 use Rattle.cat_history.specs.declared.op.CallerOp.{CallerOp}
 use Rattle.cat_history.specs.declared.op.Op.{Op}
@@ -21,6 +21,11 @@ AreOnNames asked = All (λ (a : CallerOp). IsOnName a.op) asked
 -- The updater makes no turn behind a call of the round: none at all, or none before more calls than there are.
 abbrev pub HasNoTurns : RoundPlan → Type 0
 HasNoTurns plan = (plan.updater ≡ 0) ⊎ (length plan.ops < plan.updater)
+
+-- The updater makes a turn behind each so many calls or fewer, and its budget has so many events for each of its turns.
+abbrev pub HasTimelyTurns : ℕ → ℕ → RoundPlan → ℕ → Type 0
+HasTimelyTurns between events plan budget =
+    (0 < plan.updater) × (plan.updater ≤ between) × ((length plan.ops / plan.updater) * events ≤ budget)
 
 -- Each call was answered, by its number from 0, for which, and for each one before it, the budget has so many events.
 abbrev pub AreInTime : ℕ → ℕ → List Record → Type 0

@@ -1,6 +1,6 @@
 //! A map of names whose calls have a budget of events.
 
-ghost use Rattle.std.specs.Prelude.{◌≡◌, ◌+◌, ◌<◌, ◌≤◌, ◌^◌, [], ◌∷◌, ℕ, List, All, IfOk, take, MatchResult};
+ghost use Rattle.std.specs.Prelude.{◌≡◌, ◌+◌, ◌<◌, ◌≤◌, ◌^◌, [], ◌∷◌, ℕ, List, All, IfOk, length, take, MatchResult};
 ghost use Rattle.cat_key.specs.Names.{IsName};
 ghost use Rattle.cat_history.specs.Maps.{at};
 ghost use Rattle.cat_history.specs.Scans.{range};
@@ -57,12 +57,22 @@ pub trait BoundedMap {
     /// So many events a call on a name makes at most that makes no turn of the updater.
     ghost call_events: { ℕ };
 
-    /// Its members are of a shape that they can have, and where calls make no turns, those behind the first of them make
-    /// none without it. It does nothing.
+    /// Whether there is room for these calls, made one after another with turns of the updater between.
+    ghost has_room: { Self → List CallerOp → Type 0 };
+
+    /// So many calls make no turns themselves behind a turn of the updater, where there is room for them.
+    ghost calls_between: { ℕ };
+
+    /// So many events a turn of the updater makes at most.
+    ghost turn_events: { ℕ };
+
+    /// Its members are of a shape that they can have, and what holds of calls holds of those behind the first of them
+    /// without it. It does nothing.
     fn has_shape(&self)
         requires { (state self.now).cut ≡ [] }
         ensures shape { IsShape (slots self.now) (most self.now) (state self.now).contents (state self.now).anchors }
-        ensures fewer { (a : CallerOp) (rest : List CallerOp) → turnless self.now (a ∷ rest) → turnless self.now rest };
+        ensures fewer { (a : CallerOp) (rest : List CallerOp) → turnless self.now (a ∷ rest) → turnless self.now rest }
+        ensures room { (a : CallerOp) (rest : List CallerOp) → has_room self.now (a ∷ rest) → has_room self.now rest };
 
     /// The number of a name.
     fn get(&mut self, name: &Name, budget: &mut u64) -> Bounded<Option<u64>>
@@ -75,6 +85,8 @@ pub trait BoundedMap {
         ensures in_time { (a : CallerOp) (rest : List CallerOp) → a.op ≡ Op.Get name.now →
             turnless self.old (a ∷ rest) →
             IsInTime result call_events budget.old budget.new (turnless self.new rest) }
+        ensures room { (a : CallerOp) (rest : List CallerOp) → a.op ≡ Op.Get name.now →
+            has_room self.old (a ∷ rest) → ComesTo result (λ _. has_room self.new rest) (λ _. Unit {0}) }
         ensures slots { slots self.new ≡ slots self.old }
         ensures most { most self.new ≡ most self.old }
         ensures calls_left { calls_left self.old ≤ calls_left self.new + 1 }
@@ -124,6 +136,8 @@ pub trait BoundedMap {
         ensures in_time { (a : CallerOp) (rest : List CallerOp) → a.op ≡ Op.Put name.now value →
             turnless self.old (a ∷ rest) →
             IsInTime result call_events budget.old budget.new (turnless self.new rest) }
+        ensures room { (a : CallerOp) (rest : List CallerOp) → a.op ≡ Op.Put name.now value →
+            has_room self.old (a ∷ rest) → ComesTo result (λ _. has_room self.new rest) (λ _. Unit {0}) }
         ensures slots { slots self.new ≡ slots self.old }
         ensures most { most self.new ≡ most self.old }
         ensures calls_left { calls_left self.old ≤ calls_left self.new + 1 }
@@ -143,6 +157,8 @@ pub trait BoundedMap {
         ensures in_time { (a : CallerOp) (rest : List CallerOp) → a.op ≡ Op.Del name.now →
             turnless self.old (a ∷ rest) →
             IsInTime result call_events budget.old budget.new (turnless self.new rest) }
+        ensures room { (a : CallerOp) (rest : List CallerOp) → a.op ≡ Op.Del name.now →
+            has_room self.old (a ∷ rest) → ComesTo result (λ _. has_room self.new rest) (λ _. Unit {0}) }
         ensures slots { slots self.new ≡ slots self.old }
         ensures most { most self.new ≡ most self.old }
         ensures calls_left { calls_left self.old ≤ calls_left self.new + 1 }
@@ -150,8 +166,12 @@ pub trait BoundedMap {
         ensures weighs { weighs self.new ≤ weighs self.old };
 
     /// A turn of the updater within its own budget. It may be cut off, and changes nothing but how the map is kept.
+    /// Where the budget is enough it isn't, and the next calls make no turns themselves.
     fn turn(&mut self, budget: &mut u64)
         requires uncut { (state self.old).cut ≡ [] }
+        ensures in_time { (calls : ℕ) (more : List CallerOp) → calls ≤ calls_between → 0 < length more →
+            turnless self.old [] → has_room self.old more → turn_events ≤ budget.old →
+            (budget.old ≤ budget.new + turn_events) × turnless self.new (take calls more) × has_room self.new more }
         ensures same { IsSame (state self.old) (state self.new) }
         ensures slots { slots self.new ≡ slots self.old }
         ensures most { most self.new ≡ most self.old }

@@ -1,8 +1,9 @@
 //! Running a round in which one caller alone has calls, within a budget.
 
-ghost use Rattle.std.specs.Prelude.{◌≡◌, ℕ, ◌+◌, ◌*◌, ◌<◌, ◌≤◌, ◌^◌, ◌↔◌, ◌⊎◌, List, [], ◌∷◌, if◌then◌else◌, is_some, length};
-ghost use Rattle.std.specs.Prelude.{All, IfOk, IfSome, IsTrue, MatchResult, None, true};
+ghost use Rattle.std.specs.Prelude.{◌≡◌, ◌≢◌, ℕ, ◌+◌, ◌*◌, ◌%◌, ◌<◌, ◌≤◌, ◌^◌, ◌↔◌, ◌⊎◌, List, [], ◌∷◌, is_some};
+ghost use Rattle.std.specs.Prelude.{if◌then◌else◌, length, take, All, IfOk, IfSome, IsTrue, MatchResult, None, true};
 ghost use Rattle.cat_history.specs.Records.{mark_place};
+ghost use Rattle.cat_history.specs.Rounds.{IsAnswered};
 ghost use Rattle.cat_history.specs.LoneRounds.{write_of, writes_of};
 ghost use Rattle.cat_history.specs.Scans.{IsPart};
 ghost use Rattle.cat_text.specs.ReportGrammar.{IsReportOp, IsReportPart};
@@ -10,7 +11,8 @@ ghost use Rattle.shapes.specs.Anchors.{next_of, past};
 ghost use Rattle.shapes.specs.ShapeRounds.{one_added, puts_added};
 ghost use Rattle.stopped_rounds.specs.Bounded.{ComesTo, IsSame};
 ghost use Rattle.cat_history.specs.declared.op.CallerOp.{CallerOp};
-ghost use Rattle.stopped_rounds.specs.InTime.{AreInTime, AreOnNames, HasNoTurns, IsOnName, RepliesInTime};
+ghost use Rattle.stopped_rounds.specs.InTime.{AreInTime, AreOnNames, HasNoTurns, HasTimelyTurns, IsOnName};
+ghost use Rattle.stopped_rounds.specs.InTime.{RepliesInTime};
 ghost use Rattle.stopped_rounds.specs.Replies.{IsLate, IsTold, Replies, SettlesToReport, write_mark};
 ghost use Rattle.cat_history.specs.declared.op.Op.TheVariants as Op;
 ghost use Rattle.cat_history.specs.declared.record.Reply.TheVariants as Reply;
@@ -60,6 +62,11 @@ pub fn run_crash_round<M: BoundedMap>(
     // Where neither the calls nor the updater make turns, each call is answered for which the budget is enough.
     ensures in_time { IfOk result (λ round. 0 < M.call_events → M.turnless map.old plan.now.ops → AreOnNames plan.now.ops →
         HasNoTurns plan.now → AreInTime M.call_events budget round.records) }
+    // So it is where the updater makes turns, so often that no call makes one, and with a budget for each.
+    ensures in_time_with_turns { IfOk result (λ round. 0 < M.call_events → M.has_room map.old plan.now.ops →
+        M.turnless map.old (take plan.now.updater plan.now.ops) → AreOnNames plan.now.ops →
+        HasTimelyTurns M.calls_between M.turn_events plan.now updater_budget →
+        AreInTime M.call_events budget round.records) }
 {
     let asked = plan.ops.as_slice();
     let mut records = Vec::with_capacity(alloc, asked.len())?;
@@ -96,7 +103,10 @@ fn turn_if_due<M: BoundedMap>(map: &mut M, turns: u64, calls: u64, left: u64, bu
     ensures calls_left { M.calls_left map.old ≤ M.calls_left map.new }
     ensures writes_left { M.writes_left map.old ≤ M.writes_left map.new }
     ensures weighs { M.weighs map.new ≤ M.weighs map.old }
-    ensures none { (turns ≡ 0) ⊎ ((0 < calls) × (calls < turns)) → map.new ≡ map.old }
+    ensures none { (turns ≡ 0) ⊎ (calls % turns ≢ 0) → (map.new ≡ map.old) × (budget.new ≡ budget.old) }
+    ensures due { (more : List CallerOp) → 0 < left → 0 < turns → calls % turns ≡ 0 → turns ≤ M.calls_between →
+        0 < length more → M.turnless map.old [] → M.has_room map.old more → M.turn_events ≤ budget.old →
+        (budget.old ≤ budget.new + M.turn_events) × M.turnless map.new (take turns more) × M.has_room map.new more }
 {
     if left == 0 {
         return;
@@ -130,6 +140,8 @@ fn reply_to<M: BoundedMap>(
     ensures in_time { IfOk result (λ reply. (a : CallerOp) (rest : List CallerOp) → a.op ≡ op.now → IsOnName a.op →
         0 < budget.old → M.turnless map.old (a ∷ rest) →
         RepliesInTime M.call_events budget.old reply budget.new (M.turnless map.new rest)) }
+    ensures room { IfOk result (λ reply. (a : CallerOp) (rest : List CallerOp) → a.op ≡ op.now → IsOnName a.op →
+        IsAnswered reply → M.has_room map.old (a ∷ rest) → M.has_room map.new rest) }
 {
     if *budget == 0 {
         return Ok(Reply::Unstarted);

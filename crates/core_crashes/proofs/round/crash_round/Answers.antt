@@ -46,6 +46,6 @@ returns c =
     (begun_quiet c.args.core c.new_round.new.self mid c.in_ok-new_round.ensures.ok c.reserve.ensures.kept c.new_round.ensures.quiet)
     c.in_ok-round.ensures c.in_ok-core.ensures lone
     (has_budget c.lone_caller-caller.result c.args.core.layout.callers c.args.crash.now.budgets c.as_slice-2.result.now within c.requires.budgets c.as_slice-2.ensures)
-    (begun_turnless c.args.core c.new_round.new.self mid c.in_ok-new_round.ensures.ok c.reserve.ensures.kept c.new_round.ensures.short c.args.plan.now.ops)
+    (begun_turnless c.args.core c.new_round.new.self mid c.in_ok-new_round.ensures.ok c.reserve.ensures.kept c.new_round.ensures.short)
     (length c.as_slice-4.result.now) (ap length (c.as_slice-4.ensures ∙ c.base-2.ensures)) (search arith) (search arith) c.settle.new.records
     (c.settle.ensures ∙ ap (λ (pairs : List Pair). all_settled (map_of pairs) round.records) c.base.ensures)

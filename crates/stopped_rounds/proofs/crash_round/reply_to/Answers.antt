@@ -1,12 +1,13 @@
 use Rattle.std.proofs.Common.{◌∙◌, ◌+◌, ◌<◌, ◌≤◌, inl, refl, sym, subst, arith}
 use Rattle.cat_history.specs.declared.op.Op.{Op}
+use Rattle.cat_history.specs.declared.record.CutMark.TheVariants.{Read}
 use Rattle.cat_history.specs.declared.record.Reply.TheVariants.{Parts}
 use Rattle.shapes.specs.ShapeRounds.{one_added}
-use Rattle.stopped_rounds.specs.Replies.{IsLate, IsTold, Replies}
+use Rattle.stopped_rounds.specs.Replies.{IsLate, IsTold, Replies, write_mark}
 use Rattle.stopped_rounds.proofs.ScanStops.{parts-fit}
 use Rattle.stopped_rounds.proofs.Replying.{put_weighs, put_replies, del_replies, get_replies, scan_replies}
 use Rattle.stopped_rounds.specs.InTime.{IsOnName}
-use Rattle.stopped_rounds.proofs.Timing.{old_in_time, put_in_time}
+use Rattle.stopped_rounds.proofs.Timing.{answered_then, old_in_time, put_in_time}
 use Rattle.stopped_rounds.proofs.crash_round.reply_to.Goals as goal
 
 pub put-requires-clause-calls : goal.put-requires-clause-calls
@@ -99,3 +100,21 @@ returns-in-Del-clause-in_time g c = λ a rest same named some turnless.
 
 pub returns-in_ok-parts-in-Scan-clause-in_time : goal.returns-in_ok-parts-in-Scan-clause-in_time
 returns-in_ok-parts-in-Scan-clause-in_time g c = λ a rest same named some turnless. absurd (subst IsOnName (same ∙ c.in-Scan.is) named)
+
+pub returns-then-comes_late-clause-room : goal.returns-then-comes_late-clause-room
+returns-then-comes_late-clause-room g c = λ a rest same named told room. c.has_shape.ensures.room a rest room
+
+pub returns-in-Put-clause-room : goal.returns-in-Put-clause-room
+returns-in-Put-clause-room g c = λ a rest same named told room.
+    answered_then (g.M.BoundedMap.has_room c.put.new.self rest) c.put.result _ (λ placed. write_mark placed c.args.place) c.put_reply.result c.put_reply.ensures.reply (c.put.ensures.room a rest (same ∙ c.in-Put.is) room) told
+
+pub returns-in-Get-clause-room : goal.returns-in-Get-clause-room
+returns-in-Get-clause-room g c = λ a rest same named told room.
+    answered_then (g.M.BoundedMap.has_room c.get.new.self rest) c.get.result _ (λ placed. Read) c.get_reply.result c.get_reply.ensures.reply (c.get.ensures.room a rest (same ∙ c.in-Get.is) room) told
+
+pub returns-in-Del-clause-room : goal.returns-in-Del-clause-room
+returns-in-Del-clause-room g c = λ a rest same named told room.
+    answered_then (g.M.BoundedMap.has_room c.del.new.self rest) c.del.result _ (λ placed. write_mark placed c.args.place) c.del_reply.result c.del_reply.ensures.reply (c.del.ensures.room a rest (same ∙ c.in-Del.is) room) told
+
+pub returns-in_ok-parts-in-Scan-clause-room : goal.returns-in_ok-parts-in-Scan-clause-room
+returns-in_ok-parts-in-Scan-clause-room g c = λ a rest same named told room. absurd (subst IsOnName (same ∙ c.in-Scan.is) named)

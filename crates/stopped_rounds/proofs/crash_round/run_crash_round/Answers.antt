@@ -1,11 +1,9 @@
-use Rattle.std.proofs.Common.{◌≡◌, ℕ, ◌+◌, ◌<◌, cond, List, length, sym, ap, ◌∙◌, subst, arith}
+use Rattle.std.proofs.Common.{◌≡◌, ℕ, ◌+◌, cond, length, sym, ap, ◌∙◌, subst, arith}
 use Rattle.cat_history.specs.LoneRounds.{write_of}
 use Rattle.cat_history.specs.declared.record.Record.{Record}
 use Rattle.stopped_rounds.specs.Replies.{Replies}
 use Rattle.stopped_rounds.proofs.Stopping.{recorded, stopping-call, stopped-whole, one_at_most, added-push, told-push}
-use Rattle.cat_history.specs.declared.op.CallerOp.{CallerOp}
-use Rattle.stopped_rounds.specs.InTime.{AreInTime}
-use Rattle.stopped_rounds.proofs.Timing.{in_time-first, in_time-next, none_due}
+use Rattle.stopped_rounds.proofs.Timing.{begins_with, begins_without, in_time-next}
 use Rattle.stopped_rounds.proofs.crash_round.run_crash_round.Goals.{then-is_placed_write, else-is_placed_write}
 use Rattle.stopped_rounds.proofs.crash_round.run_crash_round.Goals as goal
 
@@ -36,11 +34,18 @@ loop-index-preserved g c =
       writes_left = omega (arith, was.writes_left, c.reply_to.ensures.writes_left, turn.writes_left);
       weighs_so = rw c.push_reserved.ensures.items (let added = added-push c.loop-index.records.items r in omega (arith, was.weighs_so, c.in_ok-reply.ensures.weighs, turn.weighs, added));
       told = rw c.push_reserved.ensures.items (told-push c.args.plan.now.ops c.as_slice-asked.result.now index call reply c.loop-index.records.items c.requires.told c.as_slice-asked.ensures c.loop-index-test.true c.index-asked-index.is c.in_ok-reply.ensures.told was.told);
-      in_time = λ some turnless named none.
-          let still = turn.none (none_due c.args.plan.now.updater (length c.args.plan.now.ops) index (subst (λ (l : List CallerOp). index < length l) c.as_slice-asked.ensures c.loop-index-test.true) none) in
-          in_time-next M.call_events c.args.budget c.loop-index.left c.reply_to.new.budget c.args.plan.now.ops c.as_slice-asked.result.now index call c.loop-index.records.items c.push_reserved.new.self.items r
-          (M.turnless c.loop-index.map) (M.turnless c.reply_to.new.map) (M.turnless c.turn_if_due.new.map) some named c.as_slice-asked.ensures c.loop-index-test.true c.index-asked-index.is (omega (arith, was.made, c.loop-index.records.ok)) c.push_reserved.ensures.items
-          (was.in_time some turnless named none) c.in_ok-reply.ensures.in_time (ap M.turnless (sym still));
+      in_time = λ some named begins.
+          in_time-next M.call_events c.args.budget c.loop-index.left c.reply_to.new.budget c.args.plan.now.ops c.as_slice-asked.result.now index c.args.plan.now.updater M.calls_between M.turn_events c.loop-index.updater_left c.turn_if_due.new.budget call
+          c.loop-index.records.items c.push_reserved.new.self.items r (M.has_room c.loop-index.map) (M.has_room c.reply_to.new.map) (M.has_room c.turn_if_due.new.map) (M.turnless c.loop-index.map) (M.turnless c.reply_to.new.map) (M.turnless c.turn_if_due.new.map)
+          some named c.as_slice-asked.ensures c.loop-index-test.true c.index-asked-index.is (omega (arith, was.made, c.loop-index.records.ok)) c.push_reserved.ensures.items (was.in_time some named begins)
+          (record {
+            replies = c.in_ok-reply.ensures.in_time;
+            rooms = c.in_ok-reply.ensures.room;
+            none = λ none.
+                let still = turn.none none in
+                ((λ asked holds. subst (λ m. M.turnless m asked) (sym still.0) holds), (λ asked has. subst (λ m. M.has_room m asked) (sym still.0) has), still.1);
+            due = turn.due;
+          });
       made = c.push_reserved.ensures.len ∙ omega (arith, was.made);
       reserved = omega (arith, was.reserved, c.push_reserved.ensures.capacity);
     }
@@ -61,4 +66,13 @@ pub returns-clause-weighs : goal.returns-clause-weighs
 returns-clause-weighs g c = rw c.of.ensures c.loop-index.invariant.weighs_so
 
 pub returns-clause-in_time : goal.returns-clause-in_time
-returns-clause-in_time g c = λ some turnless named none. rw c.of.ensures (c.loop-index.invariant.in_time some turnless named none).0
+returns-clause-in_time g c = λ some turnless named none.
+    let M = g.M.BoundedMap in
+    let plan = c.args.plan.now in
+    rw c.of.ensures (c.loop-index.invariant.in_time some named (begins_without plan.ops plan.updater M.calls_between M.turn_events c.args.updater_budget (M.has_room c.args.map.now) (M.turnless c.args.map.now) none turnless)).0
+
+pub returns-clause-in_time_with_turns : goal.returns-clause-in_time_with_turns
+returns-clause-in_time_with_turns g c = λ some room turnless named timely.
+    let M = g.M.BoundedMap in
+    let plan = c.args.plan.now in
+    rw c.of.ensures (c.loop-index.invariant.in_time some named (begins_with plan.ops plan.updater M.calls_between M.turn_events c.args.updater_budget (M.has_room c.args.map.now) (M.turnless c.args.map.now) timely room turnless)).0
