@@ -5,7 +5,6 @@ use Rattle.std.specs.Io.KnownBytes.{Appends, Keeps}
 use Rattle.std.specs.List.{AllByRecursion}
 use Rattle.std.specs.Str.Parse.{digits_value}
 use Rattle.std.proofs.lemmas.List.Elements.{recursion_from_All}
-use Rattle.std.proofs.lemmas.Option.{none-some, same_Some}
 use Rattle.cat_command.specs.Commands.{IsCommand}
 use Rattle.cat_command.specs.declared.command.Command.{Command}
 use Rattle.cat_command.specs.declared.command.Command.TheVariants.{Format, Run, Play, Gen, Words}

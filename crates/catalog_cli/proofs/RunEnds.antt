@@ -1,5 +1,5 @@
 -- What a script comes to that is played on an image.
-use Rattle.std.proofs.Common.{◌≡◌, ℕ, suc, ◌+◌, ◌<◌, ◌≤◌, List, sym, ap, subst, ◌∙◌, arith, zero-add}
+use Rattle.std.proofs.Common.{◌≡◌, ℕ, suc, ◌+◌, ◌<◌, ◌≤◌, List, length, true, sym, ap, subst, ◌∙◌, arith, zero-add}
 use Rattle.std.specs.FinMap.{len}
 use Rattle.cat_history.specs.Maps.{Map}
 use Rattle.cat_history.specs.declared.plan.RoundPlan.{RoundPlan}
@@ -20,10 +20,12 @@ use Rattle.recovery.specs.Opened.{IsOpenedFrom, IsOpenFault}
 use Rattle.recovery.specs.declared.opening.OpenFault.{OpenFault}
 use Rattle.recovery.specs.declared.opening.OpenFault.TheVariants as opening
 use Rattle.core_rounds.specs.CoreMaps.{HasNoLines, ImageWaits, IsImageOf, Waits}
+use Rattle.core_rounds.specs.CrashWork.{CrashRoundsWork}
 use Rattle.core_rounds.specs.LoneCalls.{AreJoined, AreLoneRounds, restarts}
 use Rattle.core_rounds.specs.Rounds.{ArePlayed, RoundsEndWithTurn}
 use Rattle.core_rounds.specs.Waiting.{HaveNoTurns, changes_made, puts_asked, writes_asked}
 use Rattle.core_rounds.proofs.CoreMaps.{opened_is_map}
+use Rattle.crowd_rounds.specs.Segments.{WorkOn}
 use Rattle.catalog_cli.specs.Reports.{IsAccepted, IsRefusedBy}
 use Rattle.catalog_cli.specs.Runs.{IsOpenable, IsPlayRefused, IsRunOn, IsTooLate, LinesWait, NeedNoTurns, generation_after}
 use Rattle.catalog_cli.specs.Statuses.{status_of_open}
@@ -76,9 +78,10 @@ generations-left image plans s is openable =
     subst IsGeneration all openable.next
 
 -- What was played on the index that an image is opened as: its last one, with the map and the shape that follow the last
--- round, in which so many lines wait.
+-- round, in which so many lines wait; and the crash rounds did their work.
 pub record IsPlayedTo (s : Index) (plans : List RoundPlan) (reports : List RoundReport) (s' : Index) : Type 0 where
   pub played : ArePlayed s.layout.slots s.layout.nodes (weight_of s) (len (map_of_index s)) (map_of_index s) (anchors_in (world s)) plans reports (map_of_index s') (anchors_in (world s'))
+  pub works : WorkOn s plans reports
   pub layout : s'.layout ≡ s.layout
   pub generation : s'.generation ≡ s.generation + restarts plans
   pub settled : RoundsEndWithTurn plans → HasNoLines s'
@@ -97,6 +100,15 @@ on-image image s plans reports end shape is played =
     (subst (λ (m : Map). ArePlayed image.layout.slots image.layout.nodes (image_weight image.layout image.words) (len m) m (anchors_in (world s)) plans reports end shape) opened.contents
     (subst (λ (w : ℕ). ArePlayed image.layout.slots image.layout.nodes w (len (map_of_index s)) (map_of_index s) (anchors_in (world s)) plans reports end shape) opened.weighs
     (subst (λ (l : Layout). ArePlayed l.slots l.nodes (weight_of s) (len (map_of_index s)) (map_of_index s) (anchors_in (world s)) plans reports end shape) is.layout played)))
+
+-- and so their crash rounds work on its weight and its members
+work-on-image : (image : Row) (s : Index) (plans : List RoundPlan) (reports : List RoundReport) → IsOpenedFrom image s → WorkOn s plans reports →
+    CrashRoundsWork image.layout.slots image.layout.nodes (image_weight image.layout image.words) true (length (image_anchors image.layout image.words)) plans reports
+work-on-image image s plans reports is work =
+    let opened = opened_is_map image s is in
+    subst (λ (a : Anchors). CrashRoundsWork image.layout.slots image.layout.nodes (image_weight image.layout image.words) true (length a) plans reports) opened.anchors
+    (subst (λ (w : ℕ). CrashRoundsWork image.layout.slots image.layout.nodes w true (length (anchors_in (world s))) plans reports) opened.weighs
+    (subst (λ (l : Layout). CrashRoundsWork l.slots l.nodes (weight_of s) true (length (anchors_in (world s))) plans reports) is.layout work))
 
 -- where they make no turn, so many lines of the image wait
 lines-wait : (image new : Row) (s s' : Index) (plans : List RoundPlan) (reports : List RoundReport) → IsOpenedFrom image s → IsImageOf s' new → IsPlayedTo s plans reports s' →
@@ -126,6 +138,8 @@ run-ends image new s s' bytes text script plans reports is openable accepted sam
         played = subst (λ (ps : List RoundPlan). ArePlayed image.layout.slots image.layout.nodes (image_weight image.layout image.words) (len (image_map image.layout image.words))
             (image_map image.layout image.words) (image_anchors image.layout image.words) ps reports (map_of_index s') (anchors_in (world s'))) same
             (on-image image s plans reports (map_of_index s') (anchors_in (world s')) is done.played);
+        works = subst (λ (ps : List RoundPlan). CrashRoundsWork image.layout.slots image.layout.nodes (image_weight image.layout image.words) true (length (image_anchors image.layout image.words)) ps reports) same
+            (work-on-image image s plans reports is done.works);
         told = told;
       };
       openable = subst (IsOpenable image) same openable;

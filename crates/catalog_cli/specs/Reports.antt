@@ -1,5 +1,5 @@
 -- What a script plays, and what is reported of it: from what its rounds begin, how they go on, and where they end.
-use Rattle.std.specs.Prelude.{◌≡◌, ℕ, ◌/◌, ◌<◌, ◌⊎◌, List, [], ◌∷◌, All, length}
+use Rattle.std.specs.Prelude.{◌≡◌, ℕ, ◌/◌, ◌<◌, ◌⊎◌, List, [], ◌∷◌, All, length, true}
 use Rattle.std.specs.FinMap.{empty, len}
 use Rattle.cat_history.specs.Maps.{Map}
 use Rattle.cat_script.specs.Fits.{FitsCallers, IsUnfitBy}
@@ -16,6 +16,7 @@ use Rattle.sound_image.specs.Sound.{image_map}
 use Rattle.sound_image.specs.Weights.{image_weight}
 use Rattle.shapes.specs.Anchors.{Anchors}
 use Rattle.index_law.specs.Anchors.{image_anchors}
+use Rattle.core_rounds.specs.CrashWork.{CrashRoundsWork}
 use Rattle.core_rounds.specs.Rounds.{ArePlayed}
 use Rattle.catalog_cli.specs.declared.status.Status.{Status}
 use Rattle.catalog_cli.specs.declared.status.Status.TheVariants as status
@@ -79,8 +80,9 @@ image_opening image = record {
 }
 
 -- The text is that of a report of legal rounds that the bytes, read as a script, ask for, from this opening, of one
--- caller each or of several, joined or ended by a crash. Each full answer is paid for by its weight and its names and the
--- puts since then. The rounds leave this map in this shape. The report is one of the grammar, so that its text tells it alone.
+-- caller each or of several, joined or ended by a crash. Each full answer is paid for by its weight and its names and
+-- the puts since then. In rounds that a crash ends, before which the index was just opened, calls are answered in time.
+-- The rounds leave this map in this shape. The report is one of the grammar, so that its text tells it alone.
 pub record IsReportOf (opening : Opening) (bytes text : List ℕ) : Type 0 where
   pub script : Script
   pub reports : List RoundReport
@@ -89,4 +91,6 @@ pub record IsReportOf (opening : Opening) (bytes text : List ℕ) : Type 0 where
   pub accepted : IsAccepted opening.layout.callers bytes script
   pub played : ArePlayed opening.layout.slots opening.layout.nodes opening.weighs opening.names opening.map
       opening.anchors script.rounds reports end shape
+  pub works : CrashRoundsWork opening.layout.slots opening.layout.nodes opening.weighs true (length opening.anchors)
+      script.rounds reports
   pub told : IsReportText text reports

@@ -58,9 +58,10 @@ pub fn catalog<R: Threads + Wait + Sync, S: Source, K: Sink, H: Shelf, G: Gate>(
     shelf: &mut H,
     gate: &G,
 ) -> Status
-    // What was written: the text of a report of the grammar, that of the script, each of whose rounds is legal, and for
-    // a run on a file the very rounds that the file has now; or the summary of a legal round of the generated calls; or
-    // the line of a fresh image; or the words of a file; or a beginning of one of these; or nothing.
+    // What was written: the text of a report of the grammar, that of the script, each of whose rounds is legal, and in
+    // rounds that a crash ends calls are answered in time; for a run on a file the very rounds that the file has now; or
+    // the summary of a legal round of the generated calls; or the line of a fresh image; or the words of a file; or a
+    // beginning of one of these; or nothing.
     ensures sink { LeavesSink (map string_bytes words.now)
         (seen (S.left script.old) (H.files shelf.old) (H.files shelf.new) (S.faults script.old) (S.faults script.new)
         (H.faults shelf.old) (H.faults shelf.new)) result (K.written out.old) (K.written out.new) }

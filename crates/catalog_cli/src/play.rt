@@ -1,12 +1,13 @@
 //! Playing the rounds of a script on an empty catalogue.
 
-ghost use Rattle.std.specs.Prelude.{◌≡◌, ℕ, ◌/◌, List, [], ◌∷◌, IfOk};
+ghost use Rattle.std.specs.Prelude.{◌≡◌, ℕ, ◌/◌, List, [], ◌∷◌, IfOk, true};
 ghost use Rattle.std.specs.FinMap.{empty};
 ghost use Rattle.cat_history.specs.Maps.{Map};
 ghost use Rattle.pm_words.specs.Layouts.{IsLayout};
 ghost use Rattle.shapes.specs.Anchors.{Anchors};
 ghost use Rattle.cat_text.specs.ReportGrammar.{IsReport};
 ghost use Rattle.catalog_cli.specs.Reports.{IsAccepted};
+ghost use Rattle.core_rounds.specs.CrashWork.{CrashRoundsWork};
 ghost use Rattle.core_rounds.specs.Rounds.{ArePlayed};
 
 use cat_history::NoMemory;
@@ -31,6 +32,8 @@ pub(crate) fn play<R: Threads + Wait + Sync, G: Gate>(
     requires accepted { (bytes : List ℕ) × IsAccepted layout.now.callers bytes script.now }
     ensures played { IfOk result (λ reports. (end : Map) × (shape : Anchors) × ArePlayed layout.now.slots
         layout.now.nodes (layout.now.slots / 2) 0 empty ([] ∷ []) script.now.rounds reports end shape) }
+    ensures works { IfOk result (CrashRoundsWork layout.now.slots layout.now.nodes (layout.now.slots / 2) true 1
+        script.now.rounds) }
     ensures report { IfOk result IsReport }
 {
     let played = play_plans(rt, alloc, layout, script.rounds.as_slice(), gate)?;

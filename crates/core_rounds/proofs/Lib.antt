@@ -1,5 +1,6 @@
 pub mod CallCounts
 pub mod CoreMaps
+pub mod CrashWork
 pub mod LoneRoundSteps
 pub mod OpenedCores
 pub mod Played

@@ -107,7 +107,7 @@ no-restarts (plan ∷ plans) lone joined =
     let rest = no-restarts plans lone.1 joined.1 in
     ap (λ (b : Bool). one_if b + restarts plans) (plain-has-none plan lone.0 joined.0) ∙ omega (arith, rest)
 
-none-there : (b : Bool) (n : ℕ) → one_if b + n ≡ 0 → (b ≡ false) × (n ≡ 0)
+pub none-there : (b : Bool) (n : ℕ) → one_if b + n ≡ 0 → (b ≡ false) × (n ≡ 0)
 none-there true n none = absurd (omega (arith, none))
 none-there false n none = (refl, omega (arith, none))
 

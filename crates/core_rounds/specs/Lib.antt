@@ -4,3 +4,4 @@ pub mod CoreMaps
 pub mod Openings
 pub mod Summaries
 pub mod Waiting
+pub mod CrashWork

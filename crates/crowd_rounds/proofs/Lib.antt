@@ -2,3 +2,4 @@ pub mod CrashedCrowds
 pub mod CrowdRounds
 pub mod Restarts
 pub mod Segmenting
+pub mod Working

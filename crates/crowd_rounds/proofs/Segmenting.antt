@@ -13,18 +13,16 @@ use Rattle.pm_words.specs.Images.{Row}
 use Rattle.pm_words.specs.declared.layout.Layout.{Layout}
 use Rattle.version_lock.specs.Versions.{IsGeneration}
 use Rattle.index_law.specs.Anchors.{anchors_in}
-use Rattle.index_core.specs.Indexes.{Index, IsIndex, map_of_index, world}
-use Rattle.index_core.specs.Lone.{IsQuiet}
+use Rattle.index_core.specs.Indexes.{Index, map_of_index, world}
 use Rattle.index_core.specs.Weights.{weight_of}
 use Rattle.recovery.specs.Opened.{IsOpenedFrom}
-use Rattle.core_rounds.specs.CoreMaps.{HasNoLines}
 use Rattle.core_rounds.specs.LoneCalls.{AreReportCalls, calls_in, has_restart, restarts}
 use Rattle.core_rounds.specs.Rounds.{ArePlayed, RoundsEndWithTurn, added_in, ends}
 use Rattle.core_rounds.specs.Waiting.{one_if}
-use Rattle.core_rounds.proofs.CoreMaps.{opened_is_map}
+use Rattle.core_rounds.proofs.CoreMaps.{opened_calls, opened_is_map}
 use Rattle.core_rounds.proofs.Restarting.{restarts_add_up}
 use Rattle.core_rounds.proofs.Played.{each_is_reported, more_pays, rounds_go_on}
-use Rattle.crowd_rounds.specs.Segments.{AreFirstPlain, AreFirstPlayed, ArePlayable, ArePlayedOn, HasBudgets, IsPlayedRestart}
+use Rattle.crowd_rounds.specs.Segments.{AreFirstPlain, AreFirstPlayed, ArePlainPlayed, ArePlayable, ArePlayedOn, HasBudgets, IsPlayedRestart, WorkOn}
 
 -- the last of rounds behind others is the last of all
 ends-behind : (plans more : List RoundPlan) → 0 < length more → RoundsEndWithTurn (plans ++ more) → RoundsEndWithTurn more
@@ -95,8 +93,8 @@ goes-on s mid new plans reports more first second some =
     }
 
 -- and at the end all are
-pub all-played : (s new : Index) (plans : List RoundPlan) (reports told : List RoundReport) → AreFirstPlayed s plans reports new → length plans ≤ length reports → told ≡ reports → ArePlayedOn s plans told new
-all-played s new plans reports told first done is =
+pub all-played : (s new : Index) (plans : List RoundPlan) (reports told : List RoundReport) → AreFirstPlayed s plans reports new → WorkOn s (take (length reports) plans) reports → length plans ≤ length reports → told ≡ reports → ArePlayedOn s plans told new
+all-played s new plans reports told first works done is =
     let whole : take (length reports) plans ≡ plans = take_all (length reports) plans done in
     subst (λ (rs : List RoundReport). ArePlayedOn s plans rs new) (sym is) (record {
       played = subst (λ (ps : List RoundPlan). ArePlayed s.layout.slots s.layout.nodes (weight_of s) (len (map_of_index s)) (map_of_index s) (anchors_in (world s)) ps reports (map_of_index new)
@@ -107,29 +105,37 @@ all-played s new plans reports told first done is =
       index = first.index;
       quiet = first.quiet;
       settled = λ turned. first.settled (subst RoundsEndWithTurn (sym whole) turned);
+      works = subst (λ (ps : List RoundPlan). WorkOn s ps reports) whole works;
     })
 
 -- ---- a stretch: rounds of one caller each, and one behind which the index is opened again
 
--- What joined rounds of one caller come to on a core.
-pub record LoneDone (s : Index) (plans : List RoundPlan) (reports : List RoundReport) (new : Index) : Type 0 where
-  pub played : ArePlayed s.layout.slots s.layout.nodes (weight_of s) (len (map_of_index s)) (map_of_index s) (anchors_in (world s)) plans reports (map_of_index new) (anchors_in (world new))
-  pub told : All IsReportRound reports
-  pub weighs : weight_of new ≤ weight_of s + added_in reports
-  pub names : len (map_of_index new) ≤ len (map_of_index s) + added_in reports
-  pub layout : new.layout ≡ s.layout
-  pub generation : new.generation ≡ s.generation
-  pub index : IsIndex new
-  pub quiet : IsQuiet new
-  pub settled : RoundsEndWithTurn plans → HasNoLines new
+-- where there are none of one caller, the core is the same
+pub none-plain : (image : Row) (s : Index) (plans : List RoundPlan) (reports : List RoundReport) → IsOpenedFrom image s → plans ≡ [] → reports ≡ [] → ArePlainPlayed s plans reports s
+none-plain image s plans reports is none empty =
+    subst (λ (ps : List RoundPlan). ArePlainPlayed s ps reports s) (sym none)
+    (subst (λ (rs : List RoundReport). ArePlainPlayed s [] rs s) (sym empty) (record {
+      played = ends;
+      told = All-from_recursion IsReportRound [] tt;
+      weighs = omega arith;
+      names = omega arith;
+      layout = refl;
+      generation = refl;
+      index = is.index;
+      quiet = is.quiet;
+      stamps = is.stamps;
+      calls_left = λ calls few. opened_calls image s calls is (omega (arith, few));
+      settled = λ turned. absurd turned;
+      still = λ no_round. refl;
+    }))
 
 -- as many are reported as were played
-pub as-many : (s new : Index) (plans : List RoundPlan) (count : ℕ) (reports : List RoundReport) → LoneDone s (take count plans) reports new → count ≤ length plans → length reports ≡ count
+pub as-many : (s new : Index) (plans : List RoundPlan) (count : ℕ) (reports : List RoundReport) → ArePlainPlayed s (take count plans) reports new → count ≤ length plans → length reports ≡ count
 as-many s new plans count reports done within =
     each_is_reported s.layout.slots s.layout.nodes (weight_of s) (len (map_of_index s)) (map_of_index s) (map_of_index new) (anchors_in (world s)) (anchors_in (world new)) (take count plans) reports
     done.played ∙ length-take-le count plans within
 
-pub plain-first : (s new : Index) (plans : List RoundPlan) (count : ℕ) (reports : List RoundReport) → LoneDone s (take count plans) reports new → AreFirstPlain plans count →
+pub plain-first : (s new : Index) (plans : List RoundPlan) (count : ℕ) (reports : List RoundReport) → ArePlainPlayed s (take count plans) reports new → AreFirstPlain plans count →
     AreFirstPlayed s plans reports new
 plain-first s new plans count reports done first =
     let many = as-many s new plans count reports done first.few in
@@ -180,7 +186,7 @@ restart-first mid next plans plan report some is again round =
     }
 
 -- behind those of one caller
-pub plain-then-restart : (s mid next : Index) (plans : List RoundPlan) (count : ℕ) (reports told : List RoundReport) (plan : RoundPlan) (report : RoundReport) → LoneDone s (take count plans) reports mid →
+pub plain-then-restart : (s mid next : Index) (plans : List RoundPlan) (count : ℕ) (reports told : List RoundReport) (plan : RoundPlan) (report : RoundReport) → ArePlainPlayed s (take count plans) reports mid →
     AreFirstPlain plans count → count < length plans → plan ≡ get_or plans count plan → IsPlayedRestart mid plan report next → told ≡ reports ++ report ∷ [] → AreFirstPlayed s plans told next
 plain-then-restart s mid next plans count reports told plan report done first less is round pushed =
     let many = as-many s mid plans count reports done first.few in

@@ -1,5 +1,6 @@
 -- Rounds one after another, and those between two openings of the index.
-use Rattle.std.specs.Prelude.{◌≡◌, ℕ, suc, ◌+◌, ◌<◌, ◌≤◌, ◌^◌, List, [], ◌∷◌, All, IfSome, length, take, get_or, true}
+use Rattle.std.specs.Prelude.{◌≡◌, ℕ, suc, ◌+◌, ◌*◌, ◌<◌, ◌≤◌, ◌^◌, List, [], ◌∷◌, All, IfSome, length, take}
+use Rattle.std.specs.Prelude.{get_or, true}
 use Rattle.std.specs.FinMap.{len}
 use Rattle.cat_history.specs.declared.plan.RoundPlan.{RoundPlan}
 use Rattle.cat_text.specs.ReportGrammar.{IsReportRound}
@@ -8,11 +9,13 @@ use Rattle.pm_words.specs.Images.{Row}
 use Rattle.shapes.specs.ShapeRounds.{puts_added}
 use Rattle.version_lock.specs.Versions.{IsGeneration}
 use Rattle.index_law.specs.Anchors.{anchors_in}
+use Rattle.index_core.specs.Fulls.{HasLowStamps}
 use Rattle.index_core.specs.Indexes.{Index, IsIndex, map_of_index, world}
 use Rattle.index_core.specs.Lone.{IsQuiet}
 use Rattle.index_core.specs.Weights.{weight_of}
 use Rattle.recovery.specs.Opened.{IsOpenedFrom}
-use Rattle.core_rounds.specs.CoreMaps.{HasNoLines}
+use Rattle.core_rounds.specs.CoreMaps.{HasNoLines, calls_left_of}
+use Rattle.core_rounds.specs.CrashWork.{CrashRoundsWork, IsAnsweredInTime}
 use Rattle.core_rounds.specs.LoneCalls.{AreReportCalls, calls_in, has_restart, restarts}
 use Rattle.core_rounds.specs.Rounds.{ArePlayed, RoundsEndWithTurn, added_in}
 
@@ -36,7 +39,27 @@ pub record AreFirstPlain (plans : List RoundPlan) (count : ℕ) : Type 0 where
   pub none : restarts (take count plans) ≡ 0
   pub next : (plan : RoundPlan) → count < length plans → has_restart (get_or plans count plan) ≡ true
 
--- A round of this plan was played on this core and reported so, and behind it that one was opened, of an image.
+-- Joined rounds of one caller each were played on this core and reported so, and left that one. An opened core has
+-- 100000 calls left of each node, of which these rounds take as many as they have. Where there are none, it is the same
+-- core.
+pub record ArePlainPlayed (old : Index) (plans : List RoundPlan) (reports : List RoundReport) (new : Index) : Type 0
+  where
+    pub played : ArePlayed old.layout.slots old.layout.nodes (weight_of old) (len (map_of_index old)) (map_of_index old)
+        (anchors_in (world old)) plans reports (map_of_index new) (anchors_in (world new))
+    pub told : All IsReportRound reports
+    pub weighs : weight_of new ≤ weight_of old + added_in reports
+    pub names : len (map_of_index new) ≤ len (map_of_index old) + added_in reports
+    pub layout : new.layout ≡ old.layout
+    pub generation : new.generation ≡ old.generation
+    pub index : IsIndex new
+    pub quiet : IsQuiet new
+    pub stamps : HasLowStamps new
+    pub calls_left : (calls : ℕ) → calls + calls_in plans ≤ 100000 → calls * old.layout.nodes ≤ calls_left_of new
+    pub settled : RoundsEndWithTurn plans → HasNoLines new
+    pub still : length plans ≡ 0 → new ≡ old
+
+-- A round of this plan was played on this core and reported so, and behind it that one was opened, of an image. Where
+-- an image was just opened as this core, calls of a round that a crash ends are answered in time.
 pub record IsPlayedRestart (core : Index) (plan : RoundPlan) (report : RoundReport) (next : Index) : Type 0 where
   pub played : ArePlayed core.layout.slots core.layout.nodes (weight_of core) (len (map_of_index core))
       (map_of_index core) (anchors_in (world core)) (plan ∷ []) (report ∷ []) (map_of_index next)
@@ -46,8 +69,15 @@ pub record IsPlayedRestart (core : Index) (plan : RoundPlan) (report : RoundRepo
   pub names : len (map_of_index next) ≤ len (map_of_index core) + puts_added report.records
   pub layout : next.layout ≡ core.layout
   pub generation : next.generation ≡ suc core.generation
+  pub works : (before : Row) → IsOpenedFrom before core →
+      IsAnsweredInTime core.layout.nodes (length (anchors_in (world core))) plan report.records
   pub image : Row
   pub opened : IsOpenedFrom image next
+
+-- The crash rounds among these rounds do their work, on an index that an image was just opened as.
+abbrev pub WorkOn : Index → List RoundPlan → List RoundReport → Type 0
+WorkOn core plans reports = CrashRoundsWork core.layout.slots core.layout.nodes (weight_of core) true
+    (length (anchors_in (world core))) plans reports
 
 -- The first of the rounds were played on this core, as many as are reported, and left that one.
 pub record AreFirstPlayed (old : Index) (plans : List RoundPlan) (reports : List RoundReport) (new : Index) : Type 0
@@ -64,7 +94,7 @@ pub record AreFirstPlayed (old : Index) (plans : List RoundPlan) (reports : List
     pub quiet : IsQuiet new
     pub settled : RoundsEndWithTurn (take (length reports) plans) → HasNoLines new
 
--- All of the rounds were played on this core, and left that one.
+-- All of the rounds were played on this core, which an image was just opened as, and left that one.
 pub record ArePlayedOn (old : Index) (plans : List RoundPlan) (reports : List RoundReport) (new : Index) : Type 0 where
   pub played : ArePlayed old.layout.slots old.layout.nodes (weight_of old) (len (map_of_index old)) (map_of_index old)
       (anchors_in (world old)) plans reports (map_of_index new) (anchors_in (world new))
@@ -74,3 +104,4 @@ pub record ArePlayedOn (old : Index) (plans : List RoundPlan) (reports : List Ro
   pub index : IsIndex new
   pub quiet : IsQuiet new
   pub settled : RoundsEndWithTurn plans → HasNoLines new
+  pub works : WorkOn old plans reports

@@ -1,7 +1,7 @@
 //! Playing the rounds of a script.
 
 ghost use Rattle.std.specs.Prelude.{◌≡◌, ℕ, ◌+◌, ◌/◌, ◌*◌, ◌<◌, ◌≤◌, ◌^◌, [], ◌∷◌, All};
-ghost use Rattle.std.specs.Prelude.{IfOk, length, suc, true};
+ghost use Rattle.std.specs.Prelude.{IfOk, length, suc, take, true};
 ghost use Rattle.std.specs.FinMap.{empty, len};
 ghost use Rattle.cat_text.specs.ReportGrammar.{IsReportRound};
 ghost use Rattle.pm_words.specs.Images.{Row};
@@ -14,12 +14,13 @@ ghost use Rattle.index_core.specs.Lone.{IsQuiet};
 ghost use Rattle.index_core.specs.Weights.{weight_of};
 ghost use Rattle.recovery.specs.Opened.{IsOpenedFrom};
 ghost use Rattle.core_rounds.specs.CoreMaps.{HasNoLines, Waits, calls_left_of};
+ghost use Rattle.core_rounds.specs.CrashWork.{CrashRoundsWork};
 ghost use Rattle.core_rounds.specs.LoneCalls.{AreJoined, AreLoneRounds, AreReportCalls, calls_in};
 ghost use Rattle.core_rounds.specs.LoneCalls.{has_restart, restarts};
 ghost use Rattle.core_rounds.specs.Rounds.{ArePlayed, RoundsEndWithTurn};
 ghost use Rattle.core_rounds.specs.Waiting.{HaveNoTurns, changes_made, puts_asked, writes_asked};
-ghost use Rattle.crowd_rounds.specs.Segments.{AreFirstPlain, AreFirstPlayed, ArePlayable, ArePlayedOn, HasBudgets};
-ghost use Rattle.crowd_rounds.specs.Segments.{IsPlayedRestart};
+ghost use Rattle.crowd_rounds.specs.Segments.{AreFirstPlain, AreFirstPlayed, ArePlainPlayed, ArePlayable};
+ghost use Rattle.crowd_rounds.specs.Segments.{ArePlayedOn, HasBudgets, IsPlayedRestart, WorkOn};
 
 use crate::crowd::{Crowd, play_crowd};
 use cat_history::{Listed, NoMemory, RoundPlan};
@@ -62,6 +63,9 @@ pub fn play_plans<R: Threads + Wait + Sync, G: Gate>(
     ensures played { IfOk result (λ done. ArePlayed layout.now.slots layout.now.nodes (layout.now.slots / 2) 0 empty
         ([] ∷ []) plans.now done.report (map_of_index done.core) (anchors_in (world done.core))) }
     ensures report { IfOk result (λ done. All IsReportRound done.report) }
+    // The empty catalogue is one member.
+    ensures works { IfOk result (λ done. CrashRoundsWork layout.now.slots layout.now.nodes (layout.now.slots / 2) true 1
+        plans.now done.report) }
 {
     let core = open_fresh(alloc, *layout)?;
     play_rounds(rt, alloc, core, plans, gate)
@@ -91,6 +95,8 @@ pub fn play_rounds<R: Threads + Wait + Sync, G: Gate>(
         (len (map_of_index core)) (map_of_index core) (anchors_in (world core)) plans.now done.report
         (map_of_index done.core) (anchors_in (world done.core))) }
     ensures report { IfOk result (λ done. All IsReportRound done.report) }
+    // A crash round before which the index was just opened has its calls answered in time.
+    ensures works { IfOk result (λ done. WorkOn core plans.now done.report) }
     ensures layout { IfOk result (λ done. done.core.layout ≡ core.layout) }
     ensures generation { IfOk result (λ done. done.core.generation ≡ core.generation + restarts plans.now) }
     ensures index { IfOk result (λ done. IsIndex done.core) }
@@ -156,17 +162,38 @@ fn play_segment<R: Threads + Wait + Sync, G: Gate>(
     requires playable { ArePlayable core plans.now }
     ensures first { IfOk result (λ done. AreFirstPlayed core plans.now done.reports.items done.core) }
     ensures some { IfOk result (λ done. 0 < length plans.now → 0 < length done.reports.items) }
+    ensures works { IfOk result (λ done. WorkOn core (take (length done.reports.items) plans.now) done.reports.items) }
     ensures opened { IfOk result (λ done. length done.reports.items < length plans.now →
         (image : Row) × IsOpenedFrom image done.core) }
 {
     let count = plain_at_first(plans);
-    let LoneRounds { mut reports, core } = play_lone(alloc, core, &plans[..count])?;
+    let LoneRounds { mut reports, core } = play_plain(alloc, core, &plans[..count])?;
     if count == plans.len() {
         return Ok(LoneRounds { reports, core });
     }
     let Restarted { report, core } = play_restart(rt, alloc, core, &plans[count], gate)?;
     reports.push(report)?;
     Ok(LoneRounds { reports, core })
+}
+
+/// Plays rounds of one caller each that no crash ends, one after another. Where there are none, the core stays as it
+/// was opened.
+fn play_plain(alloc: Global, core: Core, plans: &[RoundPlan]) -> Result<LoneRounds, NoMemory>
+    requires opened { (image : Row) × IsOpenedFrom image core }
+    requires lone { AreLoneRounds plans.now }
+    requires joined { AreJoined plans.now }
+    requires callers { All (λ plan. All (λ a. a.caller < core.layout.callers) plan.ops) plans.now }
+    requires told { All (λ plan. AreReportCalls plan.ops) plans.now }
+    requires calls { calls_in plans.now ≤ 100000 }
+    ensures { IfOk result (λ done. ArePlainPlayed core plans.now done.reports.items done.core) }
+{
+    if plans.is_empty() {
+        return Ok(LoneRounds {
+            reports: Vec::new(alloc),
+            core,
+        });
+    }
+    play_lone(alloc, core, plans)
 }
 
 /// How many rounds come before the first one behind which the index is opened again.

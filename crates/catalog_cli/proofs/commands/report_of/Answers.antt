@@ -15,6 +15,7 @@ returns-clause-report g c =
         shape = done.1;
         accepted = subst (λ (bs : List ℕ). IsAccepted c.args.layout.callers bs c.in_ok-script.script) c.deref.ensures.value c.in_ok-script.ensures.accepted;
         played = done.2;
+        works = c.in_ok-report.ensures.works;
         told = c.in_ok-text.ensures.tells;
       },
     )

@@ -1,12 +1,12 @@
 use Rattle.cat_history.specs.Maps.{map_of}
 use Rattle.cat_history.specs.Replays.{pairs_of}
 use Rattle.cat_text.specs.declared.report.RoundReport.{RoundReport}
-use Rattle.std.proofs.Common.{◌≡◌, ◌<◌, ◌≤◌, ◌^◌, ℕ, List, ap, sym, ◌∙◌, subst, arith, length}
-use Rattle.std.specs.Prelude.{All, None, true}
+use Rattle.std.proofs.Common.{◌<◌, ◌≤◌, ◌^◌, ℕ, List, ap, sym, ◌∙◌, subst, arith, length}
+use Rattle.std.specs.Prelude.{All}
 use Rattle.std.proofs.lemmas.Result.{IfOk-weaker}
 use Rattle.cat_history.specs.declared.op.CallerOp.{CallerOp}
 use Rattle.cat_history.specs.declared.plan.RoundPlan.{RoundPlan}
-use Rattle.core_rounds.specs.LoneCalls.{AreReportCalls, is_crowd}
+use Rattle.core_rounds.specs.LoneCalls.{AreReportCalls}
 use Rattle.crowd_rounds.specs.Segments.{HasBudgets}
 use Rattle.core_rounds.specs.Summaries.{IsWithin}
 use Rattle.core_rounds.proofs.Played.{each_is_reported}

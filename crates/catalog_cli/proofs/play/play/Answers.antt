@@ -1,8 +1,9 @@
-use Rattle.std.proofs.Common.{◌/◌, ap, arith, length, List, [], ◌∷◌, subst}
+use Rattle.std.proofs.Common.{◌/◌, ap, arith, length, List, [], ◌∷◌, subst, true}
 use Rattle.std.specs.FinMap.{empty}
 use Rattle.cat_history.specs.declared.plan.RoundPlan.{RoundPlan}
 use Rattle.index_law.specs.Anchors.{anchors_in}
 use Rattle.index_core.specs.Indexes.{map_of_index, world}
+use Rattle.core_rounds.specs.CrashWork.{CrashRoundsWork}
 use Rattle.core_rounds.specs.Rounds.{ArePlayed}
 use Rattle.core_rounds.specs.LoneCalls.{calls_in}
 use Rattle.core_rounds.proofs.Played.{each_is_reported}
@@ -49,3 +50,8 @@ returns-clause-played g c =
           ArePlayed c.args.layout.now.slots c.args.layout.now.nodes (c.args.layout.now.slots / 2) 0 empty ([] ∷ []) ps c.in_ok-played.played.report (map_of_index c.in_ok-played.played.core)
           (anchors_in (world c.in_ok-played.played.core))) c.as_slice.ensures done,
     )
+
+pub returns-clause-works : goal.returns-clause-works
+returns-clause-works g c =
+    subst (λ (ps : List RoundPlan). CrashRoundsWork c.args.layout.now.slots c.args.layout.now.nodes (c.args.layout.now.slots / 2) true 1 ps c.in_ok-played.played.report) c.as_slice.ensures
+    c.in_ok-played.ensures.works

@@ -93,4 +93,4 @@ returns-clause-played g c bytes is =
     let done = c.in_ok-played.ensures in
     run-ends c.args.image c.in_ok-image.image c.in_ok-core.core c.in_ok-played.played.core bytes c.in_ok-text.text.items c.args.script.now c.as_slice-plans.result.now c.in_ok-played.played.report
     c.in_ok-core.ensures.opened c.in_ok-core.ensures.openable accepted c.as_slice-plans.ensures
-    (record { played = done.played; layout = done.layout; generation = done.generation; settled = done.settled; waits = done.waits }) c.in_ok-text.ensures.tells c.in_ok-image.ensures
+    (record { played = done.played; works = done.works; layout = done.layout; generation = done.generation; settled = done.settled; waits = done.waits }) c.in_ok-text.ensures.tells c.in_ok-image.ensures

@@ -49,12 +49,12 @@ returns-in-Again-clause-stamps g c = stays_low _ _ _ _ _ c.name_alone.ensures.ru
 
 pub returns-in-Done-clause-waits : goal.returns-in-Done-clause-waits
 returns-in-Done-clause-waits g c =
-    waits_placed c.args.caller c.args.core.now c.name_alone.new.self c.args.call (whole_of c.name_alone.result) c.in-Done.placed c.requires.caller c.requires.index c.requires.quiet c.requires.calls_left (ap whole_of c.in-Done.is)
+    waits_placed c.args.caller c.args.core.now c.name_alone.new.self c.args.call (whole_of c.name_alone.result) c.in-Done.placed c.requires.caller c.requires.index c.requires.quiet.calls c.requires.calls_left (ap whole_of c.in-Done.is)
     c.name_alone.ensures.runs
 
 pub returns-in-Again-clause-err_waits : goal.returns-in-Again-clause-err_waits
 returns-in-Again-clause-err_waits g c =
-    waits_full c.args.caller c.args.core.now c.name_alone.new.self c.args.call (whole_of c.name_alone.result) c.requires.caller c.requires.index c.requires.quiet c.requires.calls_left (ap whole_of c.in-Again.is) c.name_alone.ensures.runs
+    waits_full c.args.caller c.args.core.now c.name_alone.new.self c.args.call (whole_of c.name_alone.result) c.requires.caller c.requires.index c.requires.quiet.calls c.requires.calls_left (ap whole_of c.in-Again.is) c.name_alone.ensures.runs
 
 pub returns-in-Done-clause-weighs : goal.returns-in-Done-clause-weighs
 returns-in-Done-clause-weighs g c = told_weighs c.args.core.now c.args.call c.name_alone.new.self (whole_of c.name_alone.result) c.in-Done.placed (ap whole_of c.in-Done.is) c.name_alone.ensures.runs

@@ -13,7 +13,7 @@ returns-clause-stamps g c = stays_low _ _ _ _ _ c.part_alone.ensures.runs
 
 pub returns-clause-waits : goal.returns-clause-waits
 returns-clause-waits g c changes writes puts waits =
-    waits_listed c.args.caller c.args.core.now c.part_alone.new.self c.args.low.now c.args.count (part_whole c.part_alone.result) c.requires.caller c.requires.index c.requires.quiet c.requires.calls_left c.part_alone.ensures.runs changes writes puts waits
+    waits_listed c.args.caller c.args.core.now c.part_alone.new.self c.args.low.now c.args.count (part_whole c.part_alone.result) c.requires.caller c.requires.index c.requires.quiet.calls c.requires.calls_left c.part_alone.ensures.runs changes writes puts waits
 
 pub returns-clause-weighs : goal.returns-clause-weighs
 returns-clause-weighs g c = part_weighs c.args.core.now c.args.low.now c.args.count c.part_alone.new.self (part_whole c.part_alone.result) c.part_alone.ensures.runs

@@ -3,8 +3,9 @@ use Rattle.std.proofs.lemmas.List.{length-drop, take_all}
 use Rattle.cat_history.specs.declared.plan.RoundPlan.{RoundPlan}
 use Rattle.cat_text.specs.declared.report.RoundReport.{RoundReport}
 use Rattle.core_rounds.specs.LoneCalls.{restarts}
-use Rattle.crowd_rounds.specs.Segments.{AreFirstPlayed, ArePlayable}
+use Rattle.crowd_rounds.specs.Segments.{AreFirstPlayed, ArePlayable, WorkOn}
 use Rattle.crowd_rounds.proofs.Segmenting.{all-played, goes-on, none-played, playable-left}
+use Rattle.crowd_rounds.proofs.Working.{none-work, stretches-work}
 use Rattle.crowd_rounds.proofs.playing.play_mixed.Goals as goal
 
 -- what is left of the plans
@@ -15,6 +16,7 @@ pub loop-at-init : goal.loop-at-init
 loop-at-init g c = record {
   many = sym (ap length c.new-reports.ensures.items);
   first = none-played c.requires.opened.0 c.args.core c.args.plans.now c.new-reports.result.items c.requires.opened.1 c.new-reports.ensures.items;
+  works = none-work c.args.core c.args.plans.now c.new-reports.result.items c.new-reports.ensures.items;
   opened = λ some. c.requires.opened;
 }
 
@@ -38,6 +40,10 @@ loop-at-preserved g c =
     let there : AreFirstPlayed c.loop-at.core (drop (length reports) plans) more c.in_ok-told.field-0.core =
     subst (λ (k : ℕ). AreFirstPlayed c.loop-at.core (drop k plans) more c.in_ok-told.field-0.core) was.many
     (subst (λ (ps : List RoundPlan). AreFirstPlayed c.loop-at.core ps more c.in_ok-told.field-0.core) left told.first) in
+    let works : WorkOn c.loop-at.core (take (length more) (drop (length reports) plans)) more =
+    subst (λ (k : ℕ). WorkOn c.loop-at.core (take (length more) (drop k plans)) more) was.many
+    (subst (λ (ps : List RoundPlan). WorkOn c.loop-at.core (take (length more) ps) more) left told.works) in
+    let opened = was.opened c.loop-at-test.true in
     let some = told.some (omega (arith, long, size, c.loop-at-test.true)) in
     let appended = c.in_ok-append.ensures.items in
     let count = ap length appended ∙ length-append reports more in
@@ -45,10 +51,12 @@ loop-at-preserved g c =
       many = omega (arith, was.many, count, c.len-at.ensures, c.in_ok-told.field-0.reports.ok);
       first = subst (λ (rs : List RoundReport). AreFirstPlayed c.args.core plans rs c.in_ok-told.field-0.core) (sym appended)
           (goes-on c.args.core c.loop-at.core c.in_ok-told.field-0.core plans reports more was.first there some);
+      works = subst (λ (rs : List RoundReport). WorkOn c.args.core (take (length rs) plans) rs) (sym appended)
+          (stretches-work opened.0 c.args.core c.loop-at.core plans reports more opened.1 was.first was.works works);
       opened = λ less. told.opened (omega (arith, long, size, less, c.len-at.ensures, c.in_ok-told.field-0.reports.ok));
     }
 
 pub returns : goal.returns
 returns g c =
     let was = c.loop-at.invariant in
-    all-played c.args.core c.loop-at.core c.args.plans.now c.loop-at.reports.items c.of.result was.first (omega (arith, was.many, c.loop-at-test.false)) c.of.ensures
+    all-played c.args.core c.loop-at.core c.args.plans.now c.loop-at.reports.items c.of.result was.first was.works (omega (arith, was.many, c.loop-at-test.false)) c.of.ensures

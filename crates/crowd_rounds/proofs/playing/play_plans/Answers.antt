@@ -17,6 +17,7 @@ use Rattle.core_rounds.specs.Rounds.{ArePlayed}
 use Rattle.core_rounds.proofs.Restarting.{restarts_few}
 use Rattle.core_rounds.proofs.Played.{more_pays}
 use Rattle.crowd_rounds.specs.Segments.{HasBudgets}
+use Rattle.crowd_rounds.proofs.Working.{from-one}
 use Rattle.crowd_rounds.proofs.playing.play_plans.Goals as goal
 
 -- there are more generations than rounds
@@ -44,6 +45,12 @@ returns-clause-played g c =
     IfOk-weaker c.play_rounds.result _ _
     (λ done played. from-empty c.args.layout.now c.in_ok-core.core c.args.plans.now done.report (map_of_index done.core) (anchors_in (world done.core)) fresh.opened.layout fresh.empty fresh.anchors
     fresh.weighs played) c.play_rounds.ensures.played
+
+pub returns-clause-works : goal.returns-clause-works
+returns-clause-works g c =
+    let fresh = c.in_ok-core.ensures in
+    IfOk-weaker c.play_rounds.result _ _
+    (λ done works. from-one _ c.args.layout.now c.in_ok-core.core c.args.plans.now done.report fresh.opened fresh.opened.layout fresh.anchors fresh.weighs works) c.play_rounds.ensures.works
 
 pub play_rounds-requires-clause-budgets : goal.play_rounds-requires-clause-budgets
 play_rounds-requires-clause-budgets g c κs within =

@@ -1,4 +1,4 @@
-use Rattle.std.proofs.Common.{ℕ, ◌+◌, List, sym, ◌∙◌, subst, All}
+use Rattle.std.proofs.Common.{ℕ, ◌+◌, List, true, sym, ◌∙◌, subst, All}
 use Rattle.std.proofs.lemmas.Result.{IfOk-weaker}
 use Rattle.cat_history.specs.declared.plan.RoundPlan.{RoundPlan}
 use Rattle.cat_text.specs.ReportGrammar.{IsReportRound}
@@ -8,6 +8,9 @@ use Rattle.index_core.specs.Indexes.{Index, map_of_index, world}
 use Rattle.core_rounds.specs.CoreMaps.{Waits}
 use Rattle.core_rounds.specs.Waiting.{HaveNoTurns, changes_made, puts_asked, writes_asked}
 use Rattle.core_rounds.proofs.Restarting.{joined_lone_have_no_restart}
+use Rattle.core_rounds.proofs.CrashWork.{plain_rounds_work}
+use Rattle.core_rounds.proofs.Played.{each_is_reported}
+use Rattle.crowd_rounds.specs.Segments.{WorkOn}
 use Rattle.crowd_rounds.proofs.playing.play_rounds.Goals as goal
 
 -- behind no round the index is opened again
@@ -20,6 +23,11 @@ play_lone-requires-clause-joined g c = ((joined_lone_have_no_restart c.args.plan
 pub returns-then-restarts-eq0-clause-report : goal.returns-then-restarts-eq0-clause-report
 returns-then-restarts-eq0-clause-report g c = subst (All IsReportRound) (sym c.of.ensures) c.in_ok-reports.ensures.report
 
+pub returns-then-restarts-eq0-clause-works : goal.returns-then-restarts-eq0-clause-works
+returns-then-restarts-eq0-clause-works g c =
+    subst (WorkOn c.args.core c.args.plans.now) (sym c.of.ensures)
+    (plain_rounds_work _ _ _ _ true c.args.plans.now c.in_ok-reports.field-0.reports.items (sym c.restarts.ensures ∙ c.if-restarts-eq0.true) (each_is_reported _ _ _ _ _ _ _ _ _ _ c.in_ok-reports.ensures.played))
+
 -- what joined rounds of one caller leave to the updater
 abbrev LeavesWaiting : Index → Index → List RoundPlan → List RoundReport → Type 0
 LeavesWaiting s s' plans reports = HaveNoTurns plans → (changes lines puts : ℕ) → Waits s changes (lines + writes_asked plans) (puts + puts_asked plans) →
@@ -31,6 +39,9 @@ returns-then-restarts-eq0-clause-waits g c lone joined =
 
 pub returns-clause-settled : goal.returns-clause-settled
 returns-clause-settled g c = IfOk-weaker c.play_mixed.result _ _ (λ done all. all.settled) c.play_mixed.ensures
+
+pub returns-clause-works : goal.returns-clause-works
+returns-clause-works g c = IfOk-weaker c.play_mixed.result _ _ (λ done all. all.works) c.play_mixed.ensures
 
 -- behind some round it is
 pub returns-clause-waits : goal.returns-clause-waits

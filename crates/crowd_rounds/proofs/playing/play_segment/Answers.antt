@@ -8,66 +8,40 @@ use Rattle.core_rounds.proofs.Restarting.{joined_lone_have_no_restart}
 use Rattle.core_rounds.specs.CoreMaps.{calls_left_of}
 use Rattle.core_rounds.specs.LoneCalls.{AreReportCalls, has_restart}
 use Rattle.crowd_rounds.specs.Segments.{HasBudgets}
-use Rattle.crowd_rounds.proofs.Segmenting.{LoneDone, as-many, calls-before, next-there, plain-first, plain-then-restart}
-use Rattle.crowd_rounds.proofs.playing.play_segment.Goals.{Then-count-plans, After-index-plans-count, In_ok-push}
+use Rattle.crowd_rounds.proofs.Segmenting.{as-many, calls-before, next-there, plain-first, plain-then-restart}
+use Rattle.crowd_rounds.proofs.Working.{plain-works, stretch-works}
+use Rattle.crowd_rounds.proofs.playing.play_segment.Goals.{After-index-plans-count}
 use Rattle.crowd_rounds.proofs.playing.play_segment.Goals as goal
 
--- the joined rounds of one caller, where they are all, and where one more is behind them
-all-done : (g : _) (c : Then-count-plans g) → LoneDone c.args.core (take c.plain_at_first-count.result c.args.plans.now) c.in_ok-reports.field-0.reports.items c.in_ok-reports.field-0.core
-all-done g c =
-    let told = c.in_ok-reports.ensures in
-    record {
-      played = told.played;
-      told = told.report;
-      weighs = told.weighs;
-      names = told.names;
-      layout = told.layout;
-      generation = told.generation;
-      index = told.index;
-      quiet = told.quiet;
-      settled = told.settled;
-    }
-
-first-done : (g : _) (c : In_ok-push g) → LoneDone c.args.core (take c.plain_at_first-count.result c.args.plans.now) c.in_ok-reports.field-0.reports.items c.in_ok-reports.field-0.core
-first-done g c =
-    let told = c.in_ok-reports.ensures in
-    record {
-      played = told.played;
-      told = told.report;
-      weighs = told.weighs;
-      names = told.names;
-      layout = told.layout;
-      generation = told.generation;
-      index = told.index;
-      quiet = told.quiet;
-      settled = told.settled;
-    }
-
 -- they are of one caller each, and joined
-pub play_lone-requires-clause-lone : goal.play_lone-requires-clause-lone
-play_lone-requires-clause-lone g c = ((joined_lone_have_no_restart (take c.plain_at_first-count.result c.args.plans.now)).1 c.plain_at_first-count.ensures.none).0
+pub play_plain-requires-clause-lone : goal.play_plain-requires-clause-lone
+play_plain-requires-clause-lone g c = ((joined_lone_have_no_restart (take c.plain_at_first-count.result c.args.plans.now)).1 c.plain_at_first-count.ensures.none).0
 
-pub play_lone-requires-clause-joined : goal.play_lone-requires-clause-joined
-play_lone-requires-clause-joined g c = ((joined_lone_have_no_restart (take c.plain_at_first-count.result c.args.plans.now)).1 c.plain_at_first-count.ensures.none).1
+pub play_plain-requires-clause-joined : goal.play_plain-requires-clause-joined
+play_plain-requires-clause-joined g c = ((joined_lone_have_no_restart (take c.plain_at_first-count.result c.args.plans.now)).1 c.plain_at_first-count.ensures.none).1
 
-pub play_lone-requires-clause-callers : goal.play_lone-requires-clause-callers
-play_lone-requires-clause-callers g c = All-take (λ (p : RoundPlan). All (λ (a : CallerOp). a.caller < c.args.core.layout.callers) p.ops) c.plain_at_first-count.result c.args.plans.now c.requires.playable.callers
+pub play_plain-requires-clause-callers : goal.play_plain-requires-clause-callers
+play_plain-requires-clause-callers g c = All-take (λ (p : RoundPlan). All (λ (a : CallerOp). a.caller < c.args.core.layout.callers) p.ops) c.plain_at_first-count.result c.args.plans.now c.requires.playable.callers
 
-pub play_lone-requires-clause-told : goal.play_lone-requires-clause-told
-play_lone-requires-clause-told g c = All-take (λ (p : RoundPlan). AreReportCalls p.ops) c.plain_at_first-count.result c.args.plans.now c.requires.playable.told
+pub play_plain-requires-clause-told : goal.play_plain-requires-clause-told
+play_plain-requires-clause-told g c = All-take (λ (p : RoundPlan). AreReportCalls p.ops) c.plain_at_first-count.result c.args.plans.now c.requires.playable.told
 
 pub returns-then-count-plans-clause-first : goal.returns-then-count-plans-clause-first
 returns-then-count-plans-clause-first g c =
-    plain-first c.args.core c.in_ok-reports.field-0.core c.args.plans.now c.plain_at_first-count.result c.in_ok-reports.field-0.reports.items (all-done g c) c.plain_at_first-count.ensures
+    plain-first c.args.core c.in_ok-reports.field-0.core c.args.plans.now c.plain_at_first-count.result c.in_ok-reports.field-0.reports.items c.in_ok-reports.ensures c.plain_at_first-count.ensures
 
 pub returns-then-count-plans-clause-some : goal.returns-then-count-plans-clause-some
 returns-then-count-plans-clause-some g c some =
-    let many = as-many c.args.core c.in_ok-reports.field-0.core c.args.plans.now c.plain_at_first-count.result c.in_ok-reports.field-0.reports.items (all-done g c) c.plain_at_first-count.ensures.few in
+    let many = as-many c.args.core c.in_ok-reports.field-0.core c.args.plans.now c.plain_at_first-count.result c.in_ok-reports.field-0.reports.items c.in_ok-reports.ensures c.plain_at_first-count.ensures.few in
     omega (arith, many, some, c.if-count-plans.true)
+
+pub returns-then-count-plans-clause-works : goal.returns-then-count-plans-clause-works
+returns-then-count-plans-clause-works g c =
+    plain-works c.args.core c.in_ok-reports.field-0.core c.args.plans.now c.plain_at_first-count.result c.in_ok-reports.field-0.reports.items c.in_ok-reports.ensures c.plain_at_first-count.ensures
 
 pub returns-then-count-plans-clause-opened : goal.returns-then-count-plans-clause-opened
 returns-then-count-plans-clause-opened g c less =
-    let many = as-many c.args.core c.in_ok-reports.field-0.core c.args.plans.now c.plain_at_first-count.result c.in_ok-reports.field-0.reports.items (all-done g c) c.plain_at_first-count.ensures.few in
+    let many = as-many c.args.core c.in_ok-reports.field-0.core c.args.plans.now c.plain_at_first-count.result c.in_ok-reports.field-0.reports.items c.in_ok-reports.ensures c.plain_at_first-count.ensures.few in
     absurd (omega (arith, many, less, c.if-count-plans.true))
 
 -- some are left
@@ -112,5 +86,13 @@ returns-clause-first g c =
     let few = c.plain_at_first-count.ensures.few in
     let other = c.if-count-plans.false in
     plain-then-restart c.args.core c.in_ok-reports.field-0.core c.in_ok-report.field-0.core c.args.plans.now c.plain_at_first-count.result c.in_ok-reports.field-0.reports.items c.push.new.self.items
-    c.index-plans-count.result c.in_ok-report.field-0.report (first-done g c) c.plain_at_first-count.ensures (omega (arith, few, other)) c.index-plans-count.is c.in_ok-report.ensures
+    c.index-plans-count.result c.in_ok-report.field-0.report c.in_ok-reports.ensures c.plain_at_first-count.ensures (omega (arith, few, other)) c.index-plans-count.is c.in_ok-report.ensures
     c.in_ok-push.ensures.items
+
+pub returns-clause-works : goal.returns-clause-works
+returns-clause-works g c =
+    let few = c.plain_at_first-count.ensures.few in
+    let other = c.if-count-plans.false in
+    stretch-works c.requires.opened.0 c.args.core c.in_ok-reports.field-0.core c.in_ok-report.field-0.core c.args.plans.now c.plain_at_first-count.result c.in_ok-reports.field-0.reports.items c.push.new.self.items
+    c.index-plans-count.result c.in_ok-report.field-0.report c.requires.opened.1 c.in_ok-reports.ensures c.plain_at_first-count.ensures (omega (arith, few, other)) c.index-plans-count.is
+    c.in_ok-report.ensures c.in_ok-push.ensures.items
