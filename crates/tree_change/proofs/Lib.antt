@@ -1,0 +1,10 @@
+pub mod Telling
+pub mod CountStays
+pub mod CountExact
+pub mod CountedLaw
+pub mod PlacesExact
+pub mod FinishStays
+pub mod FinishTurns
+pub mod EndingLaw
+pub mod AddsBegin
+pub mod BeginLaw

@@ -1,0 +1,35 @@
+-- What a machine answers, by what it knows along its turns.
+use Rattle.std.proofs.Common.{◌≡◌, ℕ, zero, suc, ◌<◌, refl, ap, ◌∙◌, arith}
+use Rattle.std.specs.Prelude.{IsSomeAnd}
+use Rattle.pm_words.specs.declared.machine.Turn.{Turn}
+use Rattle.pm_words.specs.declared.machine.Turn.TheVariants.{Go, Done}
+use Rattle.tree_change.specs.Telling.{turn_answer, answer_in}
+
+module _ {M A : Type 0} (turn : M → Turn M A) (Knows : M → Type 0) (left : M → ℕ) (IsRight : A → Type 0) where
+  -- it knows as much, and has fewer turns left; or has answered right
+  abbrev pub GoesOn : ℕ → Turn M A → Type 0
+  GoesOn bound (Go machine) = Knows machine × (left machine < bound)
+  GoesOn bound (Done answer) = IsRight answer
+
+  on : (times bound : ℕ) → ((machine : M) → Knows machine → left machine < bound → IsSomeAnd (answer_in times turn machine) IsRight) → (t : Turn M A) → GoesOn bound t → IsSomeAnd (turn_answer t (answer_in times turn)) IsRight
+  on times bound inner (Go machine) goes = inner machine goes.0 goes.1
+  on times bound inner (Done answer) goes = goes
+
+  pub answers_right : ((machine : M) → Knows machine → GoesOn (left machine) (turn machine)) → (times : ℕ) (machine : M) → Knows machine → left machine < times → IsSomeAnd (answer_in times turn machine) IsRight
+  answers_right step zero machine knows less = absurd (omega arith)
+  answers_right step (suc times) machine knows less =
+      on times (left machine) (λ next known fewer. answers_right step times next known (omega arith)) (turn machine) (step machine knows)
+
+-- A machine that hands on the turns of its scan answers what that answers.
+module _ {M S A : Type 0} (turn : M → Turn M A) (scan : S → Turn S A) (make : S → M) where
+  abbrev pub made : Turn S A → Turn M A
+  made (Go next) = Go (make next)
+  made (Done answer) = Done answer
+
+  goes_as : (times : ℕ) → ((next : S) → answer_in times turn (make next) ≡ answer_in times scan next) → (t : Turn S A) → turn_answer (made t) (answer_in times turn) ≡ turn_answer t (answer_in times scan)
+  goes_as times inner (Go next) = inner next
+  goes_as times inner (Done answer) = refl
+
+  pub answers_as : ((s : S) → turn (make s) ≡ made (scan s)) → (times : ℕ) (s : S) → answer_in times turn (make s) ≡ answer_in times scan s
+  answers_as same zero s = refl
+  answers_as same (suc times) s = ap (λ t. turn_answer t (answer_in times turn)) (same s) ∙ goes_as times (λ next. answers_as same times next) (scan s)

@@ -1,0 +1,9 @@
+pub mod Telling
+pub mod Others
+pub mod Counts
+pub mod Counted
+pub mod Rooms
+pub mod FindRooms
+pub mod Finishes
+pub mod Endings
+pub mod Begins
