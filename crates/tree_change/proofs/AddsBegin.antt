@@ -1,6 +1,6 @@
 -- The stores by which a leaf comes into a cell that has room, where a change may begin its end.
-use Rattle.std.proofs.Common.{◌≡◌, ◌≢◌, ℕ, ◌+◌, ◌/◌, ◌%◌, ◌^◌, ◌<◌, cond, inl, inr, Some, sym, subst, ap, ◌∙◌, arith}
-use Rattle.std.proofs.lemmas.Bool.{cases_eq, eq-eqb, ne_eqb}
+use Rattle.std.proofs.Common.{◌≡◌, ◌≢◌, ℕ, ◌+◌, ◌/◌, ◌%◌, ◌^◌, ◌<◌, inl, inr, Some, sym, subst, ap, ◌∙◌, arith}
+use Rattle.std.proofs.lemmas.Bool.{cases_eq}
 use Rattle.cat_key.specs.declared.TheConstants.{WORDS}
 use Rattle.radix_nodes.specs.Bytes.{byte_set}
 use Rattle.radix_nodes.specs.Cells.{CellWords, children, IsForm, index_of}
@@ -16,20 +16,11 @@ use Rattle.tree_law.proofs.PathLaw.{comes_place}
 use Rattle.tree_law.proofs.WordLaw.{cell_apart, depth_kept, prefix_kept, child_kept, head_kept, leaf_key}
 use Rattle.tree_law.proofs.ChangeLaw.{set_adds}
 use Rattle.tree_floor.proofs.FloorExact.{reference_some}
+use Rattle.tree_look.proofs.LookExact.{cells_same}
 use Rattle.tree_look.proofs.EndLaw.{leaf_is_added}
 use Rattle.tree_change.specs.declared.finish.Target.TheVariants as target
 use Rattle.tree_change.specs.Rooms.{AddBegins, QuietBegins}
 use Rattle.tree_change.proofs.EndingLaw.{switch_begins}
-
--- a store into a cell, by its words
-pub cells_same : (w w' : LayerWords) (x o z : ℕ) → Stored w w' (CellWord (kind_of x) (number_of x) o) z → with_word (cell_in w x) o z ≡ cell_in w' x
-cells_same w w' x o z stored = λ k p. pointwise p k
-  where
-    pointwise : (p : ℕ) → with_word (cell_in w x) o z p ≡ cell_in w' x p
-    pointwise p = elim (cases_eq p o) [
-      | inl same ↦ ap (λ a. cond a z (cell_in w x p)) (eq-eqb p o same) ∙ sym stored.here ∙ ap (cell_in w' x) (sym same)
-      | inr apart ↦ ap (λ a. cond a z (cell_in w x p)) (ne_eqb p o apart) ∙ sym (stored.others (CellWord (kind_of x) (number_of x) p) (λ e. apart (let is : p ≡ o = cc in is)))
-    ]
 
 pub add_begins : AddBegins
 add_begins count nodes before w key node cell depth leaf offset word reference spot same lawful found filled is store =

@@ -1,19 +1,23 @@
 -- From what the machines have found to where the end of a change may begin.
-use Rattle.std.proofs.Common.{◌≡◌, ◌≢◌, ℕ, ◌+◌, ◌-◌, ◌^◌, ◌==◌, true, false, cond, Some, None, refl, subst}
+use Rattle.std.proofs.Common.{◌≡◌, ◌≢◌, ℕ, ◌+◌, ◌-◌, ◌/◌, ◌%◌, ◌^◌, ◌<◌, ◌==◌, true, false, cond, Some, None, refl, sym, subst, ap, ◌∙◌}
 use Rattle.cat_key.specs.declared.TheConstants.{WORDS}
-use Rattle.radix_nodes.specs.Changes.{IsCellStore}
-use Rattle.tree_law.specs.Trees.{Cell, IsReached}
+use Rattle.radix_nodes.specs.Bytes.{byte_set}
+use Rattle.radix_nodes.specs.Cells.{children, IsForm, index_of}
+use Rattle.radix_nodes.specs.Changes.{with_word, IsCellStore}
+use Rattle.radix_nodes.proofs.IndexForm.{child_none, index_goes}
+use Rattle.tree_law.specs.Trees.{Nothing, Leaf, Cell, IsReached}
 use Rattle.tree_law.specs.Switches.{Place, Root, Entry}
-use Rattle.tree_law.specs.Words.{RootWord, CellWord, LayerWords, kind_of, number_of, cell_in, tree_of, Stored}
+use Rattle.tree_law.specs.Words.{RootWord, CellWord, LayerWords, kind_of, number_of, reference_of, cell_in, tree_of, Stored}
 use Rattle.tree_law.specs.Words as words
+use Rattle.tree_law.proofs.Spans.{byte_small}
 use Rattle.tree_law.proofs.PathLaw.{comes_place}
 use Rattle.tree_look.specs.declared.look.Spot.{Spot}
 use Rattle.tree_look.specs.LookLaws.{spot_word, IsOuter, in_cell, IsHeld}
-use Rattle.tree_look.proofs.EndLaw.{key_is_set, cell_is_grown, pair_is_made, leaf_is_removed, cell_is_collapsed}
+use Rattle.tree_look.proofs.LookExact.{cells_same}
+use Rattle.tree_look.proofs.EndLaw.{entry_of, key_is_set, cell_is_grown, pair_is_made, leaf_is_removed, cell_is_collapsed}
 use Rattle.tree_change.specs.declared.finish.Target.TheVariants as target
 use Rattle.tree_change.specs.Endings.{target_word}
-use Rattle.tree_change.specs.Begins.{spot_target, SetBegins, PairBegins, GrowBegins, RemoveBegins, CollapseBegins}
-use Rattle.tree_change.proofs.AddsBegin.{cells_same}
+use Rattle.tree_change.specs.Begins.{ClearBegins, UnindexBegins, spot_target, SetBegins, PairBegins, GrowBegins, RemoveBegins, CollapseBegins}
 use Rattle.tree_change.proofs.CountedLaw.{two_are_more, one_is_more}
 use Rattle.tree_change.proofs.EndingLaw.{switch_begins}
 
@@ -53,3 +57,24 @@ remove_begins count nodes before w key leaf b offset word outer inner keeps foun
     switch_begins count nodes before w (target.Cell inner.cell offset) word key None keeps.same (λ w' stored.
     leaf_is_removed count nodes w w' key leaf b outer inner keeps.lawful found not_root byte (two_are_more w inner.cell b two)
     (words.in_cell stored (subst (λ c'. IsCellStore (kind_of inner.cell) (cell_in w inner.cell) c' b 0) (cells_same w w' inner.cell offset word stored) store)))
+
+pub clear_begins : ClearBegins
+clear_begins count nodes before w key leaf b outer inner keeps found not_root byte plain two =
+    let entry = entry_of w key leaf b outer inner found.1.0 found.1.1 found.1.2 found.2 not_root byte in
+    switch_begins count nodes before w (spot_target inner) 0 key None keeps.same (λ w' stored.
+    leaf_is_removed count nodes w w' key leaf b outer inner keeps.lawful found not_root byte (two_are_more w inner.cell b two)
+    (found.1.1.clears inner.cell b entry.here plain w' (at_spot w w' inner 0 stored)))
+
+pub unindex_begins : UnindexBegins
+unindex_begins count nodes before w key leaf b index outer inner keeps found not_root byte four is two =
+    let c = cell_in w inner.cell in
+    let entry = entry_of w key leaf b outer inner found.1.0 found.1.1 found.1.2 found.2 not_root byte in
+    let small : b < 256 = subst (λ k. k < 256) (sym byte) (byte_small ((tree_of w).depth inner.cell) key) in
+    let form : IsForm 4 c = subst (λ k. IsForm k c) four (keeps.lawful.forms inner.cell entry.reached) in
+    let some_index : index_of c b ≢ 0 = λ none.
+    let no_child : (tree_of w).child inner.cell b ≡ Nothing = ap (λ k. reference_of (children k c b)) four ∙ ap reference_of (child_none c b small none) in
+    let wrong : Nothing ≡ Leaf leaf = sym no_child ∙ entry.leaf_is in
+    cc in
+    let goes : IsCellStore 4 c (with_word c (8 + b / 8) (byte_set index (b % 8) 0)) b 0 = subst (λ v. IsCellStore 4 c (with_word c (8 + b / 8) (byte_set v (b % 8) 0)) b 0) (sym is) (index_goes c b form small some_index) in
+    remove_begins count nodes before w key leaf b (8 + b / 8) (byte_set index (b % 8) 0) outer inner keeps found not_root byte two
+    (subst (λ k. IsCellStore k c (with_word c (8 + b / 8) (byte_set index (b % 8) 0)) b 0) (sym four) goes)

@@ -1,7 +1,7 @@
 -- What a count of other children says of the tree.
 use Rattle.std.proofs.Common.{◌≡◌, ◌≢◌, ℕ, ◌/◌, ◌^◌, ◌<◌, ◌≤◌, ◌&&◌, cond, ltb, leb, inl, inr, sym, subst, ap, ap₂, ◌∙◌, arith}
-use Rattle.std.proofs.lemmas.Bool.{cases_lt, ne_eqb, leb-true, and_parts}
-use Rattle.radix_nodes.specs.Cells.{children}
+use Rattle.std.proofs.lemmas.Bool.{cases_eq, ne_eqb, leb-true, and_parts}
+use Rattle.radix_nodes.specs.Cells.{children, IsReference}
 use Rattle.tree_law.specs.Trees.{Nothing, Leaf, Cell, here, IsReached, IsSound}
 use Rattle.tree_law.specs.Switches.{Entry}
 use Rattle.tree_law.specs.Words.{LayerWords, kind_of, number_of, reference_of, cell_in, tree_of, room_of}
@@ -20,19 +20,23 @@ two_are_more w cell b two = record {
   has_two = reference_some (children (kind_of cell) (cell_in w cell) two.two) two.has_two;
 }
 
--- a reference in order is small
-pub reference_small : (count nodes : ℕ) (w : LayerWords) (r : ℕ) → r ≢ 0 → IsSound (room_of count nodes) (tree_of w) (reference_of r) → r < 2 ^ 32
-reference_small count nodes w r some_reference sound = elim (cases_lt r (2 ^ 32)) [
-  | inl small ↦ small
-  | inr big ↦
-      let more : 2 ^ 16 ≤ r / 2 ^ 16 = omega arith in
-      let is : reference_of r ≡ Cell r = ap₂ (λ a b. cond a Nothing (cond b (Leaf (number_of r)) (Cell r))) (ne_eqb r 0 some_reference) (ne_eqb (kind_of r) 1 (λ e. omega arith)) in
+-- a reference in order is that of a leaf or a cell
+pub reference_sound : (count nodes : ℕ) (w : LayerWords) (r : ℕ) → r ≢ 0 → IsSound (room_of count nodes) (tree_of w) (reference_of r) → IsReference r
+reference_sound count nodes w r some_reference sound = elim (cases_eq (kind_of r) 1) [
+  | inl one ↦ (omega arith, omega arith)
+  | inr other ↦
+      let is : reference_of r ≡ Cell r = ap₂ (λ a b. cond a Nothing (cond b (Leaf (number_of r)) (Cell r))) (ne_eqb r 0 some_reference) (ne_eqb (kind_of r) 1 other) in
       let cell = subst (IsSound (room_of count nodes) (tree_of w)) is sound in
       let parts = and_parts (leb 2 (kind_of r) && leb (kind_of r) 5) (ltb (number_of r) count) cell.number in
       let kinds = and_parts (leb 2 (kind_of r)) (leb (kind_of r) 5) parts.0 in
+      let least : 2 ≤ r / 2 ^ 16 = leb-true _ _ kinds.0 in
       let most : r / 2 ^ 16 ≤ 5 = leb-true _ _ kinds.1 in
-      absurd (omega arith)
+      (omega arith, omega arith)
 ]
+
+-- and small
+pub reference_small : (count nodes : ℕ) (w : LayerWords) (r : ℕ) → r ≢ 0 → IsSound (room_of count nodes) (tree_of w) (reference_of r) → r < 2 ^ 32
+reference_small count nodes w r some_reference sound = let is = reference_sound count nodes w r some_reference sound in omega arith
 
 pub one_is_more : OneIsMore
 one_is_more count nodes w cell b reference lawful reached one =

@@ -46,7 +46,7 @@ fence_has l (target.Cell cell offset) word fence_at.Load got small = refl
 fence_has l (target.Cell cell offset) word (fence_at.Drain y) got small = refl
 
 module _ (f : Finish) (is : IsFinish f) where
-  has_effect : (part : FinishAt) (got : ℕ) → IsFinishAt f.layout part → HasEffect f.layout (finish_at_asks f part) (effect_at f part got)
+  pub has_effect : (part : FinishAt) (got : ℕ) → IsFinishAt f.layout part → HasEffect f.layout (finish_at_asks f part) (effect_at f part got)
   has_effect at.Quiet got here = store_effect f.layout f.quiet.target f.quiet.word
   has_effect (at.QuietFence fence) got here = fence_has f.layout f.quiet.target fence.word fence.at got here.word
   has_effect at.Switch got here = store_effect f.layout f.switch.target f.switch.word

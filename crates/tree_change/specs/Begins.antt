@@ -1,6 +1,7 @@
 -- From what the machines have found to where the end of a change may begin.
-use Rattle.std.specs.Prelude.{◌≡◌, ◌≢◌, ℕ, ◌+◌, ◌-◌, ◌^◌, ◌<◌, ◌≤◌, ◌==◌, if◌then◌else◌, Some, None}
+use Rattle.std.specs.Prelude.{◌≡◌, ◌≢◌, ℕ, ◌+◌, ◌-◌, ◌/◌, ◌%◌, ◌^◌, ◌<◌, ◌≤◌, ◌==◌, if◌then◌else◌, Some, None}
 use Rattle.cat_key.specs.declared.TheConstants.{WORDS}
+use Rattle.radix_nodes.specs.Bytes.{byte_set}
 use Rattle.radix_nodes.specs.Cells.{children}
 use Rattle.radix_nodes.specs.Changes.{with_word, IsCellStore, HasTwoMore, IsOneMore}
 use Rattle.search_layer.specs.Layers.{Layer, changed_at}
@@ -49,6 +50,21 @@ RemoveBegins = (count nodes : ℕ) (before : Layer) (w : LayerWords) (key leaf b
     HasTwoMore (children (kind_of inner.cell) (cell_in w inner.cell)) b →
     IsCellStore (kind_of inner.cell) (cell_in w inner.cell) (with_word (cell_in w inner.cell) offset word) b 0 →
     Switches count nodes (changed_at before key None) w (target.Cell inner.cell offset) word
+
+-- That store: a 0 into the leaf's spot; or, in a cell with an index, a 0 into the byte's place there.
+abbrev pub ClearBegins : Type 0
+ClearBegins = (count nodes : ℕ) (before : Layer) (w : LayerWords) (key leaf b : ℕ) (outer inner : Spot) →
+    Keeps count nodes before w → (found : IsLooked w key (looked.Key outer inner leaf)) → found.1.0 ≢ Root →
+    b ≡ byte_at ((tree_of w).depth inner.cell) key → kind_of inner.cell ≢ 4 →
+    HasTwoMore (children (kind_of inner.cell) (cell_in w inner.cell)) b →
+    Switches count nodes (changed_at before key None) w (spot_target inner) 0
+
+abbrev pub UnindexBegins : Type 0
+UnindexBegins = (count nodes : ℕ) (before : Layer) (w : LayerWords) (key leaf b index : ℕ) (outer inner : Spot) →
+    Keeps count nodes before w → (found : IsLooked w key (looked.Key outer inner leaf)) → found.1.0 ≢ Root →
+    b ≡ byte_at ((tree_of w).depth inner.cell) key → kind_of inner.cell ≡ 4 → index ≡ cell_in w inner.cell (8 + b / 8) →
+    HasTwoMore (children (kind_of inner.cell) (cell_in w inner.cell)) b →
+    Switches count nodes (changed_at before key None) w (target.Cell inner.cell (8 + b / 8)) (byte_set index (b % 8) 0)
 
 -- An unset that collapses: from a count of one.
 abbrev pub CollapseBegins : Type 0

@@ -30,12 +30,11 @@ line_image target.Root word = Root word
 line_image (target.Leaf leaf offset) word = Leaf leaf word
 line_image (target.Cell cell offset) word = Cell (kind_of cell) (number_of cell) (line_of offset + word)
 
--- it is in range, with its line
+-- it is in range, and so is its line
 abbrev pub IsTarget : Layout → Target → Type 0
 IsTarget l target.Root = Unit {0}
 IsTarget l (target.Leaf leaf offset) = (leaf < leaf_count l) × (offset < 8)
-IsTarget l (target.Cell cell offset) =
-    IsCellOf l cell × (offset < kind_words (kind_of cell)) × (line_of offset + 8 ≤ kind_words (kind_of cell))
+IsTarget l (target.Cell cell offset) = IsCellOf l cell × (offset < kind_words (kind_of cell))
 
 -- of a leaf or a cell that may have a mark
 pub record IsMarked (l : Layout) (reference : ℕ) : Type 0 where

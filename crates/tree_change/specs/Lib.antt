@@ -4,6 +4,13 @@ pub mod Counts
 pub mod Counted
 pub mod Rooms
 pub mod FindRooms
+pub mod Takes
 pub mod Finishes
 pub mod Endings
+pub mod Fillings
 pub mod Begins
+pub mod Filled
+pub mod Reads
+pub mod Acts
+pub mod RowSteps
+pub mod MarkSteps

@@ -9,7 +9,8 @@ use Rattle.tree_floor.specs.declared.scan.Scan.{Scan}
 use Rattle.tree_floor.specs.declared.scan.Scan.TheVariants as scan
 use Rattle.tree_floor.specs.Scans.{scan_offset, IsScan, first_entry, entry_count}
 use Rattle.tree_law.specs.Words.{kind_of}
-use Rattle.tree_floor.specs.Floors.{floor_word, IsFloorAt, HasLayerWord, FloorOnlyLoads}
+use Rattle.tree_row.specs.Rows.{HasLayerWord}
+use Rattle.tree_floor.specs.Floors.{floor_word, IsFloorAt, FloorOnlyLoads}
 
 -- a kind that is one of the four
 by_kind : (P : ℕ → Type 0) (kind : ℕ) → 2 ≤ kind → kind ≤ 5 → P 2 → P 3 → P 4 → P 5 → P kind
@@ -39,7 +40,7 @@ pub floor_only_loads : FloorOnlyLoads
 floor_only_loads f is = go f.at is.here
   where
     go : (part : FloorAt) → IsFloorAt f.layout f.least f.last part → HasLayerWord f.layout (floor_word part)
-    go at.Root here = tt
+    go at.Root here = let first : 0 < 8 = omega arith in first
     go (at.Key leaf words word) here = (here.0, (let within : word < WORDS = here.3 in omega arith))
     go (at.Node leaf) here = (here, omega arith)
     go (at.Depth cell) here = (here.low, here.high, here.number, head_within (kind_of cell) 0 here.low here.high (omega arith))

@@ -96,7 +96,7 @@ module _ (depth n : ℕ) (within : depth < key_bytes) where
       let right = first_next at n (omega arith) in
       omega arith
 
-  byte_behind : (at : ℕ) → depth ≤ at → at < key_bytes → byte_at at prefix ≡ 0
+  pub byte_behind : (at : ℕ) → depth ≤ at → at < key_bytes → byte_at at prefix ≡ 0
   byte_behind at le lt =
       let parts : span depth ≡ times depth (at + 1) * span (at + 1) = span_times depth (at + 1) (omega arith) (omega arith) in
       let f = first_bytes depth n in

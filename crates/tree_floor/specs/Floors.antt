@@ -8,13 +8,14 @@ use Rattle.pm_words.specs.declared.action.Action.TheVariants.{Load}
 use Rattle.pm_words.specs.declared.machine.Turn.{Turn}
 use Rattle.pm_words.specs.declared.machine.Turn.TheVariants.{Go, Done}
 use Rattle.pm_words.specs.Layouts.{IsLayout}
-use Rattle.pm_words.specs.Locations.{Root, Leaf, Cell, Cached, address_of, leaf_count, kind_words}
+use Rattle.pm_words.specs.Locations.{leaf_count}
 use Rattle.cat_key.specs.declared.TheConstants.{WORDS}
 use Rattle.radix_nodes.specs.Keys.{key_bytes}
 use Rattle.tree_law.specs.Trees.{span, first_bytes, byte_at, way_length}
 use Rattle.tree_law.specs.Words.{LayerWord, RootWord, LeafWord, CellWord, LayerWords, word_in, kind_of, number_of}
 use Rattle.tree_law.specs.Words.{IsLawful, layer_of}
 use Rattle.search_layer.specs.Layers.{IsFloorOf}
+use Rattle.tree_row.specs.Rows.{layer_address, HasLayerWord}
 use Rattle.tree_law.specs.FloorWalks.{node_told}
 use Rattle.tree_floor.specs.declared.floor.Floor.{Floor}
 use Rattle.tree_floor.specs.declared.floor.FloorAt.{FloorAt}
@@ -23,12 +24,6 @@ use Rattle.tree_floor.specs.declared.scan.Scanned.{Scanned}
 use Rattle.tree_floor.specs.declared.scan.Scanned.TheVariants.{More, Found}
 use Rattle.tree_floor.specs.Scans.{scan_starts, scan_offset, scan_told, IsScan, scan_left}
 use Rattle.tree_floor.specs.Keys.{number_in, IsKey}
-
--- the address of a word of the layer
-abbrev pub layer_address : Layout → LayerWord → ℕ
-layer_address l RootWord = address_of l (Cached (Root 0))
-layer_address l (LeafWord i o) = address_of l (Cached (Leaf i o))
-layer_address l (CellWord kind n o) = address_of l (Cached (Cell kind n o))
 
 abbrev pub cell_word : ℕ → ℕ → LayerWord
 cell_word cell offset = CellWord (kind_of cell) (number_of cell) offset
@@ -214,12 +209,6 @@ FloorIsExact = (l : Layout) (key : List ℕ) (w : LayerWords) (times : ℕ) → 
     ((p : LayerWord) → word_in w p < 2 ^ 64) → IsLawful (leaf_count l) l.nodes w →
     IsSomeAnd (answer_from times w (floor_starts l key)) (λ node. IsFloorOf (layer_of w) (number_in key) node)
 
--- the words of the layer that a row of this layout has
-abbrev pub HasLayerWord : Layout → LayerWord → Type 0
-HasLayerWord l RootWord = Unit {0}
-HasLayerWord l (LeafWord i o) = (i < leaf_count l) × (o < 8)
-HasLayerWord l (CellWord kind n o) = (2 ≤ kind) × (kind ≤ 5) × (n < leaf_count l) × (o < kind_words kind)
-
--- It only loads such words.
+-- It only loads words of the layer that a row of its layout has.
 abbrev pub FloorOnlyLoads : Type 0
 FloorOnlyLoads = (floor : Floor) → IsFloor floor → HasLayerWord floor.layout (floor_word floor.at)

@@ -14,3 +14,6 @@ pub mod WalkLaw
 pub mod FreshLaw
 pub mod ChangeLaw
 pub mod LeafLaw
+pub mod ReachedLaw
+pub mod MarkingLaw
+pub mod MarksSet

@@ -20,10 +20,10 @@ leaf_end t i q reach = from_leaf t i (Leaf i) q refl reach
 leaf_sound : (room : Room) (t : Tree) (i : ℕ) → IsLeaf room t i → IsSoundFrom room t (Leaf i)
 leaf_sound room t i leaf q reach = subst (IsSound room t) (sym (leaf_end t i q reach)) leaf
 
-some_leaf : (i : ℕ) → Leaf i ≢ Nothing
+pub some_leaf : (i : ℕ) → Leaf i ≢ Nothing
 some_leaf i e = cc
 
-some_cell : (x : ℕ) → Cell x ≢ Nothing
+pub some_cell : (x : ℕ) → Cell x ≢ Nothing
 some_cell x e = cc
 
 pub add_makes : AddMakes
@@ -148,7 +148,7 @@ grow_makes room t root child place x grown b leaf tree grows is =
       | inr rest ↦ elim rest [ inl at_leaf ↦ inr (let number : i ≡ leaf = cc in number) | inr on ↦ inl (subst (λ r. Reaches t r (Leaf i)) (sym grows.old) (below on.some_child on.reach)) ]
     ])
 
-from_nothing : (t : Tree) (r q : Reference) → r ≡ Nothing → Reaches t r q → q ≡ Nothing
+pub from_nothing : (t : Tree) (r q : Reference) → r ≡ Nothing → Reaches t r q → q ≡ Nothing
 from_nothing t r q from here = from
 from_nothing t r q from (below some_child reach) = absurd cc
 

@@ -147,15 +147,41 @@ module _ (room : Room) (t : Tree) (root : Reference) (child : ℕ → ℕ → Re
     | inr entry ↦ elim (avoids_or t place reach) [ inl way ↦ inl (entry, way) | inr through ↦ inr through.behind ]
   ]
 
-  beside_before : (q : Reference) → IsBeside q → IsReached t q
+  pub beside_before : (q : Reference) → IsBeside q → IsReached t q
   beside_before q beside = reaches t place beside.1
 
   -- what is below the old reference is of the tree
   old_before : (i : ℕ) → Reaches t old (Leaf i) → IsReached t (Leaf i)
   old_before i inner = below_old t place (Leaf i) is_place (λ e. none_reached t i (subst (λ r. Reaches t r (Leaf i)) e inner)) inner
 
-  beside_after : (q : Reference) → IsBeside q → IsReached after q
+  pub beside_after : (q : Reference) → IsBeside q → IsReached after q
   beside_after q beside = subst (λ r. Reaches after r q) (sym (is.root_stays beside.0)) (kept t root child place new is beside.1)
+
+  -- the cell of the place stays
+  pub cell_stays : (x b : ℕ) → place ≡ Entry x b → IsReached after (Cell x)
+  cell_stays x b entry =
+      let to_x : Avoids t place t.root (Cell x) = subst (λ p. Avoids t p t.root (Cell x)) (sym entry) (to_cell t x b t.root (subst (IsPlace t) entry is_place)) in
+      let stays_root : root ≡ t.root = is.root_stays (λ e. let wrong : Root ≡ Entry x b = sym e ∙ entry in cc) in
+      subst (λ r. Reaches after r (Cell x)) (sym stays_root) (kept t root child place new is to_x)
+
+  -- so what is below the new reference afterwards is reached
+  pub from_new : (p : Place) → place ≡ p → IsPlace t p → new ≢ Nothing → (q : Reference) → Reaches after new q → IsReached after q
+  from_new Root at_root in_tree some_new q reach = subst (λ r. Reaches after r q) (sym (ap (reference_at after) (sym at_root) ∙ is.here)) reach
+  from_new (Entry x b) entry in_tree some_new q reach =
+      let at_new : child x b ≡ new = ap (reference_at after) (sym entry) ∙ is.here in
+      join after (cell_stays x b entry) (below (λ e. some_new (sym at_new ∙ e)) (subst (λ r. Reaches after r q) (sym at_new) reach))
+
+  -- what is below the old reference keeps what is below it
+  pub old_kept : old ≢ Nothing → (r q : Reference) → Reaches t old r → Reaches t r q → Reaches after r q
+  old_kept some_old r q above reach = elim (avoids_or t place reach) [
+    | inl way ↦ kept t root child place new is way
+    | inr through ↦
+        let under : IsUnder t through.cell through.byte old = subst (λ p. FitsAt t p old) through.is (old_fits room t place tree is_place some_old) in
+        let deeper : t.depth through.cell < depth_of t old = under.deeper in
+        let inside = within room t {r = old} (λ s way. tree s (below_old t place s is_place some_old way)) (join t above (reaches t place through.before)) in
+        let deep : depth_of t old ≤ t.depth through.cell = inside.deep in
+        absurd (omega arith)
+  ]
 
   -- and so is one below the new reference, afterwards
   pub new_after : IsSoundFrom room t new → FitsAt t place new → (i : ℕ) → Reaches t new (Leaf i) → IsReached after (Leaf i)
@@ -170,16 +196,7 @@ module _ (room : Room) (t : Tree) (root : Reference) (child : ℕ → ℕ → Re
             let deep : depth_of t new ≤ t.depth through.cell = inside.deep in
             absurd (omega arith)
       ] in
-      from place refl is_place some_new below_new
-    where
-      from : (p : Place) → place ≡ p → IsPlace t p → new ≢ Nothing → Reaches after new (Leaf i) → IsReached after (Leaf i)
-      from Root at_root in_tree some_new reach = subst (λ r. Reaches after r (Leaf i)) (sym (ap (reference_at after) (sym at_root) ∙ is.here)) reach
-      from (Entry x b) entry in_tree some_new reach =
-          let at_new : child x b ≡ new = ap (reference_at after) (sym entry) ∙ is.here in
-          let to_x : Avoids t place t.root (Cell x) = subst (λ p. Avoids t p t.root (Cell x)) (sym entry) (to_cell t x b t.root in_tree) in
-          let stays_root : root ≡ t.root = is.root_stays (λ e. let wrong : Root ≡ Entry x b = sym e ∙ entry in cc) in
-          join after (subst (λ r. Reaches after r (Cell x)) (sym stays_root) (kept t root child place new is to_x))
-          (below (λ e. some_new (sym at_new ∙ e)) (subst (λ r. Reaches after r (Leaf i)) (sym at_new) reach))
+      from_new place refl is_place some_new (Leaf i) below_new
 
   apart_from_old : (i : ℕ) → IsBeside (Leaf i) → Reaches t old (Leaf i) → ⊥
   apart_from_old i beside inner = from place refl is_place

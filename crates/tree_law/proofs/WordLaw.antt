@@ -6,7 +6,7 @@ use Rattle.cat_key.specs.declared.TheConstants.{WORDS}
 use Rattle.radix_nodes.specs.Keys.{KeyWords}
 use Rattle.radix_nodes.specs.Cells.{prefix_words, children, IsForm}
 use Rattle.tree_law.specs.Switches.{Place, Root, Entry, reference_at, rooted, IsSwitched, Makes, AreSameWhereReached, IsSameAt, StaysTree}
-use Rattle.tree_law.specs.Words.{RootWord, LeafWord, CellWord, LayerWords, kind_of, number_of, reference_of, cell_in, number_of_words, tree_of, room_of, IsLawful, IsSwitchStore, at_root, in_cell, SwitchMakes, NodeWordMakes, Part, LeafPart, CellPart, part_reference, part_word, AreSameBut, PartMayDiffer}
+use Rattle.tree_law.specs.Words.{Stored, RootWord, LeafWord, CellWord, LayerWords, kind_of, number_of, reference_of, cell_in, number_of_words, tree_of, room_of, IsLawful, IsSwitchStore, at_root, in_cell, SwitchMakes, NodeWordMakes, Part, LeafPart, CellPart, part_reference, part_word, AreSameBut, PartMayDiffer}
 use Rattle.tree_law.proofs.Avoiding.{Avoids, was, reaches}
 use Rattle.tree_law.proofs.OtherLaw.{rename_makes, others_may_differ, from_named}
 
@@ -73,12 +73,12 @@ root_some : (count nodes : ℕ) (w : LayerWords) → IsLawful count nodes w → 
 root_some count nodes w lawful e = subst (IsSound (room_of count nodes) (tree_of w)) e (lawful.tree (reference_of w.root) here)
 
 -- what a switch store is to the tree
-record Switching (w w' : LayerWords) (place : Place) (reference : ℕ) : Type 0 where
+pub record Switching (w w' : LayerWords) (place : Place) (reference : ℕ) : Type 0 where
   pub tree : rooted (tree_of w) (tree_of w').root (tree_of w').child ≡ tree_of w'
   pub switched : IsSwitched (tree_of w) (tree_of w').root (tree_of w').child place (reference_of reference)
   pub forms : (x : ℕ) → IsForm (kind_of x) (cell_in w x) → IsForm (kind_of x) (cell_in w' x)
 
-switching : (count nodes : ℕ) (w w' : LayerWords) (place : Place) (reference : ℕ) → IsLawful count nodes w → IsSwitchStore w w' place reference → Switching w w' place reference
+pub switching : (count nodes : ℕ) (w w' : LayerWords) (place : Place) (reference : ℕ) → IsLawful count nodes w → IsSwitchStore w w' place reference → Switching w w' place reference
 switching count nodes w w' Root reference lawful (at_root stored some_root) =
     let cells : (x o : ℕ) → cell_in w' x o ≡ cell_in w x o = λ x o. stored.others (CellWord (kind_of x) (number_of x) o) (λ e. cc) in
     let leaves : (i o : ℕ) → w'.leaf i o ≡ w.leaf i o = λ i o. stored.others (LeafWord i o) (λ e. cc) in
@@ -145,14 +145,22 @@ switch_makes count nodes w w' place reference key node lawful store forms makes 
             let stays = is.root_stays (λ f. let wrong : Root ≡ Entry y b = sym f ∙ e in cc) in
             lawful.forms x (subst (λ r. Reaches (tree_of w) r (Cell x)) stays (reaches (tree_of w) place way))
 
-pub node_word_makes : NodeWordMakes
-node_word_makes count nodes w w' leaf word lawful reached some_node most stored =
+-- a store of a node word leaves all else of the tree
+pub node_named : (w w' : LayerWords) (leaf word : ℕ) → Stored w w' (LeafWord leaf WORDS) word → record (tree_of w) { word = (tree_of w').word } ≡ tree_of w'
+node_named w w' leaf word stored =
     let t = tree_of w in
     let t' = tree_of w' in
     let cells : (x o : ℕ) → cell_in w' x o ≡ cell_in w x o = λ x o. stored.others (CellWord (kind_of x) (number_of x) o) (λ e. cc) in
     let root_same : w'.root ≡ w.root = stored.others RootWord (λ e. cc) in
     let keys : (i : ℕ) → t'.key i ≡ t.key i = λ i. leaf_key w w' i (λ o lt. stored.others (LeafWord i o) (λ e. let same : o ≡ WORDS = cc in omega arith)) in
-    let is : record t { word = t'.word } ≡ t' = as_named t t' (ap reference_of root_same) (λ x. depth_kept w w' x (cells x)) (λ x. prefix_kept w w' x (cells x)) (λ x b. child_kept w w' x (cells x) b) keys in
+    as_named t t' (ap reference_of root_same) (λ x. depth_kept w w' x (cells x)) (λ x. prefix_kept w w' x (cells x)) (λ x b. child_kept w w' x (cells x) b) keys
+
+pub node_word_makes : NodeWordMakes
+node_word_makes count nodes w w' leaf word lawful reached some_node most stored =
+    let t = tree_of w in
+    let t' = tree_of w' in
+    let cells : (x o : ℕ) → cell_in w' x o ≡ cell_in w x o = λ x o. stored.others (CellWord (kind_of x) (number_of x) o) (λ e. cc) in
+    let is = node_named w w' leaf word stored in
     let made = rename_makes (room_of count nodes) t t'.word leaf word lawful.tree reached some_node most (record { here = stored.here; others = λ i apart. stored.others (LeafWord i WORDS) (λ e. apart (let same : i ≡ leaf = cc in same)) }) in
     let made' = subst (λ u. Makes (room_of count nodes) t u (t.key leaf) (Some (word - 1))) is made in
     record { lawful = record { tree = made'.tree; forms = λ x reach. form_kept w w' x (cells x) (lawful.forms x (from_named t t'.word (subst (λ u. Reaches u u.root (Cell x)) (sym is) reach))) }; same = made'.layer }
@@ -175,7 +183,7 @@ leaf_word_same w w' part unreached same i reached o = same (LeafWord i o) (not_l
 cell_word_same : (w w' : LayerWords) (part : Part) → (IsReached (tree_of w) (part_reference part) → ⊥) → AreSameBut part w w' → (x : ℕ) → IsReached (tree_of w) (Cell x) → (o : ℕ) → cell_in w' x o ≡ cell_in w x o
 cell_word_same w w' part unreached same x reached o = same (CellWord (kind_of x) (number_of x) o) (not_cell part x o (λ e. unreached (subst (IsReached (tree_of w)) (sym e) reached)))
 
-part_alike : (w w' : LayerWords) (part : Part) → (IsReached (tree_of w) (part_reference part) → ⊥) → AreSameBut part w w' → AreSameWhereReached (tree_of w) (tree_of w')
+pub part_alike : (w w' : LayerWords) (part : Part) → (IsReached (tree_of w) (part_reference part) → ⊥) → AreSameBut part w w' → AreSameWhereReached (tree_of w) (tree_of w')
 part_alike w w' part unreached same =
     let t = tree_of w in
     let root_same : w'.root ≡ w.root = same RootWord (not_root part) in

@@ -9,3 +9,5 @@ pub mod Stages
 pub mod Fresh
 pub mod Changes
 pub mod Leaves
+pub mod Reached
+pub mod Marking

@@ -6,11 +6,15 @@ ghost use Rattle.tree_law.specs.Floors.{FloorIsExact};
 ghost use Rattle.tree_law.specs.FloorWalks.{WalksEnd, WalkIsExact};
 ghost use Rattle.tree_law.specs.Switches.{AddMakes, PairMakes, GrowMakes, RemoveMakes, CollapseMakes, RenameMakes};
 ghost use Rattle.tree_law.specs.Switches.{OthersMayDiffer};
+ghost use Rattle.tree_law.specs.Reached.{AddReaches, PairReaches, GrowReaches, RemoveReaches, CollapseReaches};
 ghost use Rattle.tree_law.specs.Rooms.{LeavesAreFew, CellsAreFew, ReachedOnce, RootIsNoChild};
 ghost use Rattle.tree_law.specs.Words.{SwitchMakes, NodeWordMakes, PartMayDiffer};
 ghost use Rattle.tree_law.specs.Paths.{WayAdds, WayPairs, WayLeads};
 ghost use Rattle.tree_law.specs.Changes.{SetAdds, SetPairs, SetGrows, UnsetRemoves, UnsetCollapses};
 ghost use Rattle.tree_law.specs.Stages.{FillsKeep, SwitchesKeep, QuietKeeps, SomeIsFree};
+ghost use Rattle.tree_law.specs.Marking.{FillReaches, NodeWordReaches, SetAddReaches, SetPairReaches};
+ghost use Rattle.tree_law.specs.Marking.{SetGrowReaches, UnsetRemoveReaches, UnsetCollapseReaches, MarksTellAgain};
+ghost use Rattle.tree_law.specs.Marking.{OneComes, TwoCome, OneIsReplaced, OneGoes, TwoGo};
 ghost use Rattle.tree_law.specs.Leaves.{FewIsCount, CellsByChildren};
 ghost use Rattle.tree_law.specs.Fresh.{FreshIsLawful};
 
@@ -44,6 +48,16 @@ pub fn switch_law()
     ensures collapse { CollapseMakes }
     ensures rename { RenameMakes }
     ensures others { OthersMayDiffer }
+{}
+
+/// Which leaves and cells are reached behind that store: those before it, and what was filled for it, but not what it
+/// takes out.
+pub fn reached_law()
+    ensures adds { AddReaches }
+    ensures pairs { PairReaches }
+    ensures grows { GrowReaches }
+    ensures removes { RemoveReaches }
+    ensures collapses { CollapseReaches }
 {}
 
 /// A tree in order has at most as many leaves, and at most as many cells, as keys; none is reached by two ways.
@@ -84,6 +98,23 @@ pub fn stage_law()
     ensures switches { SwitchesKeep }
     ensures quiet { QuietKeeps }
     ensures free { SomeIsFree }
+{}
+
+/// What a change of the words makes of what their tree reaches; and that marks which follow it tell what is reached.
+pub fn marking_law()
+    ensures fills { FillReaches }
+    ensures node { NodeWordReaches }
+    ensures adds { SetAddReaches }
+    ensures pairs { SetPairReaches }
+    ensures grows { SetGrowReaches }
+    ensures removes { UnsetRemoveReaches }
+    ensures collapses { UnsetCollapseReaches }
+    ensures marks { MarksTellAgain }
+    ensures one_comes { OneComes }
+    ensures two_come { TwoCome }
+    ensures replaced { OneIsReplaced }
+    ensures one_goes { OneGoes }
+    ensures two_go { TwoGo }
 {}
 
 /// What a check of a tree by recursion rests on: few keys are few leaves, and a cell is in order by its children.

@@ -5,7 +5,7 @@ use Rattle.radix_nodes.specs.Bytes.{byte_in}
 use Rattle.radix_nodes.specs.Cells.{CellWords, children, IsForm, entry_byte, index_of}
 use Rattle.radix_nodes.specs.Changes.{with_word, IsCellStore}
 use Rattle.radix_nodes.specs.Entries.{FitsEntry}
-use Rattle.radix_nodes.proofs.EntryForms.{entry_child, entries_of, seek_here, seek_none, entry_moves}
+use Rattle.radix_nodes.proofs.EntryForms.{entry_child, entries_of, seek_here, seek_none, entry_moves, entry_goes}
 use Rattle.radix_nodes.proofs.IndexForm.{child_none, indexed_of, index_moves, direct_stores}
 use Rattle.tree_floor.specs.Scans.{first_entry, entry_count}
 use Rattle.tree_floor.proofs.ScanExact.{entry_form, index_in, child_of_index, direct_child}
@@ -69,6 +69,7 @@ entry_told kind byte c entry form knows =
             some_child = are.reference entry knows.1 some_got;
             word = (let d : got / 2 ^ 32 ≡ byte = byte_is in omega arith);
             store = λ other some_other fits. subst (λ b. IsCellStore kind c (with_word c (first + entry) (b * 2 ^ 32 + other)) b other) byte_is (entry_moves kind first count c entry other kinds form knows.1 some_got some_other fits);
+            clears = λ plain. subst (λ b. IsCellStore kind c (with_word c (first + entry) 0) b 0) byte_is (entry_goes kind first count c entry kinds form knows.1 some_got);
           }
       | false ↦ λ e.
           let not_here : FitsEntry got byte → ⊥ = λ has. let test : (not (got == 0) && got / 2 ^ 32 == byte) ≡ true = ap₂ (λ a b. not a && b) (ne_eqb got 0 has.0) (eq-eqb (got / 2 ^ 32) byte has.1) in absurd (let wrong : true ≡ false = sym test ∙ e in cc) in
@@ -103,6 +104,7 @@ told kind byte c (find.Reference place) small form knows =
       word = no_high c 4 byte (39 + place) (c (39 + place)) refl;
       store = λ other some_other fits. subst (λ word. IsCellStore 4 c (with_word c (39 + place) word) byte other) (let e : other ≡ 0 + other = omega arith in e)
           (subst (λ i. IsCellStore 4 c (with_word c (39 + i) other) byte other) (sym knows.2) (index_moves c byte other form4 small some_index some_other));
+      clears = λ plain. absurd (plain refl);
     })
 told kind byte c find.Direct small form knows =
     let child : children kind c byte ≡ c (8 + byte) = direct_child kind byte c knows small in
@@ -114,6 +116,7 @@ told kind byte c find.Direct small form knows =
         word = no_high c kind byte (8 + byte) (c (8 + byte)) refl;
         store = λ other some_other fits. subst (λ word. IsCellStore kind c (with_word c (8 + byte) word) byte other) (let e' : other ≡ 0 + other = omega arith in e')
             (subst (λ n. IsCellStore n c (with_word c (8 + byte) other) byte other) (sym knows) (direct_stores c byte other (subst (λ n. IsForm n c) knows form) small));
+        clears = λ plain. subst (λ n. IsCellStore n c (with_word c (8 + byte) 0) byte 0) (sym knows) (direct_stores c byte 0 (subst (λ n. IsForm n c) knows form) small);
       }
     ] refl
 

@@ -50,6 +50,16 @@ parted_byte other depth lt = ap (λ a. cond a (byte_at depth other) 0) (lt-ltb d
 key_below : (words : List ℕ) → IsKey words → number_in words < 256 ^ key_bytes
 key_below words is = words_below WORDS (slice_index words) is.fits
 
+-- a store of a word of a cell, as its words
+pub cells_same : (w w' : LayerWords) (x offset word : ℕ) → Stored w w' (CellWord (kind_of x) (number_of x) offset) word → with_word (cell_in w x) offset word ≡ cell_in w' x
+cells_same w w' x offset word stored i p = words' p i
+  where
+    words' : (p : ℕ) → with_word (cell_in w x) offset word p ≡ cell_in w' x p
+    words' p = elim (cases_eq p offset) [
+      | inl same ↦ ap (λ a. cond a word (cell_in w x p)) (eq-eqb p offset same) ∙ sym stored.here ∙ ap (cell_in w' x) (sym same)
+      | inr apart ↦ ap (λ a. cond a word (cell_in w x p)) (ne_eqb p offset apart) ∙ sym (stored.others (CellWord (kind_of x) (number_of x) p) (λ e. apart (let same : p ≡ offset = cc in same)))
+    ]
+
 module _ (l : Layout) (ks : List ℕ) (w : LayerWords) (layout : IsLayout l) (is_key : IsKey ks) (fits : (p : LayerWord) → word_in w p < 2 ^ 64) (lawful : IsLawful (leaf_count l) l.nodes w) where
   abbrev t : Tree
   t = tree_of w
@@ -123,6 +133,7 @@ module _ (l : Layout) (ks : List ℕ) (w : LayerWords) (layout : IsLayout l) (is
       some_reference = λ e. lawful_root (ap reference_of e);
       word = (let same : w.root ≡ 0 + w.root = omega arith in same);
       store = λ w' other some_other fits' stored. words.at_root (subst (Stored w w' RootWord) (let same : 0 + other ≡ other = omega arith in same) stored) (reference_some other some_other);
+      clears = λ x b wrong. absurd (cc);
     };
     outer_is = at_root;
   }
@@ -201,7 +212,11 @@ module _ (l : Layout) (ks : List ℕ) (w : LayerWords) (layout : IsLayout l) (is
           at = ap reference_of at'.child;
           some_reference = at'.some_child;
           word = ap (word_in w) spot_is ∙ at'.word;
-          store = λ w' other some_other fits' stored. stored_in cell b offset high r w' other some_other fits' at' (subst (λ p. Stored w w' p (high + other)) spot_is stored);
+          store = λ w' other some_other fits' stored. set_in cell b offset (high + other) other w' (at'.store other some_other fits') (subst (λ p. Stored w w' p (high + other)) spot_is stored);
+          clears = λ x c same plain w' stored.
+              let cell_is : cell ≡ x = cc in
+              let plain_cell : kind_of cell ≢ 4 = λ e. plain (ap kind_of (sym cell_is) ∙ e) in
+              subst (λ p. IsSwitchStore w w' p 0) same (set_in cell b offset 0 0 w' (at'.clears plain_cell) (subst (λ p. Stored w w' p 0) spot_is stored));
         };
         outer_is = in_cell known.held;
       } in
@@ -211,13 +226,9 @@ module _ (l : Layout) (ks : List ℕ) (w : LayerWords) (layout : IsLayout l) (is
       let deep : t.depth cell < depth_of t (reference_of r) = subst (λ q. t.depth cell < depth_of t q) child_is deeper in
       lands_ends r (depth + 1) inner spot part next (omega arith)
     where
-      stored_in : (x b o high' r' : ℕ) (w' : LayerWords) (other : ℕ) → other ≢ 0 → other < 2 ^ 32 → IsAt (kind_of x) (cell_in w x) b o high' r' → Stored w w' (CellWord (kind_of x) (number_of x) o) (high' + other) → IsSwitchStore w w' (Entry x b) other
-      stored_in x b o high' r' w' other some_other fits' at' stored =
-          let words' : (p : ℕ) → with_word (cell_in w x) o (high' + other) p ≡ cell_in w' x p = λ p. elim (cases_eq p o) [
-            | inl same ↦ ap (λ a. cond a (high' + other) (cell_in w x p)) (eq-eqb p o same) ∙ sym stored.here ∙ ap (cell_in w' x) (sym same)
-            | inr apart ↦ ap (λ a. cond a (high' + other) (cell_in w x p)) (ne_eqb p o apart) ∙ sym (stored.others (CellWord (kind_of x) (number_of x) p) (λ e. apart (let same : p ≡ o = cc in same)))
-          ] in
-          words.in_cell {x = x} {b = b} {offset = o} {word = high' + other} stored (subst (λ c'. IsCellStore (kind_of x) (cell_in w x) c' b other) (λ i p. words' p i) (at'.store other some_other fits'))
+      set_in : (x b o word reference : ℕ) (w' : LayerWords) → IsCellStore (kind_of x) (cell_in w x) (with_word (cell_in w x) o word) b reference → Stored w w' (CellWord (kind_of x) (number_of x) o) word → IsSwitchStore w w' (Entry x b) reference
+      set_in x b o word reference w' store stored =
+          words.in_cell {x = x} {b = b} {offset = o} {word = word} stored (subst (λ c'. IsCellStore (kind_of x) (cell_in w x) c' b reference) (cells_same w w' x o word stored) store)
   found_ends cell depth least outer inner part Absent known is is_depth on after =
       let comes : Comes t k (Entry cell (byte_at (t.depth cell) k)) = goes_on known.held.comes (known.held.at ∙ is) on in
       ((known.place, known.held), is_depth, subst (λ d. Comes t k (Entry cell (byte_at d k))) (sym is_depth) comes, ap reference_of after, is)

@@ -17,13 +17,15 @@ abbrev pub FindsEnd : Type 0
 FindsEnd = (kind byte : ℕ) (find : Find) (got : ℕ) → IsFind kind find →
     FindAfter kind (find_left kind find) (find_told kind byte find got)
 
--- the word there has the child's reference, and a store of another one behind what stands above it makes that the child
+-- the word there has the child's reference; a store of another one behind what stands above it makes that the child,
+-- and where the cell has no index, a store of 0 takes the child out
 pub record IsAt (kind : ℕ) (c : CellWords) (byte offset high reference : ℕ) : Type 0 where
   pub child : children kind c byte ≡ reference
   pub some_child : reference ≢ 0
   pub word : c offset ≡ high + reference
   pub store : (other : ℕ) → other ≢ 0 → other < 2 ^ 32 →
       IsCellStore kind c (with_word c offset (high + other)) byte other
+  pub clears : kind ≢ 4 → IsCellStore kind c (with_word c offset 0) byte 0
 
 abbrev pub IsFinding : ℕ → CellWords → ℕ → Findings → Type 0
 IsFinding kind c byte (More find) = ⊥

@@ -32,8 +32,8 @@ abbrev pub spot_word : Spot → LayerWord
 spot_word spot =
     if spot.cell == 0 then RootWord else CellWord (kind_of spot.cell) (number_of spot.cell) spot.offset
 
--- The reference stands at this place of the key's way, in this spot; and a store of another one there, behind what the
--- word has above it, is a switch store at the place.
+-- The reference stands at this place of the key's way, in this spot. A store of another one there, behind what the word
+-- has above it, is a switch store at the place; and so is one of 0, where the place is of a cell without an index.
 pub record IsHeld (w : LayerWords) (key : ℕ) (spot : Spot) (reference : ℕ) (place : Place) : Type 0 where
   pub comes : Comes (tree_of w) key place
   pub at : reference_at (tree_of w) place ≡ reference_of reference
@@ -41,6 +41,8 @@ pub record IsHeld (w : LayerWords) (key : ℕ) (spot : Spot) (reference : ℕ) (
   pub word : word_in w (spot_word spot) ≡ spot.high + reference
   pub store : (w' : LayerWords) (other : ℕ) → other ≢ 0 → other < 2 ^ 32 →
       Stored w w' (spot_word spot) (spot.high + other) → IsSwitchStore w w' place other
+  pub clears : (x b : ℕ) → place ≡ Entry x b → kind_of x ≢ 4 → (w' : LayerWords) → Stored w w' (spot_word spot) 0 →
+      IsSwitchStore w w' (Entry x b) 0
 
 -- the cell of a place, where it has one, is held itself
 pub data IsOuter (w : LayerWords) (key : ℕ) (outer inner : Spot) : Place → Type 0 where

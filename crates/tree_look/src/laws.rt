@@ -5,6 +5,8 @@ ghost use Rattle.tree_look.specs.Depths.{KeysPart, PartsBefore};
 ghost use Rattle.tree_look.specs.LookLaws.{LookStays, LookIsExact};
 ghost use Rattle.tree_look.specs.Ends.{KeyIsSet, LeafIsAdded, CellIsGrown, PairIsMade, LeafIsRemoved};
 ghost use Rattle.tree_look.specs.Ends.{CellIsCollapsed, IsInCell};
+ghost use Rattle.tree_look.specs.EndReaches.{LeafAddReaches, CellGrowReaches, PairMakeReaches, LeafRemoveReaches};
+ghost use Rattle.tree_look.specs.EndReaches.{CellCollapseReaches};
 
 /// A look into a cell ends, and in a cell of its form it finds where the child's reference stands.
 pub fn find_law()
@@ -34,4 +36,13 @@ pub fn end_law()
     ensures removes { LeafIsRemoved }
     ensures collapses { CellIsCollapsed }
     ensures in_cell { IsInCell }
+{}
+
+/// What the tree reaches once that store is made.
+pub fn reach_law()
+    ensures adds { LeafAddReaches }
+    ensures grows { CellGrowReaches }
+    ensures pairs { PairMakeReaches }
+    ensures removes { LeafRemoveReaches }
+    ensures collapses { CellCollapseReaches }
 {}

@@ -1,0 +1,114 @@
+-- Reading a cell ends, and answers its words as they stand.
+use Rattle.std.proofs.Common.{◌≡◌, ℕ, zero, suc, ◌+◌, ◌-◌, ◌<◌, ◌≤◌, true, false, cond, ltb, List, length, length-set, slice_index, slice_set, replicate, inl, inr, refl, sym, subst, ap, ◌∙◌, arith}
+use Rattle.std.proofs.lemmas.Bool.{cases_eq, ltb-true, ltb-false}
+use Rattle.std.proofs.lemmas.List.{get_or-set_same, get_or-set_other, length-replicate}
+use Rattle.std.specs.Prelude.{IsSomeAnd}
+use Rattle.pm_words.specs.declared.layout.Layout.{Layout}
+use Rattle.pm_words.specs.declared.machine.Turn.{Turn}
+use Rattle.pm_words.specs.declared.machine.Turn.TheVariants.{Go, Done}
+use Rattle.pm_words.specs.Turns.{GoesBelow}
+use Rattle.pm_words.specs.Locations.{kind_words}
+use Rattle.radix_nodes.specs.declared.cell.Cell as cells
+use Rattle.tree_law.specs.Words.{LayerWords, kind_of, cell_in}
+use Rattle.tree_floor.specs.Floors.{IsCellOf}
+use Rattle.tree_change.specs.declared.read_cell.ReadCell.{ReadCell}
+use Rattle.tree_change.specs.Telling.{answer_in}
+use Rattle.tree_change.specs.Reads.{read_starts, read_all, read_told, read_turned, read_takes, read_left, read_most, ReadAfter, ReadStays, IsReadOf, read_turn, ReadIsExact}
+use Rattle.tree_change.proofs.Telling.{GoesOn, answers_right}
+
+pub read_stays : ReadStays
+read_stays read got takes = elim (ltb (read.offset + 1) (read_all read)) as (λ a. ltb (read.offset + 1) (read_all read) ≡ a → ReadAfter read (cond a (Go (record read { cell = read_told read got; offset = read.offset + 1 })) (Done (read_told read got)))) [
+  | true ↦ λ e. let less = ltb-true _ _ e in (record { layout = takes.0.layout; cell = takes.0.cell; here = less }, refl, refl, omega arith)
+  | false ↦ λ e. tt
+] refl
+
+pub read_fewer : (read : ReadCell) (got : ℕ) → read_takes read got → GoesBelow {A = cells.Cell} read_left (read_left read) (read_turned read got)
+read_fewer read got takes = go (read_turned read got) (read_stays read got takes)
+  where
+    go : (turn : Turn ReadCell cells.Cell) → ReadAfter read turn → GoesBelow {A = cells.Cell} read_left (read_left read) turn
+    go (Go next) after = after.3
+    go (Done cell) after = tt
+
+-- each kind has some words, and no more than the largest
+pub kind_bounds : (kind : ℕ) → 2 ≤ kind → kind ≤ 5 → (0 < kind_words kind) × (kind_words kind ≤ 264)
+kind_bounds zero low high = absurd (omega arith)
+kind_bounds (suc zero) low high = absurd (omega arith)
+kind_bounds (suc (suc zero)) low high = (omega arith, omega arith)
+kind_bounds (suc (suc (suc zero))) low high = (omega arith, omega arith)
+kind_bounds (suc (suc (suc (suc zero)))) low high = (omega arith, omega arith)
+kind_bounds (suc (suc (suc (suc (suc zero))))) low high = (omega arith, omega arith)
+kind_bounds (suc (suc (suc (suc (suc (suc kind)))))) low high = absurd (omega arith)
+
+zeros : (n o : ℕ) → slice_index (replicate n 0) o ≡ 0
+zeros zero o = refl
+zeros (suc n) zero = refl
+zeros (suc n) (suc o) = zeros n o
+
+-- Told the words of the layer, it has those before its own, and zeros behind.
+module _ (l : Layout) (x : ℕ) (w : LayerWords) (cell_is : IsCellOf l x) where
+  abbrev all : ℕ
+  all = kind_words (kind_of x)
+
+  abbrev make : List ℕ → ℕ → ReadCell
+  make words offset = record { layout = l; reference = x; cell = record { kind = kind_of x; words = words }; offset = offset }
+
+  record Knows (words : List ℕ) (offset : ℕ) : Type 0 where
+    pub whole : length words ≡ 264
+    pub here : offset ≤ all
+    pub stands : (o : ℕ) → o < offset → slice_index words o ≡ cell_in w x o
+    pub behind : (o : ℕ) → offset ≤ o → slice_index words o ≡ 0
+
+  record IsAt (read : ReadCell) : Type 0 where
+    pub words : List ℕ
+    pub offset : ℕ
+    pub is : read ≡ make words offset
+    pub within : offset < all
+    pub knows : Knows words offset
+
+  abbrev Goes : ℕ → Turn ReadCell cells.Cell → Type 0
+  Goes bound turn = GoesOn (read_turn w) IsAt read_left (IsReadOf w x) bound turn
+
+  begins : Knows (replicate 264 0) 0
+  begins = record { whole = length-replicate {A = ℕ} 264 0; here = omega arith; stands = λ o lt. absurd (omega arith); behind = λ o le. zeros 264 o }
+
+  reads_on : (words : List ℕ) (offset : ℕ) → offset < all → Knows words offset → Knows (slice_set words offset (cell_in w x offset)) (offset + 1)
+  reads_on words offset within knows =
+      let y = cell_in w x offset in
+      let most : all ≤ 264 = (kind_bounds (kind_of x) cell_is.low cell_is.high).1 in
+      let whole : length words ≡ 264 = knows.whole in
+      record {
+        whole = length-set words offset y ∙ whole;
+        here = omega arith;
+        stands = λ o lt. elim (cases_eq o offset) [
+          | inl same ↦ ap (slice_index (slice_set words offset y)) same ∙ get_or-set_same words offset y 0 (omega arith) ∙ ap (cell_in w x) (sym same)
+          | inr other ↦ get_or-set_other words offset o y 0 other ∙ knows.stands o (omega (arith, other))
+        ];
+        behind = λ o le. get_or-set_other words offset o y 0 (λ e. omega arith) ∙ knows.behind o (omega arith);
+      }
+
+  ends : (words : List ℕ) (offset : ℕ) → all ≤ offset → Knows words offset → IsReadOf w x (record { kind = kind_of x; words = words })
+  ends words offset past knows =
+      let here : offset ≤ all = knows.here in
+      record { stands = (refl, λ o lt. sym (knows.stands o (omega arith))); behind = λ o le. knows.behind o (omega arith) }
+
+  goes_at : (words : List ℕ) (offset : ℕ) → offset < all → Knows words offset → Goes (all - offset) (read_turn w (make words offset))
+  goes_at words offset within knows =
+      let next = slice_set words offset (cell_in w x offset) in
+      let more = reads_on words offset within knows in
+      elim (ltb (offset + 1) all) as (λ a. ltb (offset + 1) all ≡ a → Goes (all - offset) (cond a (Go (make next (offset + 1))) (Done (record { kind = kind_of x; words = next })))) [
+        | true ↦ λ e. let less = ltb-true _ _ e in (record { words = next; offset = offset + 1; is = refl; within = less; knows = more }, omega arith)
+        | false ↦ λ e. ends next (offset + 1) (ltb-false _ _ e) more
+      ] refl
+
+  goes : (read : ReadCell) → IsAt read → Goes (read_left read) (read_turn w read)
+  goes read at = subst (λ r. Goes (read_left r) (read_turn w r)) (sym at.is) (goes_at at.words at.offset at.within at.knows)
+
+  pub reads_exactly : (times : ℕ) → read_most < times → IsSomeAnd (answer_in times (read_turn w) (read_starts l x)) (IsReadOf w x)
+  reads_exactly times enough =
+      let bounds = kind_bounds (kind_of x) cell_is.low cell_is.high in
+      let some : 0 < all = bounds.0 in
+      let most : all ≤ 264 = bounds.1 in
+      answers_right (read_turn w) IsAt read_left (IsReadOf w x) goes times (make (replicate 264 0) 0) (record { words = replicate 264 0; offset = 0; is = refl; within = some; knows = begins }) (omega arith)
+
+pub read_is_exact : ReadIsExact
+read_is_exact l x w times enough is = reads_exactly l x w is times enough

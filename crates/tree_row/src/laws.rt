@@ -1,0 +1,34 @@
+//! Laws on the words of the layer in a row, for the proofs of crates above. The functions do nothing: each names what
+//! is proved.
+
+ghost use Rattle.tree_row.specs.Rows.{ReadsWords, ReadsFit, RowsAlike, CrashReads};
+ghost use Rattle.tree_row.specs.Rows.{LoadLeaves, StoreMakes, DrainMakes, OutsideLeaves, EvictionMixes};
+ghost use Rattle.tree_row.specs.RowMarks.{MarkIsSet, StoreLeavesMarks, LoadLeavesMarks, EvictionLeavesMarks};
+
+/// Each word of the layer is read where it stands, and no other word of the row makes a difference. The image that a
+/// crash leaves has the layer of the durable twin.
+pub fn reading_law()
+    ensures reads { ReadsWords }
+    ensures fits { ReadsFit }
+    ensures alike { RowsAlike }
+    ensures crash { CrashReads }
+{}
+
+/// A load leaves the words of the layer in both twins, and so does a store of any word that isn't of the layer. A store
+/// of a word of the layer changes that one in the cached twin, a drain in the durable twin, and whatever becomes
+/// durable by itself makes a mix of both.
+pub fn action_law()
+    ensures loads { LoadLeaves }
+    ensures stores { StoreMakes }
+    ensures drains { DrainMakes }
+    ensures outside { OutsideLeaves }
+    ensures evicts { EvictionMixes }
+{}
+
+/// A store of a mark sets that one alone; a store elsewhere, a load and whatever becomes durable by itself leave all.
+pub fn mark_law()
+    ensures sets { MarkIsSet }
+    ensures stores { StoreLeavesMarks }
+    ensures loads { LoadLeavesMarks }
+    ensures evicts { EvictionLeavesMarks }
+{}
