@@ -8,15 +8,16 @@ use std::process::ExitCode;
 use std::rt::Env;
 use std::{env, io};
 
-/// What is built of the forms of the command line.
-const BUILT: &str = "\
-    built so far: catalog play NODES SLOTS CALLERS, which reads a script on standard input,\n\
-    catalog run FILE, which reads one to its end, plays it on a file and saves that,\n\
-    catalog gen SEED COUNT CALLERS, which plays COUNT calls that are made from SEED and sums them up,\n\
-    catalog format FILE NODES SLOTS CALLERS, which makes a file of an empty catalogue,\n\
-    and catalog words FILE FROM COUNT, which prints COUNT words of one from number FROM on\n\
-    lines of a script: CALLER put NAME NUMBER, CALLER get NAME, CALLER del NAME, CALLER scan NAME COUNT, join, \
-    crash SEED BUDGETS, updater CALLS, limit WRITES\n\
+/// What each form of the command line does, and what a script may have.
+const FORMS: &str = "\
+    format: makes a file of an empty catalogue\n\
+    run: reads a script on standard input, plays it on a file, saves that, and prints the report\n\
+    play: the same on an empty catalogue, without a file\n\
+    gen: plays COUNT calls that are made from SEED, and prints what they come to\n\
+    words: prints COUNT words of a file from number FROM on\n\
+    \n\
+    a script has a line for each call: CALLER put NAME NUMBER, CALLER get NAME, CALLER del NAME, CALLER scan NAME COUNT\n\
+    join, or crash SEED BUDGETS, ends a round; updater CALLS and limit WRITES hold from their round on\n\
     the callers of a round make their calls at once, each in a thread of its own: a report of several callers differs \
     from run to run";
 
@@ -36,7 +37,7 @@ fn main(rt: HostRuntime) -> ExitCode {
     let status = match arguments(&rt) {
         Err(status) => status,
         Ok(words) => match only_word(&words) {
-            Some("--help") => shown(println!(rt; "{}\n{BUILT}", Status::Usage)),
+            Some("--help") => shown(println!(rt; "{}\n{FORMS}", Status::Usage)),
             Some("--version") => shown(println!(rt; "{VERSION}")),
             _ => {
                 let mut script = ReadSource::new(rt.stdin());
