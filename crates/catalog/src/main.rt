@@ -11,7 +11,7 @@ use std::{env, io};
 /// What each form of the command line does, and what a script may have.
 const FORMS: &str = "\
     format: makes a file of an empty catalogue\n\
-    run: reads a script on standard input, plays it on a file, saves that, and prints the report\n\
+    run: reads a script on standard input to its end, then plays it on a file, saves that, and prints the report\n\
     play: the same on an empty catalogue, without a file\n\
     gen: plays COUNT calls that are made from SEED, and prints what they come to\n\
     words: prints COUNT words of a file from number FROM on\n\
