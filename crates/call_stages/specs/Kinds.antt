@@ -7,6 +7,7 @@ use Rattle.pm_words.specs.declared.action.Action.TheVariants.{Load, Store, Excha
 use Rattle.pm_words.specs.declared.again.Again.{Again}
 use Rattle.pm_words.specs.declared.again.Again.TheVariants as again
 use Rattle.pm_words.specs.declared.layout.Layout.{Layout}
+use Rattle.pm_words.specs.Codes.{free_status, live_status, gone_status}
 use Rattle.pm_words.specs.Locations.{address_of, node_words, Cached, Node, Clock, Volatile}
 use Rattle.version_lock.specs.Versions.{generation_of, kept_count, locked_word, IsFree, IsWorn}
 use Rattle.cat_key.specs.Names.{IsName}
@@ -42,17 +43,6 @@ status_address l n = address_of l (Volatile n 0)
 
 abbrev pub prev_address : Layout → ℕ → ℕ
 prev_address l n = address_of l (Volatile n 1)
-
--- The statuses of a node that is not in use and of one that is.
-abbrev pub free_status : ℕ
-free_status = 0
-
-abbrev pub live_status : ℕ
-live_status = 1
-
--- And that of one that was merged into another.
-abbrev pub gone_status : ℕ
-gone_status = 2
 
 -- The node and the offset are of this layout; an offset of 0 is the version word, which a store under the lock spares.
 abbrev pub HasWordAt : Layout → ℕ → ℕ → Type 0

@@ -1,6 +1,7 @@
 -- What a walk relies on that takes no lock, and the loads by which it comes to rely on it. What such a load says of a
 -- node's words it says of any words, so that no machine need know of the index.
 use Rattle.std.specs.Prelude.{◌≡◌, ◌≢◌, ℕ, ◌+◌, ◌<◌, ◌≤◌, true, List, slice_index}
+use Rattle.pm_words.specs.Codes.{live_status}
 use Rattle.pm_words.specs.declared.action.Action.{Action}
 use Rattle.pm_words.specs.declared.action.Action.TheVariants.{Load}
 use Rattle.pm_words.specs.declared.layout.Layout.{Layout}
@@ -8,7 +9,7 @@ use Rattle.version_lock.specs.Versions.{IsFree}
 use Rattle.data_node.specs.Spots.{Spot}
 use Rattle.data_node.specs.Lists.{next_offset, IsBetween}
 use Rattle.call_stages.specs.Stages.{Sight, Sees, no_sight}
-use Rattle.call_stages.specs.Kinds.{HasWordAt, word_address, version_address, status_address, live_status}
+use Rattle.call_stages.specs.Kinds.{HasWordAt, word_address, version_address, status_address}
 
 -- Of a node whose version word it loaded, that word, and what it saw since. It stands while that version word does.
 pub data Watching : Type 0 where

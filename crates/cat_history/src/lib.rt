@@ -3,8 +3,8 @@
 //! Every crate above states its answers in the words of `specs/`. The code here is the data that those words speak of.
 #![tactic(auto)]
 
+mod items;
 pub mod laws;
-mod listed;
 mod op;
 mod pairs;
 mod plan;
@@ -12,7 +12,7 @@ mod record;
 mod replaying;
 mod settling;
 
-pub use listed::Listed;
+pub use items::Items;
 pub use op::{CallerOp, Change, NameOp, Op, Write, Writes};
 pub use pairs::{number_in, position_of};
 pub use plan::{Budgets, CrashPlan, Ops, RoundPlan};

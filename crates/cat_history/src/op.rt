@@ -1,6 +1,6 @@
 //! What callers ask of a catalogue, and what a call writes into it.
 
-use crate::listed::Listed;
+use crate::items::Items;
 use cat_key::Name;
 
 /// What a call on one name asks.
@@ -44,4 +44,4 @@ pub struct Write {
 }
 
 /// The writes of a history, by place.
-pub type Writes = Listed<Write>;
+pub type Writes = Items<Write>;

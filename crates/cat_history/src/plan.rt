@@ -1,13 +1,13 @@
 //! What is asked of a round.
 
-use crate::listed::Listed;
+use crate::items::Items;
 use crate::op::CallerOp;
 
 /// The calls of a round, in the order of the script.
-pub type Ops = Listed<CallerOp>;
+pub type Ops = Items<CallerOp>;
 
 /// How many events each caller may make, by its number.
-pub type Budgets = Listed<u64>;
+pub type Budgets = Items<u64>;
 
 /// How a crash ends a round.
 #[derive(Drop)]

@@ -1,11 +1,11 @@
 //! What a round reports of each call.
 
-use crate::listed::Listed;
+use crate::items::Items;
 use crate::op::Op;
 use cat_key::{Name, Pair};
 
 /// Names with their numbers.
-pub type Pairs = Listed<Pair>;
+pub type Pairs = Items<Pair>;
 
 /// What is said of a call that a crash cut off.
 #[derive(Clone, Copy, Debug, PartialEq, Eq)]
@@ -36,7 +36,7 @@ pub struct ScanPart {
 }
 
 /// The parts of a scan, in the order in which they were read.
-pub type Parts = Listed<ScanPart>;
+pub type Parts = Items<ScanPart>;
 
 /// What a call was answered.
 #[derive(Drop)]
@@ -68,4 +68,4 @@ pub struct Record {
 }
 
 /// The records of a round.
-pub type Records = Listed<Record>;
+pub type Records = Items<Record>;

@@ -8,7 +8,7 @@ ghost use Rattle.cat_history.specs.Replays.{pairs_of};
 ghost use Rattle.cat_history.specs.Writes.{after_all, changed};
 
 use crate::NoMemory;
-use crate::listed::Listed;
+use crate::items::Items;
 use crate::op::{Change, Write};
 use crate::record::Pairs;
 use cat_key::{Name, Pair};
@@ -29,7 +29,7 @@ pub fn replay(alloc: Global, base: &Pairs, history: &[Write]) -> Result<Pairs, N
     for (name, value) in names {
         pairs.push(Pair { name, value })?;
     }
-    Ok(Listed::of(pairs))
+    Ok(Items::of(pairs))
 }
 
 /// Puts the pairs into a tree. At a name that stands twice it has the first number, so the first pair goes in last.

@@ -3,7 +3,7 @@ use Rattle.std.proofs.Common.{◌≡◌, ℕ, ◌<◌, List, ◌∷◌, ◌++◌
 use Rattle.std.proofs.lemmas.List.{get_or_at, length-append}
 use Rattle.std.specs.Prelude.{All, ◌≤◌, codes}
 use Rattle.cat_script.specs.Numbers.{IsSomeUpTo}
-use Rattle.cat_script.specs.Reasons.{HaveFirst, WordsHave, FailsBy, turn_of}
+use Rattle.cat_script.specs.Reasons.{HaveFirst, WordsHave, FailsBy, rank_of}
 use Rattle.cat_script.specs.declared.line.Reason.{Reason}
 use Rattle.cat_script.specs.declared.line.Reason.TheVariants as reason
 use Rattle.cat_script.specs.declared.line.LineFault.{LineFault}
@@ -22,7 +22,7 @@ said_so P Q fault.NoMemory each said = tt
 
 -- no reason is earlier than its numbers, where the words are few enough and enough
 early : (seed : List ℕ) (budgets : List (List ℕ)) → 3 ≤ length (seed ∷ budgets) → length (seed ∷ budgets) ≤ 18 →
-    (earlier : Reason) → turn_of earlier < 5 → ¬ WordsHave (codes "crash" ∷ seed ∷ budgets) earlier
+    (earlier : Reason) → rank_of earlier < 5 → ¬ WordsHave (codes "crash" ∷ seed ∷ budgets) earlier
 early seed budgets least most reason.Byte less h = h
 early seed budgets least most reason.Verb less h = cc
 early seed budgets least most reason.Words less h = h (omega arith, omega arith)

@@ -14,7 +14,7 @@ use Rattle.cat_history.specs.declared.op.Op.TheVariants.{Put, Get, Del, Scan}
 use Rattle.cat_script.specs.Asks.{IsComment, AsksFor, Says, IsLine}
 use Rattle.cat_script.specs.Lines.{words_of, IsLineByte}
 use Rattle.cat_script.specs.Numbers.{IsNumber, IsUpTo, IsSomeUpTo}
-use Rattle.cat_script.specs.Reasons.{setting_verb, word_at, verb_of, HasCount, IsCallVerb, HasNumbers, WordsHave, HasReason, turn_of, IsFirstReason}
+use Rattle.cat_script.specs.Reasons.{setting_verb, word_at, verb_of, HasCount, IsCallVerb, HasNumbers, WordsHave, HasReason, rank_of, IsFirstReason}
 use Rattle.cat_script.specs.declared.line.Line.{Line}
 use Rattle.cat_script.specs.declared.line.Line.TheVariants.{Blank, Call, Join, Crash, Updater, Limit}
 use Rattle.cat_script.specs.declared.line.Reason.{Reason}
@@ -335,7 +335,7 @@ reason_at (suc (suc (suc zero))) = reason.Caller
 reason_at (suc (suc (suc (suc zero)))) = reason.Name
 reason_at (suc (suc (suc (suc (suc n))))) = reason.Number
 
-back : (why : Reason) → reason_at (turn_of why) ≡ why
+back : (why : Reason) → reason_at (rank_of why) ≡ why
 unfolding reason_at
 back reason.Byte = refl
 back reason.Verb = refl
@@ -345,11 +345,11 @@ back reason.Name = refl
 back reason.Number = refl
 
 -- no two reasons have one turn
-pub turn_one : (a b : Reason) → turn_of a ≡ turn_of b → a ≡ b
-turn_one a b same = sym (back a) ∙ ap reason_at same ∙ back b
+pub rank_one : (a b : Reason) → rank_of a ≡ rank_of b → a ≡ b
+rank_one a b same = sym (back a) ∙ ap reason_at same ∙ back b
 
 -- a line has one first reason
 pub reason_one : (line : List ℕ) (a b : Reason) → IsFirstReason line a → IsFirstReason line b → a ≡ b
 reason_one line a b first second =
-    let same : turn_of a ≡ turn_of b = omega (arith, λ (less : turn_of a < turn_of b). second.first a less first.has, λ (less : turn_of b < turn_of a). first.first b less second.has) in
-    turn_one a b same
+    let same : rank_of a ≡ rank_of b = omega (arith, λ (less : rank_of a < rank_of b). second.first a less first.has, λ (less : rank_of b < rank_of a). first.first b less second.has) in
+    rank_one a b same

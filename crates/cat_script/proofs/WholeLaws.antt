@@ -18,7 +18,7 @@ use Rattle.cat_script.specs.Laws.{IsScriptOrHasFault}
 use Rattle.cat_script.specs.Limits.{KeepLimits, end_count, call_count, scan_count}
 use Rattle.cat_script.specs.Lines.{lines_of, words_of}
 use Rattle.cat_script.specs.Numbers.{IsUpTo, IsSomeUpTo}
-use Rattle.cat_script.specs.Reasons.{setting_verb, call_verb, word_at, verb_of, HasCount, IsCallVerb, HasNumbers, HasReason, turn_of, IsFirstReason}
+use Rattle.cat_script.specs.Reasons.{setting_verb, call_verb, word_at, verb_of, HasCount, IsCallVerb, HasNumbers, HasReason, rank_of, IsFirstReason}
 use Rattle.cat_script.specs.Rounds.{calls_in, turns_set, limit_set, GoesOn, EndsBy, AsksRound, AreEnded, HasLast, AreRounds}
 use Rattle.cat_script.specs.Scripts.{IsScript, IsLineFault, IsFirstFault, numbered}
 use Rattle.cat_script.specs.declared.fault.ScriptFault.{ScriptFault}
@@ -31,7 +31,7 @@ use Rattle.cat_script.specs.declared.script.Script.{Script}
 use Rattle.cat_script.specs.declared.verb.Verb.{Verb}
 use Rattle.cat_script.specs.declared.verb.Verb.TheVariants as verb
 use Rattle.cat_script.proofs.DecisionLemmas.{IsDecided, at_most, reason_decided, comment_decided, empty_decided, good_bytes, good_verb, good_count, good_caller, good_name, good_numbers}
-use Rattle.cat_script.proofs.LineLaws.{turn_one}
+use Rattle.cat_script.proofs.LineLaws.{rank_one}
 use Rattle.cat_script.proofs.RoundLemmas.{going_more, ended_more}
 
 -- The word that says this.
@@ -234,37 +234,37 @@ asked_by words verb.Scan is count caller name numbers =
 
 -- The line has none of the reasons that are tried before this turn.
 abbrev HasNoneBefore : List ℕ → ℕ → Type 0
-HasNoneBefore line turn = (earlier : Reason) → turn_of earlier < turn → ¬ HasReason line earlier
+HasNoneBefore line turn = (earlier : Reason) → rank_of earlier < turn → ¬ HasReason line earlier
 
 -- It has no reason, or one that is the first.
 abbrev IsSought : List ℕ → Type 0
-IsSought line = ((why : Reason) → ¬ HasReason line why) ⊎ ((why : Reason) × HasReason line why × HasNoneBefore line (turn_of why))
+IsSought line = ((why : Reason) → ¬ HasReason line why) ⊎ ((why : Reason) × HasReason line why × HasNoneBefore line (rank_of why))
 
-none_more : (line : List ℕ) (why : Reason) → HasNoneBefore line (turn_of why) → ¬ HasReason line why → HasNoneBefore line (turn_of why + 1)
-none_more line why none here earlier less has = go (cases_lt (turn_of earlier) (turn_of why)) where
-  go : (turn_of earlier < turn_of why) ⊎ (turn_of why ≤ turn_of earlier) → ⊥
+none_more : (line : List ℕ) (why : Reason) → HasNoneBefore line (rank_of why) → ¬ HasReason line why → HasNoneBefore line (rank_of why + 1)
+none_more line why none here earlier less has = go (cases_lt (rank_of earlier) (rank_of why)) where
+  go : (rank_of earlier < rank_of why) ⊎ (rank_of why ≤ rank_of earlier) → ⊥
   go (inl before) = none earlier before has
-  go (inr behind) = here (subst (HasReason line) (turn_one earlier why (omega (arith, less, behind))) has)
+  go (inr behind) = here (subst (HasReason line) (rank_one earlier why (omega (arith, less, behind))) has)
 
 -- a reason that is tried, and those behind it
-tried : (line : List ℕ) (why : Reason) → (HasNoneBefore line (turn_of why + 1) → IsSought line) → HasNoneBefore line (turn_of why) → IsSought line
+tried : (line : List ℕ) (why : Reason) → (HasNoneBefore line (rank_of why + 1) → IsSought line) → HasNoneBefore line (rank_of why) → IsSought line
 tried line why later none = go (reason_decided line why) where
   go : IsDecided (HasReason line why) → IsSought line
   go (inl has) = inr (why, has, none)
   go (inr fails) = later (none_more line why none fails)
 
-all_turns : (why : Reason) → turn_of why < 6
-all_turns reason.Byte = omega arith
-all_turns reason.Verb = omega arith
-all_turns reason.Words = omega arith
-all_turns reason.Caller = omega arith
-all_turns reason.Name = omega arith
-all_turns reason.Number = omega arith
+all_ranks : (why : Reason) → rank_of why < 6
+all_ranks reason.Byte = omega arith
+all_ranks reason.Verb = omega arith
+all_ranks reason.Words = omega arith
+all_ranks reason.Caller = omega arith
+all_ranks reason.Name = omega arith
+all_ranks reason.Number = omega arith
 
 sought : (line : List ℕ) → IsSought line
 sought line =
     tried line reason.Byte (tried line reason.Verb (tried line reason.Words (tried line reason.Caller (tried line reason.Name (tried line reason.Number
-    (λ none. inl (λ why. none why (all_turns why)))))))) (λ earlier less has. absurd (omega (arith, less)))
+    (λ none. inl (λ why. none why (all_ranks why)))))))) (λ earlier less has. absurd (omega (arith, less)))
 
 -- a line asks something, or has a first reason
 pub line_or_reason : (line : List ℕ) → ((said : Line) × IsLine line said) ⊎ ((why : Reason) × IsFirstReason line why)

@@ -88,25 +88,25 @@ HasReason line reason.Name = WordsHave (words_of line) reason.Name
 HasReason line reason.Number = WordsHave (words_of line) reason.Number
 
 -- The order in which the reasons are tried.
-abbrev pub turn_of : Reason → ℕ
-turn_of reason.Byte = 0
-turn_of reason.Verb = 1
-turn_of reason.Words = 2
-turn_of reason.Caller = 3
-turn_of reason.Name = 4
-turn_of reason.Number = 5
+abbrev pub rank_of : Reason → ℕ
+rank_of reason.Byte = 0
+rank_of reason.Verb = 1
+rank_of reason.Words = 2
+rank_of reason.Caller = 3
+rank_of reason.Name = 4
+rank_of reason.Number = 5
 
 -- The words have this reason, and none that is tried earlier.
 pub record HaveFirst (words : List (List ℕ)) (why : Reason) : Type 0 where
   pub has : WordsHave words why
-  pub first : (earlier : Reason) → turn_of earlier < turn_of why → ¬ WordsHave words earlier
+  pub first : (earlier : Reason) → rank_of earlier < rank_of why → ¬ WordsHave words earlier
 
 -- The line is neither blank nor a comment, and has this reason and none that is tried earlier.
 pub record IsFirstReason (line : List ℕ) (why : Reason) : Type 0 where
   pub some : words_of line ≢ []
   pub asks : ¬ IsComment (words_of line)
   pub has : HasReason line why
-  pub first : (earlier : Reason) → turn_of earlier < turn_of why → ¬ HasReason line earlier
+  pub first : (earlier : Reason) → rank_of earlier < rank_of why → ¬ HasReason line earlier
 
 -- What is said by a fault of these words; want of memory says nothing.
 abbrev pub FailsBy : (Reason → Type 0) → LineFault → Type 0

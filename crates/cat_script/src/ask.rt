@@ -14,7 +14,7 @@ ghost use Rattle.cat_script.specs.Reasons.{setting_verb, HaveFirst, IsFirstReaso
 use crate::cut::{is_plain, split_word};
 use crate::line::{Line, LineFault, Reason};
 use crate::number::{number_up_to, read_number};
-use cat_history::{CrashPlan, Listed, Op};
+use cat_history::{CrashPlan, Items, Op};
 use cat_key::Name;
 use std::alloc::Global;
 
@@ -179,7 +179,7 @@ fn read_crash(alloc: Global, rest: &[u8]) -> Result<Line, LineFault>
     };
     let plan = CrashPlan {
         seed,
-        budgets: Listed::of(budgets),
+        budgets: Items::of(budgets),
         updater_budget,
     };
     Ok(Line::Crash { plan })

@@ -5,7 +5,7 @@ ghost use Rattle.cat_script.specs.Generators.{number_after, next_number, drawn, 
 ghost use Rattle.cat_script.specs.Generators.{generated_call, generated_calls, generated_plan};
 
 use crate::grouping::{FIRST_LIMIT, FIRST_TURNS};
-use cat_history::{CallerOp, Listed, NoMemory, Op, RoundPlan};
+use cat_history::{CallerOp, Items, NoMemory, Op, RoundPlan};
 use cat_key::Name;
 use std::alloc::Global;
 
@@ -33,7 +33,7 @@ pub fn generated(alloc: Global, seed: u64, count: u64, callers: u64) -> Result<R
         number = second;
     }
     Ok(RoundPlan {
-        ops: Listed::of(ops),
+        ops: Items::of(ops),
         updater: FIRST_TURNS,
         limit: FIRST_LIMIT,
         crash: None,

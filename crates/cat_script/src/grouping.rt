@@ -9,7 +9,7 @@ ghost use Rattle.cat_script.specs.Rounds.{AreRounds, EndsBy};
 ghost use Rattle.cat_script.specs.declared.line.Line.{Line};
 
 use crate::line::Line;
-use cat_history::{CallerOp, CrashPlan, Listed, NoMemory, Op, RoundPlan};
+use cat_history::{CallerOp, CrashPlan, Items, NoMemory, Op, RoundPlan};
 use std::alloc::Global;
 use std::mem;
 
@@ -80,7 +80,7 @@ impl Grouping {
     {
         let ops = mem::replace(&mut self.ops, Vec::new(alloc));
         let plan = RoundPlan {
-            ops: Listed::of(ops),
+            ops: Items::of(ops),
             updater: self.updater,
             limit: self.limit,
             crash,
@@ -92,14 +92,14 @@ impl Grouping {
     }
 
     /// The rounds of a script that ends here.
-    pub(crate) fn finish(mut self) -> Result<Listed<RoundPlan>, NoMemory>
+    pub(crate) fn finish(mut self) -> Result<Items<RoundPlan>, NoMemory>
         ensures { IfOk result (λ rounds. (said : List Line) → IsGrouping said self → AreRounds said rounds) }
     {
         if self.ops.is_empty() && !self.ended.is_empty() {
-            return Ok(Listed::of(self.ended));
+            return Ok(Items::of(self.ended));
         }
         let plan = RoundPlan {
-            ops: Listed::of(self.ops),
+            ops: Items::of(self.ops),
             updater: self.updater,
             limit: self.limit,
             crash: None,
@@ -107,6 +107,6 @@ impl Grouping {
         if self.ended.push(plan).is_err() {
             return Err(NoMemory);
         }
-        Ok(Listed::of(self.ended))
+        Ok(Items::of(self.ended))
     }
 }

@@ -21,7 +21,7 @@ use crate::grouping::Grouping;
 use crate::line::{Line, LineFault};
 use crate::script::{Form, Script, ScriptLine};
 use crate::verb::Verb;
-use cat_history::{Listed, NoMemory, Op};
+use cat_history::{Items, NoMemory, Op};
 use std::alloc::Global;
 
 /// What was read of a script so far.
@@ -166,6 +166,6 @@ fn read_text(alloc: Global, bytes: &[u8]) -> Result<Script, ScriptFault>
     let rounds = rounds.finish()?;
     Ok(Script {
         rounds,
-        lines: Listed::of(lines),
+        lines: Items::of(lines),
     })
 }

@@ -1,7 +1,7 @@
 //! Scripts: what is asked, round by round, and which lines asked it.
 
 use crate::verb::Verb;
-use cat_history::{Listed, RoundPlan};
+use cat_history::{Items, RoundPlan};
 
 /// The form of a line that isn't blank, without all that it asks.
 #[derive(Clone, Copy)]
@@ -26,7 +26,7 @@ pub struct ScriptLine {
 /// What a text asks.
 #[derive(Drop)]
 pub struct Script {
-    pub rounds: Listed<RoundPlan>,
+    pub rounds: Items<RoundPlan>,
     /// The lines that ask something, in their order.
-    pub lines: Listed<ScriptLine>,
+    pub lines: Items<ScriptLine>,
 }

@@ -1,12 +1,12 @@
 //! Reports: what each call of each round was answered.
 
-use cat_history::{Listed, Record};
+use cat_history::{Items, Record};
 
 /// What a round came to.
 #[derive(Drop)]
 pub struct RoundReport {
     /// The records by caller, each caller's in the order of its calls.
-    pub records: Listed<Record>,
+    pub records: Items<Record>,
     /// Whether a crash ended the round.
     pub crashed: bool,
     /// How many writes of the round have a place.
@@ -16,4 +16,4 @@ pub struct RoundReport {
 }
 
 /// The rounds of a report, in order.
-pub type Report = Listed<RoundReport>;
+pub type Report = Items<RoundReport>;

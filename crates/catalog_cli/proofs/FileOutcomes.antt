@@ -10,10 +10,10 @@ use Rattle.cat_text.specs.Shelves.{FileMap}
 use Rattle.pm_words.specs.Bytes.{IsFault, image_in}
 use Rattle.pm_words.specs.Images.{Row}
 use Rattle.pm_words.specs.declared.layout.Layout.{Layout}
-use Rattle.sound_image.specs.Lowest.{IsFirst, IsFirstAt}
-use Rattle.sound_image.specs.declared.broken.Broken.{Broken}
+use Rattle.image_rules.specs.Lowest.{IsFirst, IsFirstAt}
+use Rattle.image_rules.specs.declared.broken.Broken.{Broken}
 use Rattle.pm_words.specs.Locations.{Word}
-use Rattle.sound_layer.specs.Sound.{BreaksAny, IsFirstOfAll, IsSoundByAll}
+use Rattle.image_layer_rules.specs.Sound.{BreaksAny, IsFirstOfAll, IsSoundByAll}
 use Rattle.catalog_cli.specs.Files.{FormatsSome, HasBytes, HasFile, HasImage, HasNoFile, IsLoadRefused, ListsWords, NamesFile, RunsScript, file_of}
 use Rattle.catalog_cli.specs.Headline.{CanBeDone, CanBeRun, Comes, FinishesOnFile, HasNoText, IsCauseOf, IsFileCause, IsOfWords, IsScriptCause, LeavesFiles, LeavesOldOrNew, LeavesShelf, LeavesSink, Prints, ReachesFile, ReadsFile, Seen, TellsFile, TellsRunRefusal, TellsSource}
 use Rattle.catalog_cli.specs.Headline.Prints.{reports, runs, sums_up, makes_file, lists_words}

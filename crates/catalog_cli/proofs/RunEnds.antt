@@ -9,9 +9,9 @@ use Rattle.cat_text.specs.declared.report.RoundReport.{RoundReport}
 use Rattle.pm_words.specs.Images.{Row}
 use Rattle.pm_words.specs.declared.layout.Layout.{Layout}
 use Rattle.shapes.specs.Anchors.{Anchors}
-use Rattle.sound_image.specs.Rules.{header_generation}
-use Rattle.sound_image.specs.Sound.{image_map}
-use Rattle.sound_image.specs.Weights.{image_weight}
+use Rattle.image_rules.specs.Rules.{header_generation}
+use Rattle.image_rules.specs.Sound.{image_map}
+use Rattle.image_rules.specs.Weights.{image_weight}
 use Rattle.version_lock.specs.Versions.{IsGeneration}
 use Rattle.index_law.specs.Anchors.{anchors_in, image_anchors}
 use Rattle.index_core.specs.Indexes.{Index, map_of_index, world}

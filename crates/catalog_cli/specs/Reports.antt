@@ -12,8 +12,8 @@ use Rattle.cat_text.specs.ReportGrammar.{IsReportText}
 use Rattle.cat_text.specs.declared.report.RoundReport.{RoundReport}
 use Rattle.pm_words.specs.Images.{Row}
 use Rattle.pm_words.specs.declared.layout.Layout.{Layout}
-use Rattle.sound_image.specs.Sound.{image_map}
-use Rattle.sound_image.specs.Weights.{image_weight}
+use Rattle.image_rules.specs.Sound.{image_map}
+use Rattle.image_rules.specs.Weights.{image_weight}
 use Rattle.shapes.specs.Anchors.{Anchors}
 use Rattle.index_law.specs.Anchors.{image_anchors}
 use Rattle.core_rounds.specs.CrashWork.{CrashRoundsWork}

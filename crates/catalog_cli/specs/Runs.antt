@@ -10,9 +10,9 @@ use Rattle.cat_text.specs.declared.report.RoundReport.{RoundReport}
 use Rattle.index_law.specs.Anchors.{image_anchors}
 use Rattle.pm_words.specs.Bytes.{IsFault}
 use Rattle.pm_words.specs.Images.{Row}
-use Rattle.sound_image.specs.Rules.{header_generation}
-use Rattle.sound_image.specs.Sound.{IsMapOf, image_map}
-use Rattle.sound_layer.specs.Sound.{IsFirstOfAll, IsSoundByAll}
+use Rattle.image_rules.specs.Rules.{header_generation}
+use Rattle.image_rules.specs.Sound.{IsMapOf, image_map}
+use Rattle.image_layer_rules.specs.Sound.{IsFirstOfAll, IsSoundByAll}
 use Rattle.version_lock.specs.Versions.{IsGeneration}
 use Rattle.core_rounds.specs.CoreMaps.{ImageHasNoLines, ImageWaits}
 use Rattle.core_rounds.specs.Waiting.{HaveNoTurns, changes_made, puts_asked, writes_asked}

@@ -6,6 +6,7 @@ use Rattle.std.specs.FinMap.{len}
 use Rattle.std.proofs.lemmas.Bool.{cases_eq, eq-eqb, false≢true, le-ltb, lt-ltb}
 use Rattle.std.proofs.Math.Nat.{min-le_right}
 use Rattle.version_lock.specs.declared.TheConstants.{LAST_COUNT}
+use Rattle.pm_words.specs.Codes.{free_status, gone_status}
 use Rattle.pm_words.specs.declared.layout.Layout.{Layout}
 use Rattle.cat_history.specs.Maps.{Map, map_of}
 use Rattle.cat_history.specs.Records.{as_op, change_of}
@@ -31,7 +32,7 @@ use Rattle.index_law.specs.Anchors.{anchors_of, anchors_in, gone_nodes, members_
 use Rattle.index_law.proofs.Maps.{after_all-push}
 use Rattle.index_law.specs.Weights.{weight_sum}
 use Rattle.index_law.specs.Worlds.{Party, World, facts, written}
-use Rattle.lone_law.specs.Locks.{fewest_locks, locks_of}
+use Rattle.lone_call_law.specs.Locks.{fewest_locks, locks_of}
 use Rattle.index_core.specs.declared.party.CoreCall.{CoreCall}
 use Rattle.index_core.specs.declared.party.CoreCall.TheVariants as call
 use mathlib.Core.Option.{some, some-injective}
@@ -62,9 +63,8 @@ use Rattle.index_core.proofs.Alone.{target_has}
 use Rattle.index_core.proofs.Quiet.{idle_parties, quiet_is_still, rests}
 use Rattle.index_law.proofs.Parties.{set_else, set_here}
 use Rattle.index_law.proofs.Sizes.{nodes_are_counted}
-use Rattle.lone_law.proofs.Shapes.{no_room_is_full}
-use Rattle.call_stages.specs.Kinds.{free_status, gone_status}
-use Rattle.lone_turn.specs.LoneTurns.{stamp_in}
+use Rattle.lone_call_law.proofs.Shapes.{no_room_is_full}
+use Rattle.lone_updater_law.specs.LoneTurns.{stamp_in}
 use Rattle.shapes.specs.Anchors.{IsFullPut}
 use Rattle.cat_key.specs.Names.{IsName}
 use Rattle.node_ops.specs.Asked.{name_asked}

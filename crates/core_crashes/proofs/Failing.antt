@@ -6,7 +6,7 @@ use Rattle.pm_words.specs.Rows.{durable_row}
 use Rattle.cat_history.specs.Maps.{Map, map_of}
 use Rattle.cat_history.specs.Writes.{after_all}
 use Rattle.cat_history.specs.CrashEnds.{IsCrashEnd}
-use Rattle.sound_image.proofs.MapLemmas.{has_one_map}
+use Rattle.image_rules.proofs.MapLemmas.{has_one_map}
 use Rattle.index_core.specs.declared.party.PartyState.{PartyState}
 use Rattle.index_core.specs.Crashes.{IsCrash, cut_changes}
 use Rattle.index_core.specs.CrashLaws.{chosen_index, crash_image}

@@ -32,8 +32,8 @@ use Rattle.stopped_rounds.specs.Stops.{HasStopped}
 use Rattle.stopped_rounds.specs.declared.crash_round.StoppedRound.{StoppedRound}
 use Rattle.stopped_rounds.proofs.LoneStopLemmas.{answered_are_done, lone_stops_are_stopped}
 use Rattle.stopped_rounds.proofs.MoreCutsLemmas.{more_cuts_are_crash_ends}
-use Rattle.turn_row.proofs.RowColumns.{column-same}
-use Rattle.lone_turn.specs.LoneTurns.{stamp_in}
+use Rattle.updater_row_law.proofs.RowColumns.{column-same}
+use Rattle.lone_updater_law.specs.LoneTurns.{stamp_in}
 use Rattle.index_law.specs.Anchors.{anchors_in}
 use Rattle.index_law.specs.Weights.{weight_sum}
 use Rattle.index_core.specs.Costs.{turn_actions}

@@ -13,6 +13,7 @@ use Rattle.cat_history.specs.declared.op.Op.TheVariants.{Put, Get, Del, Scan}
 use Rattle.cat_history.specs.declared.record.Record.{Record}
 use Rattle.cat_history.specs.declared.record.Reply.{Reply}
 use Rattle.cat_history.specs.declared.record.Reply.TheVariants.{Old, Parts, Full, Spent, Cut, Unstarted}
+use Rattle.pm_words.specs.Codes.{empty_state, ready_state, gone_status}
 use Rattle.pm_words.specs.declared.again.Again.{Again}
 use Rattle.pm_words.specs.declared.layout.Layout.{Layout}
 use Rattle.pm_words.specs.Locations.{Cached, Clock}
@@ -20,11 +21,10 @@ use Rattle.pm_words.proofs.Apart.{at-set_other}
 use Rattle.call_stages.specs.declared.once.Once.{Once}
 use Rattle.call_stages.specs.declared.once.Once.TheVariants as once
 use Rattle.call_stages.specs.declared.once.Placed.{Placed}
-use Rattle.lone_turn.specs.CallLogs.{empty_lines, ready_lines}
-use Rattle.lone_turn.specs.LoneTurns.{line_state}
-use Rattle.turn_law.specs.Covers.{empty_state, ready_state}
-use Rattle.turn_row.specs.Columns.{line_count, line_word}
-use Rattle.turn_row.proofs.RowColumns.{column-same}
+use Rattle.lone_updater_law.specs.CallLogs.{empty_lines, ready_lines}
+use Rattle.lone_updater_law.specs.LoneTurns.{line_state}
+use Rattle.updater_row_law.specs.Columns.{line_count, line_word}
+use Rattle.updater_row_law.proofs.RowColumns.{column-same}
 use Rattle.updater.specs.Events.{how_many}
 use Rattle.index_core.specs.CoreCalls.{most_writes, op_of}
 use Rattle.index_core.specs.Costs.{WithMost, most_actions}
@@ -36,18 +36,17 @@ use Rattle.index_core.specs.declared.party.CoreCall.{CoreCall}
 use Rattle.index_core.specs.declared.party.CoreCall.TheVariants as call
 use Rattle.index_core.proofs.Costs.{actions_are_few}
 use Rattle.index_core.proofs.Taken.{del_length, put_length, taken_kept}
-use Rattle.call_stages.specs.Kinds.{gone_status}
 use Rattle.version_lock.specs.Versions.{IsWorn}
 use Rattle.shapes.specs.Anchors.{Anchors, del_anchors, merges, middle_of, past, put_anchors, splits, up_to}
 use Rattle.shapes.specs.declared.map.Full.{Full as NoRoom}
 use Rattle.index_law.specs.Anchors.{anchors_in, anchors_of, gone_nodes}
 use Rattle.index_law.specs.Facts.{Facts}
 use Rattle.index_law.specs.Worlds.{facts}
-use Rattle.lone_law.specs.Locks.{fewest_locks}
-use Rattle.lone_law.proofs.Locks.{worn_has_none}
-use Rattle.lone_turn.specs.CallLogs.{is_own_empty}
-use Rattle.lone_turn.specs.LoneTurns.{is_ready, stamp_in}
-use Rattle.lone_turn.proofs.Ending.{gone_are_held_back}
+use Rattle.lone_call_law.specs.Locks.{fewest_locks}
+use Rattle.lone_call_law.proofs.Locks.{worn_has_none}
+use Rattle.lone_updater_law.specs.CallLogs.{is_own_empty}
+use Rattle.lone_updater_law.specs.LoneTurns.{is_ready, stamp_in}
+use Rattle.lone_updater_law.proofs.Ending.{gone_are_held_back}
 use Rattle.updater.specs.declared.terms.Turned.{Turned}
 use Rattle.index_core.specs.Fulls.{HasLowStamps}
 use Rattle.index_core.specs.Indexes.{layered}

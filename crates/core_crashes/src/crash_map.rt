@@ -16,11 +16,11 @@ ghost use Rattle.index_law.specs.Anchors.{anchors_in};
 ghost use Rattle.index_core.specs.Indexes.{world};
 
 use call_stages::Once;
-use cat_history::{Listed, NoMemory};
+use cat_history::{Items, NoMemory};
 use cat_key::Name;
 use index_core::{Core, CoreCall, listed_pairs};
 use node_ops::PartWords;
-use pm_words::Steps;
+use pm_words::{MOST_WRITES, Steps};
 use shapes::{Full, MapPart};
 use std::alloc::Global;
 use std::marker::{Brand, Model, PhantomData};
@@ -29,9 +29,6 @@ use stopped_rounds::{Bounded, BoundedMap};
 
 /// The stamp that turns of the updater give to merged nodes, and the greatest that they release.
 const STAMP: u64 = 1;
-
-/// The clock at which writes are refused. No run comes as far.
-const LIMIT: u64 = 1 << 62;
 
 /// The layout and the generation of a run of the index, and where its members began, for proofs alone.
 pub trait CrashRun {
@@ -250,7 +247,7 @@ impl<L: Ledger, K: CrashRun> BoundedMap for CrashMap<L, K> {
         match self.list(low, count, budget) {
             Bounded::Answered(words) => Ok(Bounded::Answered(MapPart {
                 high: words.high,
-                pairs: Listed::of(listed_pairs(alloc, &words)?),
+                pairs: Items::of(listed_pairs(alloc, &words)?),
             })),
             Bounded::Cut { placed } => Ok(Bounded::Cut { placed }),
         }
@@ -265,7 +262,7 @@ impl<L: Ledger, K: CrashRun> BoundedMap for CrashMap<L, K> {
         let call = CoreCall::Put {
             name: *name,
             value,
-            limit: LIMIT,
+            limit: MOST_WRITES,
         };
         self.name_call(call, budget)
     }
@@ -273,7 +270,7 @@ impl<L: Ledger, K: CrashRun> BoundedMap for CrashMap<L, K> {
     fn del(&mut self, name: &Name, budget: &mut u64) -> Bounded<Option<u64>> {
         let call = CoreCall::Del {
             name: *name,
-            limit: LIMIT,
+            limit: MOST_WRITES,
         };
         match self.name_call(call, budget) {
             Bounded::Answered(Ok(old)) => Bounded::Answered(old),

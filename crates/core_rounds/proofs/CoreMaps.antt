@@ -11,6 +11,7 @@ use Rattle.std.proofs.lemmas.Cmp.{nat_list_cmp_total}
 use Rattle.cat_key.specs.Names.{IsName, name_cmp}
 use Rattle.cat_history.specs.Maps.{Map, at, map_of}
 use Rattle.cat_history.specs.Writes.{after_all}
+use Rattle.pm_words.specs.Codes.{empty_state, ready_state}
 use Rattle.pm_words.specs.declared.layout.Layout.{Layout}
 use Rattle.shapes.specs.Members.{Member, members}
 use Rattle.shapes.specs.ShapeRounds.{PutsFull}
@@ -38,8 +39,8 @@ use Rattle.index_law.specs.Anchors.{anchors_of, anchors_in}
 use Rattle.index_law.specs.Worlds.{World, facts}
 use Rattle.index_law.proofs.Holding.{idle_has_shape}
 use Rattle.index_law.proofs.Starts.{listed_within}
-use Rattle.lone_law.specs.Merging.{NextIsWorn, next_node}
-use Rattle.lone_law.proofs.Locks.{worn_has_none}
+use Rattle.lone_call_law.specs.Merging.{NextIsWorn, next_node}
+use Rattle.lone_call_law.proofs.Locks.{worn_has_none}
 use Rattle.index_core.specs.Indexes.{Index, IsIndex, map_of_index, world}
 use Rattle.index_core.specs.Lone.{IsQuiet, FindsNoRoom, FindsWornNode, HasSameList, IsOver, IsWornNode, IsWholeAnswer, RunsAlone, LeavesList, most_tries, SplitsFor, SplitsNothing, MergesFor, MergesNothing, node_for, locks_left, alone_writes, whole_of, part_whole}
 use Rattle.index_core.specs.declared.party.CoreCall.TheVariants as call
@@ -51,12 +52,11 @@ use Rattle.index_core.specs.Fulls.{HasLowStamps}
 use Rattle.index_core.specs.Weights.{added_if, added_whole, put_count, weight_of}
 use Rattle.cat_history.specs.declared.op.NameOp.{NameOp}
 use Rattle.cat_history.specs.declared.op.NameOp.TheVariants as op
-use Rattle.lone_turn.specs.CallLogs.{is_own_empty}
-use Rattle.lone_turn.specs.LoneTurns.{is_ready, line_state, stamp_in, stamp_then}
-use Rattle.turn_law.specs.Covers.{empty_state, ready_state}
-use Rattle.turn_row.specs.Columns.{column, line_count, line_word}
-use Rattle.turn_row.proofs.RowColumns.{column-here}
-use Rattle.recovery_law.proofs.RowColumns.{word_if-here}
+use Rattle.lone_updater_law.specs.CallLogs.{is_own_empty}
+use Rattle.lone_updater_law.specs.LoneTurns.{is_ready, line_state, stamp_in, stamp_then}
+use Rattle.updater_row_law.specs.Columns.{column, line_count, line_word}
+use Rattle.updater_row_law.proofs.RowColumns.{column-here}
+use Rattle.image_recovery_law.proofs.RowColumns.{word_if-here}
 use Rattle.updater.specs.Events.{how_many}
 use Rattle.updater.specs.declared.terms.Turned.{Turned}
 use Rattle.index_core.specs.Turns.{TurnsAlone}
@@ -70,7 +70,7 @@ use Rattle.cat_history.proofs.ReplayLemmas.{map_of-pairs_of}
 use Rattle.pm_words.specs.Images.{Row}
 use Rattle.pm_words.specs.Locations.{Cached}
 use Rattle.pm_words.specs.Locations as positions
-use Rattle.sound_image.specs.Sound.{IsMapOf, image_map}
+use Rattle.image_rules.specs.Sound.{IsMapOf, image_map}
 use Rattle.index_law.specs.Anchors.{image_anchors}
 use Rattle.core_rounds.specs.CoreMaps.{calls_left_of, writes_left_of, IsUnlimited, HasNoLines, IsCoreMap, IsOfRun, OpenedIsMap, Waits, anchors_made}
 use Rattle.core_rounds.specs.Waiting.{one_if}

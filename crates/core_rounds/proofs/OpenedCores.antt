@@ -12,13 +12,13 @@ use Rattle.pm_words.proofs.Made.{fresh_at}
 use Rattle.version_lock.specs.Versions.{IsGeneration}
 use Rattle.data_node.specs.Lists.{next_offset}
 use Rattle.data_node.proofs.ListLemmas.{chain_is}
-use Rattle.sound_image.specs.Nodes.{image_list, image_spot}
-use Rattle.sound_image.specs.Rules.{header_generation}
-use Rattle.sound_image.specs.Sound.{image_map}
-use Rattle.sound_image.proofs.FreshLemmas.{fresh_is_sound}
-use Rattle.sound_image.proofs.MapLemmas.{has_one_map}
-use Rattle.sound_image.proofs.WordLemmas.{image_spot-here}
-use Rattle.sound_layer.proofs.FreshLaw.{fresh_is_sound_by_all}
+use Rattle.image_rules.specs.Nodes.{image_list, image_spot}
+use Rattle.image_rules.specs.Rules.{header_generation}
+use Rattle.image_rules.specs.Sound.{image_map}
+use Rattle.image_rules.proofs.FreshLemmas.{fresh_is_sound}
+use Rattle.image_rules.proofs.MapLemmas.{has_one_map}
+use Rattle.image_rules.proofs.WordLemmas.{image_spot-here}
+use Rattle.image_layer_rules.proofs.FreshLaw.{fresh_is_sound_by_all}
 use Rattle.shapes.specs.Weights.{weight}
 use Rattle.shapes.proofs.Shapes.{len-keys}
 use Rattle.shapes.proofs.Targets.{all-between}
@@ -29,7 +29,7 @@ use Rattle.index_law.proofs.Holding.{idle_has_shape}
 use Rattle.index_core.specs.Indexes.{Index, map_of_index, world}
 use Rattle.index_core.specs.Weights.{weight_of}
 use Rattle.index_core.proofs.Quiet.{quiet_parties}
-use Rattle.rest_image.specs.Rest.{IsRestImage, cached_image}
+use Rattle.index_image_law.specs.Rest.{IsRestImage, cached_image}
 use Rattle.recovery.specs.Opened.{IsOpenedFrom, IsOpenFault}
 use Rattle.recovery.specs.declared.opening.OpenFault.{OpenFault}
 use Rattle.recovery.specs.declared.opening.OpenFault.TheVariants as opening

@@ -1,18 +1,18 @@
 -- What calls on an index leave to the updater.
 use Rattle.std.proofs.Common.{◌≡◌, ℕ, zero, suc, ◌+◌, ◌*◌, ◌<◌, ◌≤◌, ◌==◌, ◌⊎◌, ⊎_elim, inl, inr, Bool, false, cond, List, length, refl, sym, ap, ◌∙◌, subst, arith}
 use Rattle.std.proofs.lemmas.Bool.{cases_eq}
+use Rattle.pm_words.specs.Codes.{empty_state, ready_state}
 use Rattle.pm_words.specs.declared.layout.Layout.{Layout}
 use Rattle.shapes.specs.Anchors.{Anchors, merges}
 use Rattle.data_node.specs.Lists.{ListNode}
 use Rattle.call_stages.specs.declared.once.Placed.{Placed}
 use Rattle.index_law.specs.Anchors.{anchors_in, anchors_of}
-use Rattle.lone_law.specs.Merging.{NextIsWorn}
+use Rattle.lone_call_law.specs.Merging.{NextIsWorn}
 use Rattle.index_law.specs.Worlds.{World}
-use Rattle.lone_turn.specs.CallLogs.{KeepsLines, MakesReady, empty_lines, is_own_empty}
-use Rattle.lone_turn.specs.LoneTurns.{line_state}
-use Rattle.lone_turn.proofs.ReadyCounts.{empty_are_counted, ready_are_counted}
-use Rattle.turn_law.specs.Covers.{empty_state, ready_state}
-use Rattle.turn_law.proofs.Columns.{other}
+use Rattle.lone_updater_law.specs.CallLogs.{KeepsLines, MakesReady, empty_lines, is_own_empty}
+use Rattle.lone_updater_law.specs.LoneTurns.{line_state}
+use Rattle.lone_updater_law.proofs.ReadyCounts.{empty_are_counted, ready_are_counted}
+use Rattle.updater_law.proofs.Columns.{other}
 use Rattle.updater.specs.Events.{how_many}
 use Rattle.index_core.specs.CoreCalls.{most_writes}
 use Rattle.index_core.specs.Indexes.{Index, IsIndex, map_of_index, world}

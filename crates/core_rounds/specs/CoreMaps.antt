@@ -1,20 +1,20 @@
 -- The index, called by one caller with no other call in flight, as a map of names.
 use Rattle.std.specs.Prelude.{◌≡◌, ℕ, ◌+◌, ◌-◌, ◌*◌, ◌/◌, ◌%◌, ◌^◌, ◌<◌, ◌≤◌, ◌==◌, ◌⊎◌, min, length}
 use Rattle.std.specs.FinMap.{len}
+use Rattle.pm_words.specs.Codes.{empty_state, ready_state}
 use Rattle.pm_words.specs.Images.{Row}
 use Rattle.pm_words.specs.Locations.{Line, word_at}
 use Rattle.pm_words.specs.Rows.{cached_row}
 use Rattle.pm_words.specs.declared.layout.Layout.{Layout}
 use Rattle.shapes.specs.Anchors.{Anchors, put_anchors, del_anchors, merges, splits}
 use Rattle.shapes.specs.ShapeRounds.{IsShapeWithin}
-use Rattle.sound_image.specs.Rules.{header_generation}
-use Rattle.sound_image.specs.Sound.{IsMapOf, image_map}
-use Rattle.sound_image.specs.Weights.{image_weight}
-use Rattle.sound_layer.specs.Sound.{IsSoundByAll}
+use Rattle.image_rules.specs.Rules.{header_generation}
+use Rattle.image_rules.specs.Sound.{IsMapOf, image_map}
+use Rattle.image_rules.specs.Weights.{image_weight}
+use Rattle.image_layer_rules.specs.Sound.{IsSoundByAll}
 use Rattle.index_law.specs.Anchors.{anchors_in, image_anchors}
-use Rattle.lone_turn.specs.CallLogs.{empty_lines, ready_lines}
-use Rattle.lone_turn.specs.LoneTurns.{line_state}
-use Rattle.turn_law.specs.Covers.{empty_state, ready_state}
+use Rattle.lone_updater_law.specs.CallLogs.{empty_lines, ready_lines}
+use Rattle.lone_updater_law.specs.LoneTurns.{line_state}
 use Rattle.updater.specs.Events.{how_many}
 use Rattle.index_core.specs.declared.party.CoreCall.{CoreCall}
 use Rattle.index_core.specs.declared.party.CoreCall.TheVariants as call

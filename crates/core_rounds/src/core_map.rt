@@ -21,11 +21,11 @@ ghost use Rattle.core_rounds.specs.CoreMaps.{Waits, anchors_made, calls_left_of,
 
 use crate::updated_map::UpdatedMap;
 use call_stages::Once;
-use cat_history::{Listed, NoMemory};
+use cat_history::{Items, NoMemory};
 use cat_key::Name;
 use index_core::{Core, CoreCall, listed_pairs};
 use node_ops::PartWords;
-use pm_words::{Image, Steps};
+use pm_words::{Image, MOST_WRITES, Steps};
 use shapes::{Full, MapPart};
 use std::alloc::Global;
 use std::marker::{Brand, Model, PhantomData};
@@ -33,9 +33,6 @@ use std::sync::ledger::Ledger;
 
 /// The stamp that turns of the updater give to merged nodes, and the greatest that they release.
 const STAMP: u64 = 1;
-
-/// The clock at which writes are refused. No run comes as far.
-const LIMIT: u64 = 1 << 62;
 
 /// The layout and the generation of a run of the index, for proofs alone: no call changes them.
 pub trait RunOf {
@@ -160,7 +157,7 @@ impl<L: Ledger, K: RunOf> UpdatedMap for CoreMap<L, K> {
         let words = list_alone(&mut self.core, caller, low, count, &mut self.steps);
         Ok(MapPart {
             high: words.high,
-            pairs: Listed::of(listed_pairs(alloc, &words)?),
+            pairs: Items::of(listed_pairs(alloc, &words)?),
         })
     }
 
@@ -168,7 +165,7 @@ impl<L: Ledger, K: RunOf> UpdatedMap for CoreMap<L, K> {
         let call = CoreCall::Put {
             name: *name,
             value,
-            limit: LIMIT,
+            limit: MOST_WRITES,
         };
         let old = call_alone(&mut self.core, caller, call, &mut self.steps)?;
         if old.is_none() {
@@ -180,7 +177,7 @@ impl<L: Ledger, K: RunOf> UpdatedMap for CoreMap<L, K> {
     fn del(&mut self, caller: u64, name: &Name) -> Option<u64> {
         let call = CoreCall::Del {
             name: *name,
-            limit: LIMIT,
+            limit: MOST_WRITES,
         };
         match call_alone(&mut self.core, caller, call, &mut self.steps) {
             Ok(old) => {

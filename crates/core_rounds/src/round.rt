@@ -17,7 +17,7 @@ ghost use Rattle.core_rounds.specs.Rounds.{EndsWithTurn, IsPlayedRound, IsTurnDu
 ghost use Rattle.core_rounds.specs.Waiting.{changes_in, one_change, one_put, one_write, puts_among, writes_among};
 
 use crate::updated_map::UpdatedMap;
-use cat_history::{CutMark, Listed, NoMemory, Op, Parts, Record, Reply, RoundPlan, ScanPart};
+use cat_history::{CutMark, Items, NoMemory, Op, Parts, Record, Reply, RoundPlan, ScanPart};
 use cat_key::Name;
 use cat_text::RoundReport;
 use shapes::{Full, MapPart};
@@ -91,7 +91,7 @@ pub fn run_lone_round<M: UpdatedMap>(
         records.push_reserved(record);
     }
     Ok(RoundReport {
-        records: Listed::of(records),
+        records: Items::of(records),
         crashed: false,
         writes,
         names: map.len(),
@@ -258,7 +258,7 @@ fn scan<M: UpdatedMap>(
         parts.push(part)?;
         next = if left > 0 { high } else { None };
     }
-    Ok(Listed::of(parts))
+    Ok(Items::of(parts))
 }
 
 /// Reads the part of a scan that begins at this name, with so many names left.

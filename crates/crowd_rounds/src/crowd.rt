@@ -5,8 +5,8 @@ ghost use Rattle.core_rounds.specs.LoneCalls.{AreReportCalls};
 ghost use Rattle.index_core.specs.Lone.{IsQuiet};
 ghost use Rattle.recovery.specs.Opened.{IsOpenedFrom};
 ghost use Rattle.recovery.specs.declared.opening.OpenFault.TheVariants.{NoMemory as OutOfMemory};
-ghost use Rattle.sound_image.specs.Rules.{header_generation};
-ghost use Rattle.sound_layer.specs.Sound.{IsSoundByAll};
+ghost use Rattle.image_rules.specs.Rules.{header_generation};
+ghost use Rattle.image_layer_rules.specs.Sound.{IsSoundByAll};
 ghost use Rattle.version_lock.specs.Versions.{IsGeneration};
 ghost use Rattle.crowd_rounds.specs.Crowds.{IsPlayedAs, IsReportedBehind, IsReportedCrash};
 

@@ -23,7 +23,7 @@ ghost use Rattle.crowd_rounds.specs.Segments.{AreFirstPlain, AreFirstPlayed, Are
 ghost use Rattle.crowd_rounds.specs.Segments.{ArePlayedOn, HasBudgets, IsPlayedRestart, WorkOn};
 
 use crate::crowd::{Crowd, play_crowd};
-use cat_history::{Listed, NoMemory, RoundPlan};
+use cat_history::{Items, NoMemory, RoundPlan};
 use cat_text::{Report, RoundReport};
 use core_crashes::{CrashedRound, crash_round};
 use core_rounds::{LoneRounds, has_restart, is_crowd, open_fresh, play_lone, restarts};
@@ -112,7 +112,7 @@ pub fn play_rounds<R: Threads + Wait + Sync, G: Gate>(
     if restarts(plans) == 0 {
         let LoneRounds { reports, core } = play_lone(alloc, core, plans)?;
         return Ok(PlayedRounds {
-            report: Listed::of(reports),
+            report: Items::of(reports),
             core,
         });
     }
@@ -144,7 +144,7 @@ fn play_mixed<R: Threads + Wait + Sync, G: Gate>(
         core = next;
     }
     Ok(PlayedRounds {
-        report: Listed::of(reports),
+        report: Items::of(reports),
         core,
     })
 }

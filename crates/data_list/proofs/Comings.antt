@@ -5,11 +5,11 @@ use Rattle.std.specs.List.{AllByRecursion, IsDistinct, list_any}
 use Rattle.std.proofs.Math.Dec.{eqb}
 use Rattle.std.proofs.lemmas.Bool.{cases_eq, eq-eqb, ne_eqb, lt-ltb, le-ltb, leb-true, leb-false}
 use Rattle.std.proofs.lemmas.Map.Steps.{length-le_from_distinct_below}
+use Rattle.pm_words.specs.Codes.{free_status, live_status, gone_status}
 use Rattle.pm_words.specs.declared.layout.Layout.{Layout}
 use Rattle.data_node.specs.Lists.{ListNode, next_offset, anchor_in, target_from, IsBetween, IsMember, IsIn, IsChain, Rise}
 use Rattle.data_node.specs.Spots.{Spot}
 use Rattle.data_node.proofs.ListLemmas.{target_in, target_between, all_member, rise_at}
-use Rattle.call_stages.specs.Kinds.{free_status, live_status, gone_status}
 use Rattle.call_stages.specs.Orders.{IsOneOf, Ordered}
 use Rattle.data_list.specs.Still.{Nodes, position_from, IsQuietList, AreQuiet, Comes, is_there, leaves_free, leaves_gone, goes_back, goes_on, FirstComes, EachComes, ComesOnce, ComesSoon}
 

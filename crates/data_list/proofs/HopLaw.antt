@@ -1,6 +1,7 @@
 -- Each turn of a walk keeps node and hops, or makes one hop.
 use Rattle.std.proofs.Common.{◌≡◌, ◌≢◌, ℕ, ◌+◌, ◌*◌, ◌<◌, ◌==◌, true, false, cond, ltb, inl, inr, Some, None, refl, sym, ap, ◌∙◌, arith}
 use Rattle.std.proofs.lemmas.Bool.{eqb-true, eqb-false, ltb-false}
+use Rattle.pm_words.specs.Codes.{live_status, gone_status}
 use Rattle.pm_words.specs.declared.action.Action.TheVariants.{Load}
 use Rattle.data_node.specs.Lists.{next_offset}
 use Rattle.pm_words.specs.declared.machine.Turn.{Turn}
@@ -13,7 +14,7 @@ use Rattle.data_list.specs.declared.walk.WalkAt.{WalkAt}
 use Rattle.data_list.specs.declared.walk.WalkAt.TheVariants as at
 use Rattle.data_list.specs.Keys.{key_number, words_in}
 use Rattle.data_list.specs.Walks.{landing, loads_at, hops_to, target, words_of_key, walk_at_asks, walk_at_turned, LeadsOn, IsWalkAt, KnowsFirst, IsWalk}
-use Rattle.call_stages.specs.Kinds.{live_status, gone_status, Told, status_address, word_address}
+use Rattle.call_stages.specs.Kinds.{Told, status_address, word_address}
 use Rattle.version_lock.specs.Versions.{is_free_word}
 use Rattle.data_list.specs.Hops.{hop_from, HopsAt, WalksHop}
 use Rattle.version_lock.proofs.WordTests.{taken_word}

@@ -1,13 +1,13 @@
 -- A walk that nobody disturbs comes to the target of its key.
 use Rattle.std.proofs.Common.{◌≡◌, ◌≢◌, ℕ, zero, suc, ◌+◌, ◌*◌, ◌<◌, ◌≤◌, ◌==◌, true, false, cond, ltb, Some, None, inl, inr, ⊎_elim, refl, sym, subst, ap, ◌∙◌, arith, Option}
 use Rattle.std.proofs.lemmas.Bool.{eqb-true, eqb-false, ne_eqb, ltb-true, ltb-false, lt-ltb}
+use Rattle.pm_words.specs.Codes.{live_status, gone_status}
 use Rattle.pm_words.specs.declared.layout.Layout.{Layout}
 use Rattle.pm_words.specs.declared.machine.Turn.{Turn}
 use Rattle.pm_words.specs.declared.machine.Turn.TheVariants.{Go, Done}
 use Rattle.pm_words.specs.declared.again.Again.TheVariants.{Locked, Hops}
 use Rattle.data_node.specs.Lists.{next_offset, anchor_in, target_from, IsIn, Rise}
 use Rattle.data_node.proofs.ListLemmas.{between_target, chain_closed}
-use Rattle.call_stages.specs.Kinds.{live_status, gone_status}
 use Rattle.data_list.specs.declared.key.KeyWords.{KeyWords}
 use Rattle.data_list.specs.declared.target.Next.{Next}
 use Rattle.data_list.specs.declared.target.Target.{Target}

@@ -1,6 +1,7 @@
 -- Each turn of a walk is a look, and a watch.
 use Rattle.std.proofs.Common.{◌≡◌, ◌≢◌, ℕ, zero, suc, ◌+◌, ◌*◌, ◌<◌, ◌≤◌, ◌==◌, true, false, cond, ltb, [], ◌∷◌, slice_index, Option, Some, None, refl, sym, subst, ap, arith}
 use Rattle.std.proofs.lemmas.Bool.{eqb-true, eqb-false, ltb-true, ltb-false}
+use Rattle.pm_words.specs.Codes.{live_status, gone_status}
 use Rattle.pm_words.specs.declared.layout.Layout.{Layout}
 use Rattle.pm_words.specs.declared.action.Action.{Action}
 use Rattle.pm_words.specs.declared.action.Action.TheVariants.{Load}
@@ -16,7 +17,7 @@ use Rattle.call_stages.specs.declared.once.Placed.{Placed}
 use Rattle.call_stages.specs.Stages.{Sight, Sees, Tells, no_sight, Stage, Idle, Saw, Wears, Reads, IsLoose}
 use Rattle.call_stages.specs.Watches.{Watching, Nothing, Watches, Watch}
 use Rattle.call_stages.specs.Watches as watch
-use Rattle.call_stages.specs.Kinds.{HasWordAt, word_address, version_address, status_address, prev_address, live_status, gone_status, Told, GivesUp, Look, turns_back, wears, roams, roams_status, is_worn, sees, finds_live, watches, watches_next, turns_away, steps_back, wanders}
+use Rattle.call_stages.specs.Kinds.{HasWordAt, word_address, version_address, status_address, prev_address, Told, GivesUp, Look, turns_back, wears, roams, roams_status, is_worn, sees, finds_live, watches, watches_next, turns_away, steps_back, wanders}
 use Rattle.data_list.specs.declared.key.KeyWords.{KeyWords}
 use Rattle.data_list.specs.declared.target.Next.{Next}
 use Rattle.data_list.specs.declared.target.Sighting.{Sighting}

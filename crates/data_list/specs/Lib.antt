@@ -1,5 +1,4 @@
 pub mod Keys
-pub mod Advances
 pub mod Walks
 pub mod WalkStages
 pub mod Hops

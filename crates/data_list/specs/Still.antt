@@ -1,13 +1,13 @@
 -- A walk while nobody changes the list: it comes to the target of its key.
 use Rattle.std.specs.Prelude.{◌≡◌, ◌≢◌, ℕ, suc, ◌+◌, ◌<◌, ◌≤◌, ◌⊎◌, nat_le, if◌then◌else◌, List, [], ◌∷◌}
 use Rattle.std.specs.List.{AllByRecursion}
+use Rattle.pm_words.specs.Codes.{free_status, live_status, gone_status}
 use Rattle.pm_words.specs.declared.layout.Layout.{Layout}
 use Rattle.pm_words.specs.declared.machine.Turn.{Turn}
 use Rattle.pm_words.specs.declared.machine.Turn.TheVariants.{Go, Done}
 use Rattle.version_lock.specs.Versions.{IsFree}
 use Rattle.data_node.specs.Spots.{Spot}
 use Rattle.data_node.specs.Lists.{ListNode, next_offset, anchor_in, target_from, IsIn, IsChain, Rise}
-use Rattle.call_stages.specs.Kinds.{free_status, live_status, gone_status}
 use Rattle.call_stages.specs.Orders.{AreInOrder}
 use Rattle.data_list.specs.declared.key.KeyWords.{KeyWords}
 use Rattle.data_list.specs.declared.target.Target.{Target}

@@ -1,6 +1,7 @@
 -- The walk to the node of a key, step by step.
 use Rattle.std.specs.Prelude.{◌≡◌, ◌≢◌, ℕ, ◌+◌, ◌-◌, ◌*◌, ◌<◌, ◌≤◌, ◌==◌, nat_lt, if◌then◌else◌, List}
 use Rattle.std.specs.Prelude.{Option, Some, None}
+use Rattle.pm_words.specs.Codes.{live_status, gone_status}
 use Rattle.pm_words.specs.declared.layout.Layout.{Layout}
 use Rattle.pm_words.specs.declared.action.Action.{Action}
 use Rattle.pm_words.specs.declared.action.Action.TheVariants.{Load}
@@ -10,8 +11,8 @@ use Rattle.pm_words.specs.declared.machine.Turn.TheVariants.{Go, Done}
 use Rattle.pm_words.specs.Layouts.{IsLayout}
 use Rattle.version_lock.specs.Versions.{generation_of, IsFree, is_free_word}
 use Rattle.data_node.specs.Lists.{next_offset}
-use Rattle.call_stages.specs.Kinds.{word_address, version_address, status_address, prev_address, live_status}
-use Rattle.call_stages.specs.Kinds.{gone_status, Told}
+use Rattle.call_stages.specs.Kinds.{word_address, version_address, status_address, prev_address}
+use Rattle.call_stages.specs.Kinds.{Told}
 use Rattle.data_list.specs.declared.key.KeyWords.{KeyWords}
 use Rattle.data_list.specs.declared.target.Next.{Next}
 use Rattle.data_list.specs.declared.target.Sighting.{Sighting}

@@ -19,15 +19,10 @@ ghost use Rattle.std.specs.Prelude.{◌≡◌, ℕ, ◌+◌, ◌*◌, ◌^◌, �
 use crate::key::KeyWords;
 use crate::target::{Next, Target, Walked};
 use cat_key::WORDS;
+use pm_words::codes::status::{GONE, LIVE};
 use pm_words::offsets::{node, volatile};
 use pm_words::{Action, Again, Layout, Machine, Turn};
 use version_lock::is_free;
-
-/// The status of a node that is in use.
-const LIVE: u64 = 1;
-
-/// The status of a node that was merged into another.
-const GONE: u64 = 2;
 
 /// A walk: it goes from node to node until it is at the one in whose range its key lies.
 #[derive(Clone, Copy)]
@@ -134,7 +129,7 @@ impl Walk {
     ghost use Rattle.call_stages.specs.Kinds.{word_address};
     ghost use Rattle.data_list.specs.Keys.{key_words};
     ghost use Rattle.data_list.specs.declared.walk.WalkAt.TheVariants as WalkAt;
-    ghost use Rattle.data_list.specs.Advances.{AdvancesTo};
+    ghost use Rattle.pm_words.specs.Turns.{AdvancesTo};
     ghost use Rattle.data_list.specs.Walks.{IsWalk, walk_from, walk_takes, walk_turned, walk_left, target, loads_at};
     ghost use Rattle.data_list.specs.Walks.{landing, hops_to, saw_version, saw_status, saw_anchor, saw_next, saw_high};
 

@@ -16,10 +16,10 @@ use Rattle.data_node.specs.Spots.{Spot, IsLiveIn, name_words}
 use Rattle.data_node.specs.Lists.{ListNode, anchor_in, number_of, key_of, target_from, IsBetween, IsMember, IsChain, Rise}
 use Rattle.data_node.proofs.ListLemmas.{chain_closed, between_target, target_between, members_all, all_member, rise_at}
 use Rattle.data_node.proofs.KeyLemmas.{key-number}
-use Rattle.sound_image.specs.Laws.{KeepsRules}
-use Rattle.sound_image.specs.Nodes.{image_spot, image_list, image_range, IsListedNode, next_in}
-use Rattle.sound_image.specs.Sound.{IsSound, with_slots, with_nodes, image_map}
-use Rattle.sound_image.proofs.TidyLemmas.{sound_keeps}
+use Rattle.image_rules.specs.Laws.{KeepsRules}
+use Rattle.image_rules.specs.Nodes.{image_spot, image_list, image_range, IsListedNode, next_in}
+use Rattle.image_rules.specs.Sound.{IsSound, with_slots, with_nodes, image_map}
+use Rattle.image_rules.proofs.TidyLemmas.{sound_keeps}
 use Rattle.image_pairs.proofs.SlotLemmas.{Entry, HoldsOfNames, HoldsOfSlots, IsAbove, slots_hold, slots_behind, higher_key}
 
 -- A name whose key is below this number.

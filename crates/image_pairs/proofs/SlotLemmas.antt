@@ -16,7 +16,7 @@ use Rattle.data_node.specs.Weights.{has_name_in}
 use Rattle.data_node.proofs.KeyLemmas.{key-number}
 use Rattle.search_layer.specs.Keys.{key_number}
 use Rattle.search_layer.proofs.KeyLemmas.{numbers_keep_order}
-use Rattle.sound_image.specs.Sound.{with_slots}
+use Rattle.image_rules.specs.Sound.{with_slots}
 
 abbrev pub Entry : Type 0
 Entry = List ℕ × ℕ

@@ -6,8 +6,8 @@ ghost use Rattle.cat_key.specs.Names.{bytes_of};
 ghost use Rattle.data_node.specs.Lists.{number_of, target_from};
 ghost use Rattle.data_node.specs.Spots.{name_words};
 ghost use Rattle.data_node.specs.Weights.{has_name_in};
-ghost use Rattle.sound_image.specs.Nodes.{image_spot, image_list, image_range, next_in, IsListedNode};
-ghost use Rattle.sound_image.specs.Sound.{IsSound, with_slots};
+ghost use Rattle.image_rules.specs.Nodes.{image_spot, image_list, image_range, next_in, IsListedNode};
+ghost use Rattle.image_rules.specs.Sound.{IsSound, with_slots};
 
 use crate::node::{anchor_of, is_live_in, slots_of, value_in, words_in};
 use cat_history::NoMemory;

@@ -4,15 +4,12 @@ ghost use Rattle.std.specs.Prelude.{◌≡◌, ◌<◌, ◌≤◌, ◌↔◌, Is
 ghost use Rattle.pm_words.specs.Locations.{node_words};
 ghost use Rattle.data_node.specs.Lists.{anchor_words};
 ghost use Rattle.data_node.specs.Spots.{slot_offset, IsLiveIn, name_words, value_in};
-ghost use Rattle.sound_image.specs.Nodes.{image_spot, next_in};
+ghost use Rattle.image_rules.specs.Nodes.{image_spot, next_in};
 
 use cat_key::WORDS;
 use data_node::is_live;
-use pm_words::Image;
+use pm_words::{Image, SLOT_WORDS};
 use pm_words::offsets::node;
-
-/// How many words a slot has: those of a name, and its value.
-const SLOT_WORDS: u64 = WORDS as u64 + 1;
 
 /// How many slots each node has.
 pub(crate) fn slots_of(image: &Image) -> u64

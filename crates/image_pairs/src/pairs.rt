@@ -4,11 +4,11 @@ ghost use Rattle.std.specs.Prelude.{◌≡◌, ◌++◌, [], IfOk, OnOk};
 ghost use Rattle.std.specs.FinMap.{entries};
 ghost use Rattle.cat_history.specs.Maps.{Map, map_of};
 ghost use Rattle.cat_history.specs.Replays.{pairs_of};
-ghost use Rattle.sound_image.specs.Sound.{IsSound, image_map};
+ghost use Rattle.image_rules.specs.Sound.{IsSound, image_map};
 
 use crate::names::names_of;
 use crate::node::next_of;
-use cat_history::{Listed, NoMemory, Pairs};
+use cat_history::{Items, NoMemory, Pairs};
 use cat_key::{Name, Pair};
 use pm_words::Image;
 use std::alloc::Global;
@@ -24,7 +24,7 @@ pub fn image_pairs(alloc: Global, image: &Image) -> Result<Pairs, NoMemory>
 {
     let mut pairs = Vec::new(alloc);
     push_nodes(&mut pairs, alloc, image)?;
-    Ok(Listed::of(pairs))
+    Ok(Items::of(pairs))
 }
 
 /// Pushes the pairs of all listed nodes, along the list.

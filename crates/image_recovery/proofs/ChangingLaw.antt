@@ -18,13 +18,13 @@ use Rattle.search_layer.proofs.ChangeSteps.{change_step_keeps}
 use Rattle.search_layer.proofs.ChangeTurns.{changes_are_steps}
 use Rattle.search_layer.proofs.ChangeSound.{changes_stay_sound}
 use Rattle.search_layer.proofs.ChangeActions.{change_can_act}
-use Rattle.recovery_law.specs.Columns.{Columns, IsSound, MendsNodes}
-use Rattle.recovery_law.specs.Stages.{ChangesTo, Unsets, Unsetting, Sets, Setting, aim_at, unset, set}
-use Rattle.recovery_law.specs.RowMoves.{RowSure}
-use Rattle.recovery_law.specs.Rows.{columns_in}
-use Rattle.recovery_law.specs.Moves as law
-use Rattle.recovery_law.proofs.RowChanges.{unset_goes, set_goes}
-use Rattle.recovery_law.proofs.Steps.{steps_keep}
+use Rattle.image_recovery_law.specs.Columns.{Columns, IsSound, MendsNodes}
+use Rattle.image_recovery_law.specs.Stages.{ChangesTo, Unsets, Unsetting, Sets, Setting, aim_at, unset, set}
+use Rattle.image_recovery_law.specs.RowMoves.{RowSure}
+use Rattle.image_recovery_law.specs.Rows.{columns_in}
+use Rattle.image_recovery_law.specs.Moves as law
+use Rattle.image_recovery_law.proofs.RowChanges.{unset_goes, set_goes}
+use Rattle.image_recovery_law.proofs.Steps.{steps_keep}
 use Rattle.image_recovery.specs.Makings.{of_change}
 use Rattle.image_recovery.specs.MakingLaw.{IsClearBeside, sure_unsets, sure_sets, IsAfterTurn}
 use Rattle.image_recovery.proofs.StoringLaw.{given_word}

@@ -9,17 +9,17 @@ use Rattle.cat_history.specs.Maps.{Map}
 use Rattle.data_node.specs.Lists.{ListNode, IsMember, IsIn, range_in}
 use Rattle.data_node.specs.Spots.{Spot}
 use Rattle.data_node.specs.Weights.{total, node_weight, list_weight}
-use Rattle.sound_image.specs.Nodes.{image_list, image_spot}
-use Rattle.sound_image.specs.Weights.{image_weight}
-use Rattle.recovery_law.specs.Columns.{Columns, IsSound, IsMapOf, Mends}
-use Rattle.recovery_law.specs.Stages.{Stage}
-use Rattle.recovery_law.specs.RowMoves.{RowSure}
-use Rattle.recovery_law.specs.Rows.{columns_in, image_columns}
-use Rattle.recovery_law.proofs.Mended.{mended_is_sound}
-use Rattle.recovery_law.proofs.Mixes.{crash_mends}
-use Rattle.recovery_law.proofs.RowColumns.{crash_has_columns}
-use Rattle.recovery_law.proofs.SoundColumns.{columns_keep_maps, spots_are}
-use Rattle.recovery_law.proofs.Weighs.{mended_weighs}
+use Rattle.image_rules.specs.Nodes.{image_list, image_spot}
+use Rattle.image_rules.specs.Weights.{image_weight}
+use Rattle.image_recovery_law.specs.Columns.{Columns, IsSound, IsMapOf, Mends}
+use Rattle.image_recovery_law.specs.Stages.{Stage}
+use Rattle.image_recovery_law.specs.RowMoves.{RowSure}
+use Rattle.image_recovery_law.specs.Rows.{columns_in, image_columns}
+use Rattle.image_recovery_law.proofs.Mended.{mended_is_sound}
+use Rattle.image_recovery_law.proofs.Mixes.{crash_mends}
+use Rattle.image_recovery_law.proofs.RowColumns.{crash_has_columns}
+use Rattle.image_recovery_law.proofs.SoundColumns.{columns_keep_maps, spots_are}
+use Rattle.image_recovery_law.proofs.Weighs.{mended_weighs}
 use Rattle.image_recovery.specs.Plans.{columns, list_of}
 use Rattle.image_recovery.specs.MakingLaw.{IsClearBeside}
 use Rattle.image_recovery.specs.Recovered.{IsRecoverable, IsLeftOf, CrashLeavesSound, CrashBetweenLeavesSound}

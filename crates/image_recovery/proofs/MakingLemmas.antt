@@ -10,18 +10,18 @@ use Rattle.data_node.specs.Lists.{ListNode}
 use Rattle.search_layer.specs.Laws.{stage_of, aim_of}
 use Rattle.search_layer.specs.ChangeSteps.{change_starts}
 use Rattle.search_layer.specs.ChangeStages.{Looks}
-use Rattle.turn_row.specs.Columns.{line_count, line_word}
-use Rattle.turn_row.specs.RowStages.{start_sight}
-use Rattle.recovery_law.specs.Columns.{Columns, IsSound, anchor_of, line_anchor, MendsNodes}
-use Rattle.recovery_law.specs.Stages.{Stage, Begins, Raised, Trims, Trimmed, Unsets, Unsetting, Sets, Setting, Empties, Emptied, nodes_of, aim_at, unsets, sets, LacksAnchor}
-use Rattle.recovery_law.specs.RowMoves.{RowSure, of_generation, of_bits, of_empty}
-use Rattle.recovery_law.specs.Rows.{columns_in}
-use Rattle.recovery_law.specs.Moves as law
-use Rattle.recovery_law.proofs.Mended.{in_image, used_line}
-use Rattle.recovery_law.proofs.Plans.{plan_reaches}
-use Rattle.recovery_law.proofs.RowColumns.{word_if-here, has_line_word, line_here}
-use Rattle.recovery_law.proofs.RowMoves.{row_evicts}
-use Rattle.recovery_law.proofs.Steps.{steps_keep, anchors_now, lines_now}
+use Rattle.updater_row_law.specs.Columns.{line_count, line_word}
+use Rattle.updater_row_law.specs.RowStages.{start_sight}
+use Rattle.image_recovery_law.specs.Columns.{Columns, IsSound, anchor_of, line_anchor, MendsNodes}
+use Rattle.image_recovery_law.specs.Stages.{Stage, Begins, Raised, Trims, Trimmed, Unsets, Unsetting, Sets, Setting, Empties, Emptied, nodes_of, aim_at, unsets, sets, LacksAnchor}
+use Rattle.image_recovery_law.specs.RowMoves.{RowSure, of_generation, of_bits, of_empty}
+use Rattle.image_recovery_law.specs.Rows.{columns_in}
+use Rattle.image_recovery_law.specs.Moves as law
+use Rattle.image_recovery_law.proofs.Mended.{in_image, used_line}
+use Rattle.image_recovery_law.proofs.Plans.{plan_reaches}
+use Rattle.image_recovery_law.proofs.RowColumns.{word_if-here, has_line_word, line_here}
+use Rattle.image_recovery_law.proofs.RowMoves.{row_evicts}
+use Rattle.image_recovery_law.proofs.Steps.{steps_keep, anchors_now, lines_now}
 use Rattle.image_recovery.specs.declared.making.Making.{Making}
 use Rattle.image_recovery.specs.declared.moves.Move.{Move}
 use Rattle.image_recovery.specs.declared.moves.Move.TheVariants.{Raise, Trim, Unset, Set, Empty}

@@ -9,12 +9,12 @@ use Rattle.data_node.specs.Spots.{Spot, bitmap_offset}
 use Rattle.data_node.specs.Lists.{ListNode, IsIn, IsChain, IsMember, Rise, StaysIn, next_offset, range_in}
 use Rattle.data_node.proofs.ListLemmas.{members_few}
 use Rattle.data_node.proofs.SpotLemmas.{updated-same, name_words-updated}
-use Rattle.sound_image.specs.Sound.{IsSound}
-use Rattle.sound_image.proofs.TidyLemmas.{sound_keeps}
-use Rattle.turn_row.specs.Columns.{line_count}
-use Rattle.recovery_law.specs.Stages.{Stage, Begins, Trims, Unsets, Sets, Empties, nodes_behind, HasAnchor, LacksAnchor}
-use Rattle.recovery_law.specs.Moves as law
-use Rattle.recovery_law.proofs.SoundColumns.{spots_are}
+use Rattle.image_rules.specs.Sound.{IsSound}
+use Rattle.image_rules.proofs.TidyLemmas.{sound_keeps}
+use Rattle.updater_row_law.specs.Columns.{line_count}
+use Rattle.image_recovery_law.specs.Stages.{Stage, Begins, Trims, Unsets, Sets, Empties, nodes_behind, HasAnchor, LacksAnchor}
+use Rattle.image_recovery_law.specs.Moves as law
+use Rattle.image_recovery_law.proofs.SoundColumns.{spots_are}
 use Rattle.image_recovery.specs.declared.moves.Move.{Move}
 use Rattle.image_recovery.specs.declared.moves.Move.TheVariants.{Raise, Trim, Unset, Set, Empty}
 use Rattle.image_recovery.specs.Plans.{columns, list_of, spot_of, move_of, IsPlanFrom, IsPlanOf, PlansTo, IsRaised, TrimsOne, HasAnchorOf}

@@ -9,16 +9,16 @@ use Rattle.pm_words.specs.Locations.{Root, Cached, Durable}
 use Rattle.pm_words.specs.Rows.{CanAct, acted, evicted, got, row_of}
 use Rattle.pm_words.proofs.Made.{row_of-row, row_of-at, row_of-at_volatile}
 use Rattle.version_lock.specs.Versions.{IsGeneration}
-use Rattle.sound_layer.specs.Sound.{IsSoundByAll}
-use Rattle.sound_layer.proofs.LayerLaws.{sound_keeps_layer}
-use Rattle.recovery_law.specs.Columns.{Columns}
-use Rattle.recovery_law.specs.Stages.{Begins, Sure}
-use Rattle.recovery_law.specs.Rows.{columns_in}
-use Rattle.recovery_law.specs.Moves as law
-use Rattle.recovery_law.proofs.Plans.{plan_ends}
-use Rattle.recovery_law.proofs.Rest.{ends_at_rest}
-use Rattle.recovery_law.proofs.RowColumns.{start_has_columns}
-use Rattle.recovery_law.proofs.Steps.{starts}
+use Rattle.image_layer_rules.specs.Sound.{IsSoundByAll}
+use Rattle.image_layer_rules.proofs.LayerLaws.{sound_keeps_layer}
+use Rattle.image_recovery_law.specs.Columns.{Columns}
+use Rattle.image_recovery_law.specs.Stages.{Begins, Sure}
+use Rattle.image_recovery_law.specs.Rows.{columns_in}
+use Rattle.image_recovery_law.specs.Moves as law
+use Rattle.image_recovery_law.proofs.Plans.{plan_ends}
+use Rattle.image_recovery_law.proofs.Rest.{ends_at_rest}
+use Rattle.image_recovery_law.proofs.RowColumns.{start_has_columns}
+use Rattle.image_recovery_law.proofs.Steps.{starts}
 use Rattle.image_recovery.specs.declared.making.Making.{Making}
 use Rattle.image_recovery.specs.declared.stepping.Recovery.{Recovery}
 use Rattle.image_recovery.specs.declared.moves.Move.{Move}

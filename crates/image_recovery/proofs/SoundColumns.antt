@@ -6,17 +6,17 @@ use Rattle.pm_words.specs.Locations.{Root, leaf_count, word_at}
 use Rattle.data_node.specs.Spots.{Spot}
 use Rattle.data_node.specs.Lists.{ListNode, IsIn, MakeList, Rise, anchor_in}
 use Rattle.data_node.proofs.ListLemmas.{members_few, chain_is}
-use Rattle.sound_image.specs.Nodes.{image_spot, image_list}
+use Rattle.image_rules.specs.Nodes.{image_spot, image_list}
 use Rattle.search_layer.specs.Layers.{HasFew}
 use Rattle.search_layer.specs.Leaves.{LayerWords, layer_in, IsLayerRow}
-use Rattle.turn_law.specs.Covered.{IsCovered}
-use Rattle.turn_law.specs.Covers.{Lines, IsOpenFor}
-use Rattle.sound_layer.specs.Leaves as layer
-use Rattle.sound_layer.specs.Sound.{IsSoundByAll}
-use Rattle.sound_layer.proofs.LayerLaws.{sound_keeps_layer, layer_makes_sound}
-use Rattle.recovery_law.specs.Columns.{Columns, IsSound, IsNameKey, HasNameKeys, lines_of, layer_kept}
-use Rattle.recovery_law.specs.Rows.{word_if, image_leaves, image_columns}
-use Rattle.recovery_law.proofs.SoundColumns.{spots_are, sound_nodes, columns_are_sound}
+use Rattle.updater_law.specs.Covered.{IsCovered}
+use Rattle.updater_law.specs.Covers.{Lines, IsOpenFor}
+use Rattle.image_layer_rules.specs.Leaves as layer
+use Rattle.image_layer_rules.specs.Sound.{IsSoundByAll}
+use Rattle.image_layer_rules.proofs.LayerLaws.{sound_keeps_layer, layer_makes_sound}
+use Rattle.image_recovery_law.specs.Columns.{Columns, IsSound, IsNameKey, HasNameKeys, lines_of, layer_kept}
+use Rattle.image_recovery_law.specs.Rows.{word_if, image_leaves, image_columns}
+use Rattle.image_recovery_law.proofs.SoundColumns.{spots_are, sound_nodes, columns_are_sound}
 
 module _ (l : Layout) (words : List ℕ) where
   abbrev o : Columns

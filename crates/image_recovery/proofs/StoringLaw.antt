@@ -14,12 +14,12 @@ use Rattle.pm_words.proofs.Fencing.{fence_turns, fence_stays}
 use Rattle.pm_words.proofs.Kept.{acted_row, evicted_row, outside_header}
 use Rattle.pm_words.proofs.Apart.{addresses_within}
 use Rattle.data_node.specs.Lists.{ListNode}
-use Rattle.recovery_law.specs.Columns.{Columns, IsSound}
-use Rattle.recovery_law.specs.Stages.{Stage}
-use Rattle.recovery_law.specs.RowMoves.{RowSure, MoveStore, of_generation, of_bits, of_empty}
-use Rattle.recovery_law.specs.Moves as law
-use Rattle.recovery_law.proofs.RowMoves.{move_stores, move_ends, row_evicts}
-use Rattle.recovery_law.proofs.RowStores.{drain_evicts}
+use Rattle.image_recovery_law.specs.Columns.{Columns, IsSound}
+use Rattle.image_recovery_law.specs.Stages.{Stage}
+use Rattle.image_recovery_law.specs.RowMoves.{RowSure, MoveStore, of_generation, of_bits, of_empty}
+use Rattle.image_recovery_law.specs.Moves as law
+use Rattle.image_recovery_law.proofs.RowMoves.{move_stores, move_ends, row_evicts}
+use Rattle.image_recovery_law.proofs.RowStores.{drain_evicts}
 use Rattle.image_recovery.specs.declared.making.Making.TheVariants.{Stores}
 use Rattle.image_recovery.specs.declared.storing.Storing.{Storing}
 use Rattle.image_recovery.specs.declared.storing.StoringAt.{StoringAt}

@@ -10,11 +10,11 @@ use Rattle.data_node.specs.Lists.{ListNode, IsBetween, IsIn, Rise, StaysIn, Make
 use Rattle.data_node.proofs.KeyLemmas.{key-number}
 use Rattle.data_node.proofs.ListLemmas.{between_target, target_between}
 use Rattle.data_node.proofs.SpotLemmas.{updated-same, name_words-updated}
-use Rattle.sound_image.specs.Sound.{IsSound}
-use Rattle.sound_image.proofs.TidyLemmas.{sound_keeps}
-use Rattle.recovery_law.specs.Columns.{IsTrim}
-use Rattle.recovery_law.specs.Moves.{TrimsNode}
-use Rattle.recovery_law.proofs.SoundColumns.{spots_are}
+use Rattle.image_rules.specs.Sound.{IsSound}
+use Rattle.image_rules.proofs.TidyLemmas.{sound_keeps}
+use Rattle.image_recovery_law.specs.Columns.{IsTrim}
+use Rattle.image_recovery_law.specs.Moves.{TrimsNode}
+use Rattle.image_recovery_law.proofs.SoundColumns.{spots_are}
 use Rattle.image_recovery.specs.Plans.{columns, list_of, spot_of, IsKept}
 
 -- The bits below this slot are those of which K holds, and no others are set.

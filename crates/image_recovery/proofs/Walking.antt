@@ -8,14 +8,14 @@ use Rattle.data_node.specs.Spots.{Spot}
 use Rattle.data_node.specs.Lists.{anchor_in, anchor_words, number_of, IsIn}
 use Rattle.data_node.proofs.KeyLemmas.{anchor-number}
 use Rattle.data_node.proofs.PositionLemmas.{in_position}
-use Rattle.sound_image.specs.Lowest.{IsFirst}
-use Rattle.sound_image.specs.Nodes.{image_spot, image_list, IsListedAt, IsListedNode, LeadWithin}
-use Rattle.sound_image.specs.Sound.{IsSound}
-use Rattle.sound_image.proofs.ListRules.{lead_within}
-use Rattle.sound_image.proofs.WalkLemmas.{IsOfList, same_node}
-use Rattle.recovery_law.specs.Columns.{anchor_of, line_anchor}
-use Rattle.recovery_law.specs.Stages.{LacksAnchor}
-use Rattle.recovery_law.proofs.SoundColumns.{spots_are}
+use Rattle.image_rules.specs.Lowest.{IsFirst}
+use Rattle.image_rules.specs.Nodes.{image_spot, image_list, IsListedAt, IsListedNode, LeadWithin}
+use Rattle.image_rules.specs.Sound.{IsSound}
+use Rattle.image_rules.proofs.ListRules.{lead_within}
+use Rattle.image_rules.proofs.WalkLemmas.{IsOfList, same_node}
+use Rattle.image_recovery_law.specs.Columns.{anchor_of, line_anchor}
+use Rattle.image_recovery_law.specs.Stages.{LacksAnchor}
+use Rattle.image_recovery_law.proofs.SoundColumns.{spots_are}
 use Rattle.image_recovery.specs.Plans.{columns, list_of, spot_of, HasAnchorOf}
 
 -- a sound image leads on to its own nodes

@@ -12,10 +12,10 @@ use Rattle.version_lock.specs.Versions.{IsGeneration}
 use Rattle.data_node.specs.Lists.{ListNode}
 use Rattle.search_layer.specs.declared.change.Change.{Change}
 use Rattle.search_layer.specs.Laws.{stage_of, aim_of}
-use Rattle.recovery_law.specs.Columns.{Columns, IsSound}
-use Rattle.recovery_law.specs.Stages.{Stage, Unsets, Unsetting, Sets, Setting, aim_at}
-use Rattle.recovery_law.specs.RowMoves.{RowSure, MoveStore}
-use Rattle.recovery_law.specs.Moves as law
+use Rattle.image_recovery_law.specs.Columns.{Columns, IsSound}
+use Rattle.image_recovery_law.specs.Stages.{Stage, Unsets, Unsetting, Sets, Setting, aim_at}
+use Rattle.image_recovery_law.specs.RowMoves.{RowSure, MoveStore}
+use Rattle.image_recovery_law.specs.Moves as law
 use Rattle.image_recovery.specs.declared.making.Making.{Making}
 use Rattle.image_recovery.specs.declared.making.Making.TheVariants.{Stores, Changes}
 use Rattle.image_recovery.specs.declared.moves.Move.{Move}

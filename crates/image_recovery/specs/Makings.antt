@@ -1,5 +1,6 @@
 -- A move of a recovery that is made, step by step.
 use Rattle.std.specs.Prelude.{ℕ, ◌+◌, ◌<◌, ◌^◌, List, [], ◌∷◌}
+use Rattle.pm_words.specs.Codes.{empty_state}
 use Rattle.pm_words.specs.declared.action.Action.{Action}
 use Rattle.pm_words.specs.declared.machine.Turn.{Turn}
 use Rattle.pm_words.specs.declared.machine.Turn.TheVariants.{Go, Done}
@@ -7,8 +8,7 @@ use Rattle.pm_words.specs.Images.{Row}
 use Rattle.pm_words.specs.Locations.{Header, Node, Cached, word_number, at}
 use Rattle.search_layer.specs.declared.change.Change.{Change}
 use Rattle.search_layer.specs.ChangeSteps.{IsChange, change_starts, change_asks, change_turned, change_left}
-use Rattle.turn_law.specs.Covers.{empty_state}
-use Rattle.turn_row.specs.Columns.{line_count, line_word}
+use Rattle.updater_row_law.specs.Columns.{line_count, line_word}
 use Rattle.image_recovery.specs.declared.making.Making.{Making}
 use Rattle.image_recovery.specs.declared.making.Making.TheVariants.{Stores, Changes}
 use Rattle.image_recovery.specs.declared.moves.Move.{Move}

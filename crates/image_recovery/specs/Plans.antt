@@ -3,11 +3,11 @@ use Rattle.std.specs.Prelude.{◌≡◌, ℕ, List, ◌∷◌, ◌++◌, map}
 use Rattle.pm_words.specs.Images.{Row}
 use Rattle.data_node.specs.Lists.{ListNode, IsBetween, number_of, IsIn}
 use Rattle.data_node.specs.Spots.{Spot, IsLiveIn, name_words}
-use Rattle.sound_image.specs.Nodes.{image_spot, image_list, next_in}
-use Rattle.recovery_law.specs.Columns.{Columns, anchor_of, line_anchor}
-use Rattle.recovery_law.specs.Rows.{image_columns}
-use Rattle.recovery_law.specs.Stages.{Stage, Begins, Trims, nodes_of}
-use Rattle.recovery_law.specs.Moves as law
+use Rattle.image_rules.specs.Nodes.{image_spot, image_list, next_in}
+use Rattle.image_recovery_law.specs.Columns.{Columns, anchor_of, line_anchor}
+use Rattle.image_recovery_law.specs.Rows.{image_columns}
+use Rattle.image_recovery_law.specs.Stages.{Stage, Begins, Trims, nodes_of}
+use Rattle.image_recovery_law.specs.Moves as law
 use Rattle.image_recovery.specs.declared.moves.Move.{Move}
 use Rattle.image_recovery.specs.declared.moves.Move.TheVariants.{Raise, Trim, Unset, Set, Empty}
 

@@ -5,15 +5,15 @@ use Rattle.pm_words.specs.Locations.{Root, Cached, Durable, word_at}
 use Rattle.pm_words.specs.Rows.{IsRow, durable_row}
 use Rattle.cat_history.specs.Maps.{Map}
 use Rattle.version_lock.specs.Versions.{IsGeneration}
-use Rattle.sound_image.specs.Nodes.{image_list}
-use Rattle.sound_image.specs.Rules.{header_generation}
-use Rattle.sound_image.specs.Sound.{IsMapOf}
-use Rattle.sound_image.specs.Weights.{image_weight}
-use Rattle.sound_layer.specs.Sound.{IsSoundByAll, IsFirstOfAll}
-use Rattle.recovery_law.specs.Columns.{IsSound}
-use Rattle.recovery_law.specs.Rest.{Rests}
-use Rattle.recovery_law.specs.Rows.{columns_in}
-use Rattle.recovery_law.specs.Moves as law
+use Rattle.image_rules.specs.Nodes.{image_list}
+use Rattle.image_rules.specs.Rules.{header_generation}
+use Rattle.image_rules.specs.Sound.{IsMapOf}
+use Rattle.image_rules.specs.Weights.{image_weight}
+use Rattle.image_layer_rules.specs.Sound.{IsSoundByAll, IsFirstOfAll}
+use Rattle.image_recovery_law.specs.Columns.{IsSound}
+use Rattle.image_recovery_law.specs.Rest.{Rests}
+use Rattle.image_recovery_law.specs.Rows.{columns_in}
+use Rattle.image_recovery_law.specs.Moves as law
 use Rattle.image_recovery.specs.declared.making.Making.{Making}
 use Rattle.image_recovery.specs.declared.recovering.Refused.{Refused}
 use Rattle.image_recovery.specs.declared.recovering.Refused.TheVariants.{Unsound, LastGeneration, NoMemory}

@@ -5,7 +5,7 @@ use Rattle.pm_words.specs.declared.machine.Turn.TheVariants.{Go, Done}
 use Rattle.pm_words.specs.Images.{Row}
 use Rattle.pm_words.specs.Locations.{image_words}
 use Rattle.pm_words.specs.Rows.{acted, durable_row, evicted, got, row_of}
-use Rattle.recovery_law.specs.Moves as law
+use Rattle.image_recovery_law.specs.Moves as law
 use Rattle.image_recovery.specs.declared.making.Making.{Making}
 use Rattle.image_recovery.specs.declared.moves.Move.TheVariants.{Raise}
 use Rattle.image_recovery.specs.declared.stepping.Begun.{Begun}

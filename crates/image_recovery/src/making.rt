@@ -2,13 +2,13 @@
 
 ghost use Rattle.std.specs.Prelude.{◌≡◌, ◌<◌, [], ◌∷◌, slice_index};
 ghost use Rattle.pm_words.specs.Locations.{image_words, cached_address, Cached, at};
-ghost use Rattle.turn_row.specs.Columns.{line_count, line_word};
+ghost use Rattle.updater_row_law.specs.Columns.{line_count, line_word};
 
 use crate::moves::Move;
 use crate::storing::Storing;
 use cat_key::WORDS;
 use pm_words::offsets::{header, line, node};
-use pm_words::{Action, LINES, Layout, Machine, Memory, Turn};
+use pm_words::{Action, LOG_LINES, Layout, Machine, Memory, Turn};
 use search_layer::Change;
 
 /// A move of a recovery while it is made.
@@ -74,7 +74,7 @@ fn cached_line_word(memory: &Memory, line: u64, offset: u64) -> u64
         memory,
         memory
             .layout()
-            .line_word(line / LINES, line % LINES, offset),
+            .line_word(line / LOG_LINES, line % LOG_LINES, offset),
     )
 }
 
@@ -121,7 +121,7 @@ impl Making {
             )),
             Move::Empty { line } => Making::Stores(Storing::new(
                 layout,
-                layout.line_word(line / LINES, line % LINES, line::STATE),
+                layout.line_word(line / LOG_LINES, line % LOG_LINES, line::STATE),
                 0,
             )),
         }

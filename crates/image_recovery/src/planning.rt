@@ -1,10 +1,10 @@
 //! The moves of a recovery of an image, in order.
 
 ghost use Rattle.std.specs.Prelude.{◌≡◌, ℕ, ◌+◌, ◌<◌, IfOk, [], ◌∷◌, ◌++◌};
-ghost use Rattle.sound_image.specs.Nodes.{IsListedNode};
-ghost use Rattle.sound_image.specs.Sound.{IsSound};
-ghost use Rattle.turn_row.specs.Columns.{line_count};
-ghost use Rattle.recovery_law.specs.Stages.{Unsets, Sets, Empties};
+ghost use Rattle.image_rules.specs.Nodes.{IsListedNode};
+ghost use Rattle.image_rules.specs.Sound.{IsSound};
+ghost use Rattle.updater_row_law.specs.Columns.{line_count};
+ghost use Rattle.image_recovery_law.specs.Stages.{Unsets, Sets, Empties};
 ghost use Rattle.image_recovery.specs.Plans.{PlansTo, TrimsOne, IsPlanOf, IsRaised};
 
 use crate::anchored::anchored_node;

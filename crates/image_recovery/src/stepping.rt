@@ -2,7 +2,7 @@
 
 ghost use Rattle.std.specs.Prelude.{suc, IfOk, MatchResult};
 ghost use Rattle.version_lock.specs.Versions.{IsGeneration};
-ghost use Rattle.sound_layer.specs.Sound.{IsSoundByAll};
+ghost use Rattle.image_layer_rules.specs.Sound.{IsSoundByAll};
 ghost use Rattle.image_recovery.specs.Plans.{columns};
 ghost use Rattle.image_recovery.specs.Recovered.{IsRefusedFor};
 ghost use Rattle.image_recovery.specs.Recoveries.{IsBegun};

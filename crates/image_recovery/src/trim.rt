@@ -2,9 +2,9 @@
 
 ghost use Rattle.std.specs.Prelude.{◌≡◌, ℕ, ◌<◌, ◌↔◌, IsTrue};
 ghost use Rattle.data_node.specs.Lists.{IsBetween, number_of};
-ghost use Rattle.sound_image.specs.Nodes.{image_spot, next_in, IsListedNode};
-ghost use Rattle.sound_image.specs.Sound.{IsSound};
-ghost use Rattle.recovery_law.specs.Moves.{TrimsNode};
+ghost use Rattle.image_rules.specs.Nodes.{image_spot, next_in, IsListedNode};
+ghost use Rattle.image_rules.specs.Sound.{IsSound};
+ghost use Rattle.image_recovery_law.specs.Moves.{TrimsNode};
 ghost use Rattle.image_recovery.specs.Plans.{columns, list_of, IsKept};
 
 use crate::words::{anchor_of, bitmap_of, name_in, next_of, slot_count};

@@ -1,23 +1,18 @@
 //! The words of an image's nodes and of its log lines.
 
 ghost use Rattle.std.specs.Prelude.{◌≡◌, ◌≢◌, ℕ, ◌<◌, ◌≤◌, ◌*◌, ◌↔◌, IsTrue};
+ghost use Rattle.pm_words.specs.Codes.{empty_state};
 ghost use Rattle.pm_words.specs.Locations.{node_words};
 ghost use Rattle.data_node.specs.Lists.{anchor_words};
 ghost use Rattle.data_node.specs.Spots.{bitmap_offset, slot_offset, name_words};
-ghost use Rattle.sound_image.specs.Nodes.{image_spot, next_in};
-ghost use Rattle.turn_law.specs.Covers.{empty_state};
-ghost use Rattle.turn_row.specs.Columns.{line_count};
+ghost use Rattle.image_rules.specs.Nodes.{image_spot, next_in};
+ghost use Rattle.updater_row_law.specs.Columns.{line_count};
 ghost use Rattle.image_recovery.specs.Plans.{columns};
 
 use cat_key::WORDS;
+use pm_words::codes::state::EMPTY;
 use pm_words::offsets::{line, node};
-use pm_words::{Image, LINES};
-
-/// The words of a slot: those of its name, and its value.
-const SLOT_WORDS: u64 = 4;
-
-/// The state of a line that tells of no change.
-const EMPTY: u64 = 0;
+use pm_words::{Image, LOG_LINES, SLOT_WORDS};
 
 /// How many slots each node has.
 pub(crate) fn slot_count(image: &Image) -> u64
@@ -92,7 +87,7 @@ pub(crate) fn line_count(image: &Image) -> u64
     ensures count { result ≡ line_count image.now.layout }
     ensures most { result ≤ 128 }
 {
-    LINES * image.layout().callers()
+    LOG_LINES * image.layout().callers()
 }
 
 /// A word of a line.
@@ -101,7 +96,7 @@ fn line_word(image: &Image, line: u64, offset: u64) -> u64
     requires offset { offset < 8 }
     ensures { result ≡ (columns image.now).line line offset }
 {
-    image.word(image.layout().line_word(line / LINES, line % LINES, offset))
+    image.word(image.layout().line_word(line / LOG_LINES, line % LOG_LINES, offset))
 }
 
 /// Whether a line isn't EMPTY.

@@ -3,9 +3,9 @@
 ghost use Rattle.std.specs.Prelude.{◌<◌};
 
 use anyhow::{Result, anyhow};
+use image_layer_rules::first_broken_of_all;
 use pm_words::offsets::{leaf, node};
 use pm_words::{Image, Layout};
-use sound_layer::first_broken_of_all;
 use std::alloc::{AllocGlobal, Global};
 use std::rt::Clock;
 use std::time::{Duration, Instant};

@@ -4,6 +4,7 @@ use Rattle.std.specs.Prelude.{◌/◌, nat_lt, slice_index, slice_set, Option, S
 use Rattle.std.proofs.lemmas.Bool.{eqb-true, eqb-false, ltb-false}
 use Rattle.std.proofs.lemmas.List.{append_assoc, append-nil, length-append}
 use Rattle.std.proofs.lemmas.List.Elements.{All-nil, All-push, Contains-append_left, Contains-append_right}
+use Rattle.pm_words.specs.Codes.{free_status, gone_status, live_status}
 use Rattle.pm_words.specs.declared.again.Again.{Again}
 use Rattle.pm_words.specs.declared.again.Again.TheVariants as again
 use Rattle.pm_words.specs.declared.fence.Fence.{Fence}
@@ -13,7 +14,6 @@ use Rattle.pm_words.specs.declared.machine.Turn.TheVariants.{Go, Done}
 use Rattle.pm_words.specs.Fences.{fence_start, fence_next}
 use Rattle.version_lock.specs.Versions.{IsFree, IsWorn, is_free_word, is_worn_word, kept_count, locked_word}
 use Rattle.version_lock.proofs.WordTests.{taken_word, worn_word}
-use Rattle.call_stages.specs.Kinds.{free_status, gone_status, live_status}
 use Rattle.call_stages.specs.declared.once.Once.{Once}
 use Rattle.call_stages.specs.declared.once.Once.TheVariants as once
 use Rattle.call_stages.specs.declared.once.Placed.{Placed}

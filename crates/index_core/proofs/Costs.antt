@@ -30,9 +30,9 @@ use Rattle.node_ops.specs.RunningSteps.{IsRunning, running_call, running_left, r
 use Rattle.node_ops.proofs.Costs.{puts_spare_splits, walks_end_so}
 use Rattle.index_law.specs.Worlds.{Party, World}
 use Rattle.index_law.proofs.Parties.{set_here}
-use Rattle.lone_law.specs.LoneCalls.{FindsFull, IsAnswered, IsLate, IsThere}
-use Rattle.lone_law.specs.There.{HasCome, LookupStands, WalksBy}
-use Rattle.lone_turn.specs.CallLogs.{LeavesLines, ready_lines}
+use Rattle.lone_call_law.specs.LoneCalls.{FindsFull, IsAnswered, IsLate, IsThere}
+use Rattle.lone_call_law.specs.There.{HasCome, LookupStands, WalksBy}
+use Rattle.lone_updater_law.specs.CallLogs.{LeavesLines, ready_lines}
 use Rattle.index_core.specs.declared.party.CoreCall.{CoreCall}
 use Rattle.index_core.specs.declared.party.CoreCall.TheVariants as call
 use Rattle.index_core.specs.CoreCalls.{limit_of, machine_of, op_of}
@@ -40,8 +40,8 @@ use Rattle.index_core.specs.Costs.{ActionsAreFew, ActsWithin, IsUnworn, IsUnworn
 use Rattle.index_core.specs.Indexes.{Index, IsIndex, Starts, TurnsTo, room_of, told, view_of, world}
 use Rattle.index_core.specs.Lone.{HasNoCalls, HasShortWays, IsWholeAnswer, NeedsNoTurn, TriesAlone, lacks_line, lacks_node, needs_split, part_whole, whole_of}
 use Rattle.index_core.specs.PartyStates.{party_of, state_with}
-use Rattle.lone_turn.proofs.ReadyCounts.{ready_are_counted}
-use Rattle.staleness.proofs.Short.{short_stays}
+use Rattle.lone_updater_law.proofs.ReadyCounts.{ready_are_counted}
+use Rattle.lone_hops_law.proofs.Short.{short_stays}
 use Rattle.index_core.proofs.Alone.{late_was, walk_is_short}
 use Rattle.index_core.proofs.Retrying.{split_is_full, turned_back}
 use Rattle.index_core.proofs.Tries.{Lone, cost_at, cost_in, lone_there, lone_done, lone_tries}

@@ -17,14 +17,14 @@ use Rattle.node_ops.proofs.OpLaw.{pends_own_change, holds_own_name}
 use Rattle.index_law.specs.Worlds.{Party, facts}
 use Rattle.index_law.specs.Lawful.{Sure, IsPlaced}
 use Rattle.index_law.specs.Laws.{HasPending}
-use Rattle.sound_image.specs.Sound.{image_map}
+use Rattle.image_rules.specs.Sound.{image_map}
 use Rattle.data_node.specs.Lists.{members_from}
 use Rattle.data_node.specs.Weights.{list_weight}
 use Rattle.index_law.specs.Weights.{weight_sum}
 use Rattle.index_law.proofs.Images.{image_law, in_image}
 use Rattle.index_law.proofs.Evictions.{evict_law}
 use Rattle.index_law.proofs.Weights.{crash_weighs}
-use Rattle.crash_image.proofs.CrashLaw.{crash_leaves_sound_by_all}
+use Rattle.index_image_law.proofs.CrashLaw.{crash_leaves_sound_by_all}
 use Rattle.index_core.specs.declared.party.PartyState.{PartyState}
 use Rattle.index_core.specs.Crashes.{IsCrash, AreRunning, evicted_index, unplaced, cut_change, cut_changes}
 use Rattle.index_core.specs.PartyStates.{machine_stage, party_of}

@@ -10,7 +10,7 @@ use Rattle.call_stages.specs.declared.once.Placed.{Placed}
 use Rattle.node_ops.specs.declared.running.Running.{Running}
 use Rattle.node_ops.specs.RunningSteps.{running_turned}
 use Rattle.pm_words.specs.declared.layout.Layout.{Layout}
-use Rattle.turn_row.specs.RowStages.{Resting, Frees}
+use Rattle.updater_row_law.specs.RowStages.{Resting, Frees}
 use Rattle.updater.specs.declared.making.MakeTurn.{MakeTurn}
 use Rattle.updater.specs.declared.making.TurnReply.{TurnReply}
 use Rattle.updater.specs.Makings.{making_from, making_turned, making_turning}

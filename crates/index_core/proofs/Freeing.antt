@@ -3,6 +3,7 @@ use Rattle.std.proofs.Common.{◌≡◌, ◌≢◌, ℕ, ◌+◌, ◌<◌, ◌�
 use Rattle.std.specs.Prelude.{Option, nat_lt, ◌==◌}
 use Rattle.std.proofs.lemmas.Bool.{cases_eq, eq-eqb, ne_eqb}
 use Rattle.std.proofs.lemmas.List.{set-get_or}
+use Rattle.pm_words.specs.Codes.{free_status, live_status, gone_status, empty_state, merge_kind}
 use Rattle.pm_words.specs.declared.layout.Layout.{Layout}
 use Rattle.pm_words.specs.declared.action.Action.{Action}
 use Rattle.pm_words.specs.declared.action.Action.TheVariants.{Load}
@@ -12,19 +13,18 @@ use Rattle.pm_words.proofs.Apart.{at-set_other}
 use Rattle.call_stages.specs.declared.once.Once.{Once}
 use Rattle.call_stages.specs.declared.once.Placed.{Placed}
 use Rattle.call_stages.specs.Stages.{Stage}
-use Rattle.call_stages.specs.Kinds.{Step, Split, Merge, free_status, live_status, gone_status}
+use Rattle.call_stages.specs.Kinds.{Step, Split, Merge}
 use Rattle.call_stages.specs.Kinds as kinds
 use Rattle.search_layer.specs.ChangeStages.{Changing, Changed, ChangeStep}
 use Rattle.search_layer.proofs.ChangeSteps.{change_step_keeps}
 use Rattle.index_law.specs.Facts.{Facts, status_in}
 use Rattle.index_law.proofs.Moves.{fact_after, split_after, merge_after}
 use Rattle.index_law.proofs.Rows.{status_in-alike}
-use Rattle.turn_law.specs.Covers.{empty_state, merge_kind}
-use Rattle.turn_row.specs.Columns.{RowTerms, Ghosts, line_count, line_word}
-use Rattle.turn_row.specs.RowStages.{RowLine, aim_of, RowStage, Resting, Between, Sweeps, Stamps, Clears, Counts, Changes, IsUnworn, Frees, after_line, after_node, after_change}
-use Rattle.turn_row.specs.RowSteps.{line_at, volatile_at, version_at, RowStep, takes_lock, finds_held, passes, sees, reads, has_read, walks, is_turned_back, finds, loses, decides, changes, has_changed, stamps, empties, passes_node, sees_gone, passes_stamp, sees_stamp, passes_worn, sees_unworn, unstamps, frees, counts, leaves_lock}
-use Rattle.turn_row.specs.RowLaw.{RowLawful}
-use Rattle.turn_row.proofs.RowChanges.{word_within}
+use Rattle.updater_row_law.specs.Columns.{RowTerms, Ghosts, line_count, line_word}
+use Rattle.updater_row_law.specs.RowStages.{RowLine, aim_of, RowStage, Resting, Between, Sweeps, Stamps, Clears, Counts, Changes, IsUnworn, Frees, after_line, after_node, after_change}
+use Rattle.updater_row_law.specs.RowSteps.{line_at, volatile_at, version_at, RowStep, takes_lock, finds_held, passes, sees, reads, has_read, walks, is_turned_back, finds, loses, decides, changes, has_changed, stamps, empties, passes_node, sees_gone, passes_stamp, sees_stamp, passes_worn, sees_unworn, unstamps, frees, counts, leaves_lock}
+use Rattle.updater_row_law.specs.RowLaw.{RowLawful}
+use Rattle.updater_row_law.proofs.RowChanges.{word_within}
 
 -- ---- of calls
 

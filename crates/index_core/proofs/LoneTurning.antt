@@ -4,6 +4,7 @@ use Rattle.std.specs.Prelude.{Option, Some, None, true, false}
 use Rattle.std.proofs.lemmas.Bool.{cases_eq, ne_eqb}
 use mathlib.Core.Option.{none, some, some-injective}
 use lib.ListN.{get_elem?}
+use Rattle.pm_words.specs.Codes.{free_status, gone_status}
 use Rattle.pm_words.specs.declared.machine.Turn.{Turn}
 use Rattle.pm_words.specs.declared.machine.Turn.TheVariants.{Go, Done}
 use Rattle.pm_words.specs.Locations.{Cached}
@@ -19,9 +20,9 @@ use Rattle.index_law.specs.Whole.{Whole}
 use Rattle.index_law.proofs.Noting.{line-here}
 use Rattle.index_law.proofs.AnySteps.{set_own}
 use Rattle.index_law.proofs.Parties.{at_set, set_here}
-use Rattle.turn_row.specs.Columns.{line_count, line_word}
-use Rattle.turn_row.proofs.RowColumns.{column-here}
-use Rattle.turn_row.specs.Turnings.{Turning}
+use Rattle.updater_row_law.specs.Columns.{line_count, line_word}
+use Rattle.updater_row_law.proofs.RowColumns.{column-here}
+use Rattle.updater_row_law.specs.Turnings.{Turning}
 use Rattle.updater.specs.declared.making.MakeTurn.{MakeTurn}
 use Rattle.updater.specs.declared.making.MakeTurn.TheVariants.{Taking, Working}
 use Rattle.updater.specs.declared.making.TurnReply.{TurnReply}
@@ -32,19 +33,18 @@ use Rattle.updater.specs.declared.terms.Terms.{Terms}
 use Rattle.updater.specs.Makings.{making_terms, making_from, making_asks, making_turned, making_left, lock_found, worked}
 use Rattle.updater.specs.Watches.{turning_after}
 use Rattle.updater.specs.Works.{work_from, work_turned, work_asks}
-use Rattle.layer_law.specs.Layers.{Layered, IsLayered}
-use Rattle.layer_law.specs.Laws.{IsAtRest, LeavesNodes, turned}
-use Rattle.lone_turn.specs.Laws.{LoneTurning, GoesOn}
-use Rattle.lone_turn.specs.LoneTurns.{line_state, frees_node, status_then, AreEmptyOrReady, IsIdle, IsLoneTurn}
-use Rattle.call_stages.specs.Kinds.{free_status, gone_status}
+use Rattle.index_layer_law.specs.Layers.{Layered, IsLayered}
+use Rattle.index_layer_law.specs.Laws.{IsAtRest, LeavesNodes, turned}
+use Rattle.lone_updater_law.specs.Laws.{LoneTurning, GoesOn}
+use Rattle.lone_updater_law.specs.LoneTurns.{line_state, frees_node, status_then, AreEmptyOrReady, IsIdle, IsLoneTurn}
 use Rattle.pm_words.specs.declared.layout.Layout.{Layout}
 use Rattle.index_law.specs.Facts.{Facts}
 use Rattle.index_law.specs.Worlds.{Party, World, facts}
 use Rattle.index_law.specs.Weights.{gone_weight, index_weight, weight_sum}
 use Rattle.index_law.proofs.Weights.{gone_less}
 use Rattle.index_core.specs.Weights.{weight_of}
-use Rattle.lone_turn.proofs.Begins.{turns_begin}
-use Rattle.lone_turn.proofs.Going.{turns_go}
+use Rattle.lone_updater_law.proofs.Begins.{turns_begin}
+use Rattle.lone_updater_law.proofs.Going.{turns_go}
 use Rattle.index_core.specs.declared.party.PartyState.{PartyState}
 use Rattle.index_core.specs.PartyStates.{resting, turning_of, turn_after, turn_reply}
 use Rattle.index_core.specs.Indexes.{Index, IsIndex, IsTurning, footed, layered, world}

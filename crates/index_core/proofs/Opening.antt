@@ -8,25 +8,25 @@ use lib.ListN.{get_elem?}
 use Rattle.cat_key.specs.declared.Pair.{Pair}
 use Rattle.cat_history.specs.Maps.{map_of}
 use Rattle.cat_history.specs.Writes.{after_all}
+use Rattle.pm_words.specs.Codes.{gone_status}
 use Rattle.pm_words.specs.declared.layout.Layout.{Layout}
 use Rattle.pm_words.specs.Locations.{Header, Volatile, Cached, at}
 use Rattle.version_lock.specs.declared.TheConstants.{LAST_COUNT}
 use Rattle.data_node.specs.Lists.{ListNode}
-use Rattle.call_stages.specs.Kinds.{gone_status}
 use Rattle.index_law.specs.Anchors.{anchors_of, gone_nodes}
 use Rattle.index_law.specs.Facts.{Facts}
 use Rattle.index_law.specs.Footed.{AreFree}
 use Rattle.index_law.specs.Worlds.{Party, facts}
 use Rattle.index_law.specs.Lawful.{Each, HasNames}
 use Rattle.index_law.proofs.Starts.{rest_law}
-use Rattle.turn_row.proofs.RowColumns.{column-here}
-use Rattle.recovery_law.specs.Columns.{Columns}
-use Rattle.opening_law.specs.Openings.{IsOpening, IsUnlocked}
-use Rattle.opening_law.proofs.Opened.{opening_is_at_rest, opening_has_list, opening_is_unlocked}
-use Rattle.opening_law.proofs.Footing.{opening_is_footed}
-use Rattle.opening_law.proofs.Layering.{opening_is_layered}
-use Rattle.lone_law.specs.Locks.{fewest_locks}
-use Rattle.lone_turn.specs.LoneTurns.{stamp_in}
+use Rattle.updater_row_law.proofs.RowColumns.{column-here}
+use Rattle.image_recovery_law.specs.Columns.{Columns}
+use Rattle.index_opening_law.specs.Openings.{IsOpening, IsUnlocked}
+use Rattle.index_opening_law.proofs.Opened.{opening_is_at_rest, opening_has_list, opening_is_unlocked}
+use Rattle.index_opening_law.proofs.Footing.{opening_is_footed}
+use Rattle.index_opening_law.proofs.Layering.{opening_is_layered}
+use Rattle.lone_call_law.specs.Locks.{fewest_locks}
+use Rattle.lone_updater_law.specs.LoneTurns.{stamp_in}
 use Rattle.index_core.specs.PartyStates.{idle_states, party_of, IsPartyState}
 use Rattle.index_core.specs.declared.party.PartyState.{PartyState}
 use Rattle.index_core.specs.Indexes.{IsIndex, parties_of, world}

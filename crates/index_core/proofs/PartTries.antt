@@ -28,7 +28,7 @@ use Rattle.index_core.specs.Lone.{HasListed, HasListing, IsQuiet, IsStill, IsWho
 use Rattle.index_core.proofs.Alone.{part_early, part_done}
 use Rattle.index_core.proofs.PartsAlone.{listed_node, listed_word}
 use Rattle.pm_words.specs.declared.layout.Layout.{Layout}
-use Rattle.lone_law.specs.LoneCalls.{IsThere}
+use Rattle.lone_call_law.specs.LoneCalls.{IsThere}
 use Rattle.index_core.proofs.Told.{done_of, is_early}
 use Rattle.index_core.proofs.Tries.{Lone, lone_each, lone_locks, lone_machine, lone_none, lone_quiet, lone_still, lone_there, lone_tries, spare_left, turn_machine, turn_told}
 

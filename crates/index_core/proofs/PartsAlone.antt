@@ -43,11 +43,11 @@ use Rattle.node_ops.proofs.PartListing.{listed_is_told}
 use Rattle.node_ops.proofs.PartTelling.{parts_hear}
 use Rattle.node_ops.specs.Parts.{EndsAt, pairs_in}
 use Rattle.node_ops.specs.RunningSteps.{IsRunning, listed_in, running_asks, running_call}
-use Rattle.lone_law.specs.LoneCalls.{IsThere, PartIsThere}
+use Rattle.lone_call_law.specs.LoneCalls.{IsThere, PartIsThere}
 use Rattle.index_core.specs.Indexes.{Index, world, map_of_index, IsIndex}
 use Rattle.index_core.specs.Listings.{IsPartAt, ListsRange}
 use Rattle.index_core.specs.Lone.{HasNoCalls, IsWholePart, node_for}
-use Rattle.lone_law.specs.There.{WalksBy}
+use Rattle.lone_call_law.specs.There.{WalksBy}
 use Rattle.index_core.proofs.PartFacts.{lists_range, sound_call}
 use Rattle.index_core.proofs.Quiet.{rests}
 

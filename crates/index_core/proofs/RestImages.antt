@@ -1,11 +1,11 @@
 -- The image of an index with nothing in flight.
 use Rattle.std.proofs.Common.{◌≡◌, ap, subst}
 use Rattle.std.specs.Prelude.{Option}
-use Rattle.turn_row.specs.RowStages.{Resting}
-use Rattle.turn_row.specs.Turnings.{Turning}
-use Rattle.layer_law.specs.Turnings.{AreResting}
-use Rattle.rest_image.specs.Rest.{IsRestImage}
-use Rattle.rest_image.proofs.RestLaw.{rest_leaves_image}
+use Rattle.updater_row_law.specs.RowStages.{Resting}
+use Rattle.updater_row_law.specs.Turnings.{Turning}
+use Rattle.index_layer_law.specs.Turnings.{AreResting}
+use Rattle.index_image_law.specs.Rest.{IsRestImage}
+use Rattle.index_image_law.proofs.RestLaw.{rest_leaves_image}
 use Rattle.updater.specs.declared.making.MakeTurn.{MakeTurn}
 use Rattle.index_core.specs.declared.party.PartyState.{PartyState}
 use Rattle.index_core.specs.PartyStates.{turning_of}

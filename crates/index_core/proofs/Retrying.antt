@@ -6,6 +6,7 @@ use Rattle.std.specs.List.{filter}
 use Rattle.std.proofs.lemmas.Bool.{cases_eq, eq-eqb, ne_eqb, eqb-true, leb-true, le-leb}
 use mathlib.Core.Option.{some, some-injective}
 use lib.ListN.{get_elem?}
+use Rattle.pm_words.specs.Codes.{free_status, live_status, gone_status}
 use Rattle.pm_words.specs.declared.again.Again.{Again}
 use Rattle.pm_words.specs.declared.again.Again.TheVariants as again
 use Rattle.pm_words.specs.declared.layout.Layout.{Layout}
@@ -16,7 +17,6 @@ use Rattle.version_lock.specs.Versions.{IsWorn, is_worn_word}
 use Rattle.version_lock.proofs.WordTests.{worn_word, fresh_word}
 use Rattle.data_node.specs.Lists.{ListNode, next_offset, target_from, key_of}
 use Rattle.data_node.proofs.ListLemmas.{target_in}
-use Rattle.call_stages.specs.Kinds.{free_status, live_status, gone_status}
 use Rattle.call_stages.specs.declared.once.Once.{Once}
 use Rattle.call_stages.specs.declared.once.Once.TheVariants as once
 use Rattle.call_stages.specs.declared.once.Placed.{Placed}
@@ -30,26 +30,26 @@ use Rattle.index_law.specs.Anchors.{anchors_of, anchors_in}
 use Rattle.index_law.proofs.Noting.{line-here}
 use Rattle.index_law.proofs.Parties.{set_here}
 use Rattle.index_law.proofs.Starts.{listed_within}
-use Rattle.lone_law.specs.LoneCalls.{FindsFull, FindsWorn, IsLate, IsAnswered}
-use Rattle.lone_law.specs.Locks.{locks_in}
-use Rattle.lone_law.specs.Merging.{NextIsWorn, next_node}
-use Rattle.lone_law.specs.Splitting.{LacksFree, LacksLine}
-use Rattle.lone_law.specs.There.{IsUnmoved}
-use Rattle.lone_law.proofs.Locks.{worn_has_none}
-use Rattle.turn_law.specs.Facts.{TurnFacts}
-use Rattle.turn_row.specs.Columns.{line_count, line_word}
-use Rattle.turn_row.proofs.RowColumns.{column-here}
-use Rattle.layer_law.specs.Layers.{IsLayered}
-use Rattle.layer_law.proofs.FactTies.{facts_tie}
-use Rattle.lone_turn.specs.LoneTurns.{line_state, stamp_in, stamp_then, is_worn, frees_node}
-use Rattle.lone_turn.proofs.Ending.{gone_are_held_back}
+use Rattle.lone_call_law.specs.LoneCalls.{FindsFull, FindsWorn, IsLate, IsAnswered}
+use Rattle.lone_call_law.specs.Locks.{locks_in}
+use Rattle.lone_call_law.specs.Merging.{NextIsWorn, next_node}
+use Rattle.lone_call_law.specs.Splitting.{LacksFree, LacksLine}
+use Rattle.lone_call_law.specs.There.{IsUnmoved}
+use Rattle.lone_call_law.proofs.Locks.{worn_has_none}
+use Rattle.updater_law.specs.Facts.{TurnFacts}
+use Rattle.updater_row_law.specs.Columns.{line_count, line_word}
+use Rattle.updater_row_law.proofs.RowColumns.{column-here}
+use Rattle.index_layer_law.specs.Layers.{IsLayered}
+use Rattle.index_layer_law.proofs.FactTies.{facts_tie}
+use Rattle.lone_updater_law.specs.LoneTurns.{line_state, stamp_in, stamp_then, is_worn, frees_node}
+use Rattle.lone_updater_law.proofs.Ending.{gone_are_held_back}
 use Rattle.updater.specs.declared.terms.Turned.{Turned}
 use Rattle.index_core.specs.declared.party.PartyState.{PartyState}
 use Rattle.index_core.specs.declared.party.CoreCall.{CoreCall}
 use Rattle.index_core.specs.declared.party.CoreCall.TheVariants as call
 use Rattle.index_core.specs.CoreCalls.{op_of, limit_of, count_of}
 use Rattle.index_core.specs.PartyStates.{party_of}
-use Rattle.staleness.proofs.Short.{empty_is_short}
+use Rattle.lone_hops_law.proofs.Short.{empty_is_short}
 use Rattle.index_core.specs.Indexes.{Index, IsIndex, layered, map_of_index, world}
 use Rattle.index_core.specs.Lone.{HasNoCalls, HasShortWays, IsQuiet, IsStill, ComesFree, LacksNode, FindsFullNode, FindsNoRoom, FindsWornNode, HasSameList, IsMadeAgain, NeedsNoTurn, IsOver, IsWholeAnswer, KeepsStamps, LeavesList, LoseAtMost, MergesFor, MergesNothing, SplitsFor, SplitsNothing, TriesAlone, TriesBehindTurn, alone_writes, lacks_line, lacks_node, locks_left, most_tries, needs_split, node_for, state_tried, whole_of}
 use Rattle.index_core.specs.Turns.{TurnsAlone}
@@ -100,7 +100,7 @@ pub record TurnedBack (s s1 : Index) (i : ℕ) (c : CoreCall) : Type 0 where
   unmoved : IsUnmoved s.layout s.words s1.words (node_for s (name_asked (op_of c)))
 
 module _ (s s1 : Index) (i : ℕ) (c : CoreCall) (is : IsIndex s) (idle : HasNoCalls s) (state : PartyState) (caller : state.caller ≡ i) where
-  needs_line : (c : CoreCall) → Rattle.lone_law.specs.LoneCalls.NeedsLine (world s) (op_of c) → LacksLine s.layout s.words i → IsMadeAgain i c s
+  needs_line : (c : CoreCall) → Rattle.lone_call_law.specs.LoneCalls.NeedsLine (world s) (op_of c) → LacksLine s.layout s.words i → IsMadeAgain i c s
   needs_line (call.Put name value limit) needs lacks = full_again_if s i (call.Put name value limit) (rests s is idle) needs
   needs_line (call.Del name limit) needs lacks = (needs, lacks)
   needs_line (call.Get name) needs lacks = absurd needs
@@ -109,7 +109,7 @@ module _ (s s1 : Index) (i : ℕ) (c : CoreCall) (is : IsIndex s) (idle : HasNoC
   needs_line (call.Turn stamp release) needs lacks = absurd needs
 
   -- a call that needs no turn has a line, and a put a node
-  lined : (c : CoreCall) → Rattle.lone_law.specs.LoneCalls.NeedsLine (world s) (op_of c) → NeedsNoTurn i c s → LacksLine s.layout s.words i → ⊥
+  lined : (c : CoreCall) → Rattle.lone_call_law.specs.LoneCalls.NeedsLine (world s) (op_of c) → NeedsNoTurn i c s → LacksLine s.layout s.words i → ⊥
   lined (call.Put name value limit) needs has lacks = lacks has.0.number has.0.within has.0.empty
   lined (call.Del name limit) needs has lacks = lacks has.number has.within has.empty
   lined (call.Get name) needs has lacks = needs
@@ -353,7 +353,7 @@ module _ (s s1 s2 : Index) (i : ℕ) (c : CoreCall) (answer : Once Placed) (turn
       (cases_eq (stamp_in (world s2) n) 0)
 
   same_locks : locks_left s2 ≡ locks_left s1
-  same_locks = ap locks_left u.is ∙ (λ k. Rattle.lone_law.specs.Locks.fewest_locks s1.generation (λ n. (version_in_record n) k) s1.layout.nodes)
+  same_locks = ap locks_left u.is ∙ (λ k. Rattle.lone_call_law.specs.Locks.fewest_locks s1.generation (λ n. (version_in_record n) k) s1.layout.nodes)
     where
       version_in_record : (n : ℕ) → version_in s1.layout s2.words n ≡ version_in s1.layout s1.words n
       version_in_record n = ap (λ (l : Layout). version_in l s2.words n) (sym (ap (λ (v : Index). v.layout) u.is)) ∙ version2 n
@@ -380,7 +380,7 @@ module _ (s s1 s2 : Index) (i : ℕ) (c : CoreCall) (answer : Once Placed) (turn
     lacked = room_before;
     next = next_then;
     back = next_before;
-    each = λ n. subst (λ (q : ℕ × ℕ). Rattle.lone_law.specs.Locks.locks_of s.generation (f.version n) ≤ Rattle.lone_law.specs.Locks.locks_of q.0 q.1 + 1)
+    each = λ n. subst (λ (q : ℕ × ℕ). Rattle.lone_call_law.specs.Locks.locks_of s.generation (f.version n) ≤ Rattle.lone_call_law.specs.Locks.locks_of q.0 q.1 + 1)
         (λ k. (sym (ap (λ (v : Index). v.generation) u.is) k, sym (version2 n) k)) (each n);
     locks = let same = same_locks in omega arith;
     stamps = stamps2;

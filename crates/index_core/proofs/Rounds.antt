@@ -5,12 +5,12 @@ use Rattle.std.proofs.lemmas.List.{take_all, drop-set-lt, length-drop}
 use Rattle.std.proofs.Math.Numerals.{add-one}
 use mathlib.Core.Option.{some}
 use lib.ListN.{get_elem?}
+use Rattle.pm_words.specs.Codes.{gone_status}
 use Rattle.pm_words.specs.Locations.{Clock, durable_address}
 use Rattle.cat_history.specs.Maps.{Map, map_of}
 use Rattle.cat_history.specs.Writes.{after_all}
 use Rattle.cat_history.specs.Replays.{pairs_of}
 use Rattle.cat_history.proofs.ReplayLemmas.{map_of-pairs_of}
-use Rattle.call_stages.specs.Kinds.{gone_status}
 use Rattle.call_stages.specs.Stages.{Idle}
 use Rattle.index_law.specs.Facts.{Facts, facts_of, map_now}
 use Rattle.index_law.specs.Anchors.{anchors_of, gone_nodes}
@@ -21,7 +21,7 @@ use Rattle.index_law.specs.Laws.{next_round}
 use Rattle.index_law.proofs.Rounds.{round_law}
 use Rattle.index_law.proofs.Rows.{facts-elsewhere}
 use Rattle.index_law.proofs.Starts.{rest_law}
-use Rattle.lone_law.specs.Locks.{fewest_locks}
+use Rattle.lone_call_law.specs.Locks.{fewest_locks}
 use Rattle.index_core.specs.PartyStates.{idle_state, idle_states, party_of, IsPartyState}
 use Rattle.index_core.specs.declared.party.PartyState.{PartyState}
 use Rattle.index_core.specs.Indexes.{Index, IsIndex, footed, map_of_index, parties_of, world}

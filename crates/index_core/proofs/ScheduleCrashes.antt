@@ -4,7 +4,7 @@ use Rattle.index_core.specs.Indexes.{Index, IsIndex, layered}
 use Rattle.index_core.specs.Schedules.{BegunCall, AnsweredCall, Runs, begins, starts, goes_on, answers, alone, evicts, reserves, begins_turn, steps_turn, turns_alone}
 use Rattle.index_core.specs.ScheduleCrashes.{CrashLeavesSound}
 use Rattle.index_core.proofs.Stepping.{respare}
-use Rattle.crash_image.proofs.CrashLaw.{crash_leaves_sound_by_all}
+use Rattle.index_image_law.proofs.CrashLaw.{crash_leaves_sound_by_all}
 
 -- a schedule leads to an index
 stands : (first : Index) → IsIndex first → {begun : List BegunCall} {calls : List AnsweredCall} {s : Index} → Runs first begun calls s → IsIndex s

@@ -5,8 +5,8 @@ use Rattle.pm_words.specs.Locations.{Location, Clock, Updater, Volatile, Mark, C
 use Rattle.pm_words.specs.Rows.{evicted}
 use Rattle.pm_words.proofs.Apart.{at-set_other}
 use Rattle.index_law.proofs.Twins.{evict_cached}
-use Rattle.staleness.specs.Short.{IsLookedAt}
-use Rattle.staleness.proofs.Short.{short_stays_alike}
+use Rattle.lone_hops_law.specs.Short.{IsLookedAt}
+use Rattle.lone_hops_law.proofs.Short.{short_stays_alike}
 use Rattle.index_core.specs.Crashes.{evicted_index}
 use Rattle.index_core.specs.Indexes.{Index, world}
 use Rattle.index_core.specs.Lone.{HasShortWays}

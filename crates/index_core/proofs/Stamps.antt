@@ -21,9 +21,9 @@ use Rattle.index_law.specs.Lawful.{Sure}
 use Rattle.index_law.specs.Worlds.{facts}
 use Rattle.index_law.proofs.Beside.{nodes_leave_others}
 use Rattle.index_law.proofs.Own.{sure_within}
-use Rattle.turn_row.specs.Columns.{volatile_field}
-use Rattle.turn_row.proofs.RowColumns.{column-same}
-use Rattle.lone_turn.specs.LoneTurns.{stamp_in}
+use Rattle.updater_row_law.specs.Columns.{volatile_field}
+use Rattle.updater_row_law.proofs.RowColumns.{column-same}
+use Rattle.lone_updater_law.specs.LoneTurns.{stamp_in}
 use Rattle.index_core.specs.declared.party.PartyState.{PartyState}
 use Rattle.index_core.specs.PartyStates.{machine_stage, party_of}
 use Rattle.index_core.specs.Indexes.{Index, IsIndex, stepped_index, world}

@@ -5,16 +5,16 @@ use Rattle.std.specs.FinMap.{remove}
 use Rattle.std.proofs.lemmas.Bool.{false≢true}
 use Rattle.std.specs.Option.{is_some}
 use Rattle.std.proofs.lemmas.List.Filters.{length-filter_both}
+use Rattle.pm_words.specs.Codes.{gone_status}
 use Rattle.pm_words.specs.declared.layout.Layout.{Layout}
 use Rattle.data_node.specs.Lists.{ListNode}
 use Rattle.cat_history.specs.Maps.{Map, at}
 use Rattle.shapes.specs.Anchors.{Anchors, below, del_anchors, merges, middle_of, names_between, next_of, past, put_anchors, splits, target_of, up_to}
 use Rattle.shapes.proofs.Agreements.{and-first, and-second}
-use Rattle.call_stages.specs.Kinds.{gone_status}
 use Rattle.index_law.specs.Anchors.{anchors_in, anchors_of, gone_nodes, members_most}
 use Rattle.index_law.specs.Facts.{Facts, map_now}
 use Rattle.index_law.specs.Worlds.{facts}
-use Rattle.lone_law.specs.Merging.{HasKeptList, IsMergedSince, ShapeMerges}
+use Rattle.lone_call_law.specs.Merging.{HasKeptList, IsMergedSince, ShapeMerges}
 use Rattle.index_core.specs.declared.party.CoreCall.{CoreCall}
 use Rattle.index_core.specs.declared.party.CoreCall.TheVariants as call
 use Rattle.index_core.specs.Indexes.{Index, map_of_index, world}

@@ -27,13 +27,13 @@ use Rattle.index_law.specs.Facts.{Facts}
 use Rattle.index_law.specs.Worlds.{Party, World, facts, stepped, started, moved_on, written}
 use Rattle.index_law.specs.Weights.{weight_sum}
 use Rattle.index_law.proofs.Parties.{set_here}
-use Rattle.lone_law.specs.Locks.{locks_of, fewest_locks}
-use Rattle.lone_law.specs.Merging.{FindsMerge, HasKeptList, IsMergedSince, LeavesShape}
-use Rattle.lone_law.specs.LoneCalls.{LoneCall, IsAnswered, LosesLocks, AfterCall, ValueFits, begun_party}
-use Rattle.lone_law.specs.There.{CanWalk}
-use Rattle.lone_law.specs.Tries.{Trying, IsHalvedSince}
-use Rattle.lone_law.proofs.Locks.{fewest_lose}
-use Rattle.lone_law.proofs.LoneCalls.{lone_calls_begin, lone_parts_begin, lone_calls_go}
+use Rattle.lone_call_law.specs.Locks.{locks_of, fewest_locks}
+use Rattle.lone_call_law.specs.Merging.{FindsMerge, HasKeptList, IsMergedSince, LeavesShape}
+use Rattle.lone_call_law.specs.LoneCalls.{LoneCall, IsAnswered, LosesLocks, AfterCall, ValueFits, begun_party}
+use Rattle.lone_call_law.specs.There.{CanWalk}
+use Rattle.lone_call_law.specs.Tries.{Trying, IsHalvedSince}
+use Rattle.lone_call_law.proofs.Locks.{fewest_lose}
+use Rattle.lone_call_law.proofs.LoneCalls.{lone_calls_begin, lone_parts_begin, lone_calls_go}
 use Rattle.index_core.specs.declared.party.PartyState.{PartyState}
 use Rattle.index_core.specs.declared.party.CoreCall.{CoreCall}
 use Rattle.index_core.specs.declared.party.CoreCall.TheVariants as call
@@ -54,20 +54,20 @@ use Rattle.node_ops.specs.Costs.{spared}
 use Rattle.node_ops.proofs.Costs.{turns_spare}
 use Rattle.index_core.proofs.Told.{go_of, done_of}
 use Rattle.index_core.proofs.Stamps.{step_leaves_stamps}
-use Rattle.lone_turn.specs.LoneTurns.{stamp_in}
-use Rattle.lone_turn.specs.CallLogs.{KeepsLayer, KeepsLines, MakesReady, StandsSo, LogStands, LeavesLines}
-use Rattle.lone_turn.proofs.CallLogs.{log_goes, log_ends}
-use Rattle.lone_turn.proofs.InStep.{calls_are_in_step}
+use Rattle.lone_updater_law.specs.LoneTurns.{stamp_in}
+use Rattle.lone_updater_law.specs.CallLogs.{KeepsLayer, KeepsLines, MakesReady, StandsSo, LogStands, LeavesLines}
+use Rattle.lone_updater_law.proofs.CallLogs.{log_goes, log_ends}
+use Rattle.lone_updater_law.proofs.InStep.{calls_are_in_step}
 use Rattle.call_stages.specs.Footings.{FootStep}
 use Rattle.call_stages.specs.Lines.{HeldLine}
 use Rattle.call_stages.specs.Prevs.{no_debt}
 use Rattle.data_list.specs.Still.{AreQuiet}
 use Rattle.index_law.specs.LoneShapes.{has_merged}
-use Rattle.lone_law.specs.Tries.{has_retired}
-use Rattle.staleness.specs.LoneNodes.{nodes_of, HasLeftOut, NodesStand, LengthenWithin}
-use Rattle.staleness.specs.Ways.{StayGone}
-use Rattle.staleness.proofs.Lengthening.{tries_lengthen}
-use Rattle.staleness.proofs.NodesGo.{nodes_go, nodes_end}
+use Rattle.lone_call_law.specs.Tries.{has_retired}
+use Rattle.lone_hops_law.specs.LoneNodes.{nodes_of, HasLeftOut, NodesStand, LengthenWithin}
+use Rattle.lone_hops_law.specs.Ways.{StayGone}
+use Rattle.lone_hops_law.proofs.Lengthening.{tries_lengthen}
+use Rattle.lone_hops_law.proofs.NodesGo.{nodes_go, nodes_end}
 use Rattle.cat_history.specs.Records.{change_of}
 use Rattle.node_ops.proofs.CallLaw.{footing_stage}
 

@@ -3,13 +3,13 @@ use Rattle.std.proofs.Common.{◌≡◌, ◌≢◌, ℕ, ◌+◌, ◌/◌, ◌<�
 use Rattle.std.specs.Prelude.{Option, Some, IfSome}
 use mathlib.Core.Option.{some}
 use lib.ListN.{get_elem?, length-set}
+use Rattle.pm_words.specs.Codes.{gone_status, free_status}
 use Rattle.pm_words.specs.declared.layout.Layout.{Layout}
 use Rattle.pm_words.specs.declared.action.Action.{Action}
 use Rattle.pm_words.specs.declared.machine.Turn.{Turn}
 use Rattle.pm_words.specs.declared.machine.Turn.TheVariants.{Go, Done}
 use Rattle.pm_words.specs.Rows.{CanAct, acted}
 use Rattle.pm_words.specs.Locations.{Volatile}
-use Rattle.call_stages.specs.Kinds.{gone_status, free_status}
 use Rattle.call_stages.specs.Stages.{Stage, Idle, Saw, Wears, Reads, Holds, Eyes, Splits, Leaves, Meets, Joins}
 use Rattle.call_stages.specs.Watches.{Nothing}
 use Rattle.index_law.specs.Facts.{Facts}
@@ -18,13 +18,13 @@ use Rattle.index_law.specs.InUse.{AreInUse}
 use Rattle.index_law.specs.Weights.{gone_weight, index_weight, lowered_in, lowered_sum, weight_sum}
 use Rattle.index_law.proofs.Weights.{gone_less}
 use Rattle.index_law.proofs.Parties.{at_set, set_here}
-use Rattle.turn_row.specs.Columns.{RowTerms, volatile_field}
-use Rattle.turn_row.specs.RowStages.{RowStage, Resting, IsUnworn, Frees, Counts}
-use Rattle.turn_row.specs.RowLaw.{RowLawful}
-use Rattle.turn_row.proofs.RowColumns.{column-here}
+use Rattle.updater_row_law.specs.Columns.{RowTerms, volatile_field}
+use Rattle.updater_row_law.specs.RowStages.{RowStage, Resting, IsUnworn, Frees, Counts}
+use Rattle.updater_row_law.specs.RowLaw.{RowLawful}
+use Rattle.updater_row_law.proofs.RowColumns.{column-here}
 use Rattle.index_law.proofs.Rows.{status_in-here}
-use Rattle.lone_turn.specs.LoneTurns.{stamp_in}
-use Rattle.turn_row.specs.Turnings.{Turning, TurnFoot}
+use Rattle.lone_updater_law.specs.LoneTurns.{stamp_in}
+use Rattle.updater_row_law.specs.Turnings.{Turning, TurnFoot}
 use Rattle.updater.specs.declared.making.MakeTurn.{MakeTurn}
 use Rattle.updater.specs.declared.making.MakeTurn.TheVariants.{Taking, Working}
 use Rattle.updater.specs.declared.making.TurnReply.{TurnReply}
@@ -35,15 +35,15 @@ use Rattle.updater.specs.Steps.{row_terms}
 use Rattle.updater.specs.Watches.{turning_at}
 use Rattle.updater.specs.Makings.{IsMaking, making_terms, making_asks, making_turned, making_takes, making_turning, turning_made, MakingStays, making_from}
 use Rattle.updater.proofs.MakingLaw.{makings_stay_sound, makings_are_feet}
-use Rattle.lone_turn.specs.Laws.{terms_in}
-use Rattle.lone_turn.proofs.Acting.{turns_act}
-use Rattle.lone_turn.proofs.Told.{told_any}
-use Rattle.layer_law.specs.Turnings.{terms_of, ghosts_of}
-use Rattle.layer_law.specs.Layers.{Layered, IsLayered}
-use Rattle.layer_law.specs.Laws.{turned, LeavesNodes}
-use Rattle.layer_law.proofs.TurnSteps.{turn_step_keeps, turn_step_leaves, others_rest}
-use Rattle.layer_law.proofs.TurnRests.{turn_start_keeps}
-use Rattle.layer_law.proofs.TurnTerms.{terms_may_begin}
+use Rattle.lone_updater_law.specs.Laws.{terms_in}
+use Rattle.lone_updater_law.proofs.Acting.{turns_act}
+use Rattle.lone_updater_law.proofs.Told.{told_any}
+use Rattle.index_layer_law.specs.Turnings.{terms_of, ghosts_of}
+use Rattle.index_layer_law.specs.Layers.{Layered, IsLayered}
+use Rattle.index_layer_law.specs.Laws.{turned, LeavesNodes}
+use Rattle.index_layer_law.proofs.TurnSteps.{turn_step_keeps, turn_step_leaves, others_rest}
+use Rattle.index_layer_law.proofs.TurnRests.{turn_start_keeps}
+use Rattle.index_layer_law.proofs.TurnTerms.{terms_may_begin}
 use Rattle.index_core.specs.declared.party.PartyState.{PartyState}
 use Rattle.index_core.specs.PartyStates.{party_of, resting, turning_of, turn_after, IsTurnOf}
 use Rattle.index_core.specs.Indexes.{Index, IsIndex, world, footed, layered}

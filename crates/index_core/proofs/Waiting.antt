@@ -13,10 +13,10 @@ use Rattle.index_law.specs.Anchors.{anchors_of}
 use Rattle.index_law.specs.Facts.{Facts}
 use Rattle.index_law.proofs.AnySteps.{set_own}
 use Rattle.index_law.proofs.Parties.{at_set, set_here}
-use Rattle.lone_law.specs.Locks.{fewest_locks, locks_of}
+use Rattle.lone_call_law.specs.Locks.{fewest_locks, locks_of}
 use Rattle.pm_alloc.specs.declared.gone.ReleaseAt.{ReleaseAt}
 use Rattle.pm_alloc.specs.declared.gone.ReleaseAt.TheVariants as release_at
-use Rattle.turn_row.specs.RowStages.{Resting}
+use Rattle.updater_row_law.specs.RowStages.{Resting}
 use Rattle.updater.specs.declared.making.MakeTurn.{MakeTurn}
 use Rattle.updater.specs.declared.making.MakeTurn.TheVariants.{Taking, Working}
 use Rattle.updater.specs.declared.making.TurnReply.{TurnReply}

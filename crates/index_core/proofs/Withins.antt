@@ -23,8 +23,8 @@ use Rattle.index_law.specs.Anchors.{anchors_of}
 use Rattle.index_law.specs.Facts.{Facts}
 use Rattle.index_law.specs.Worlds.{Party, World}
 use Rattle.index_law.proofs.Parties.{set_here}
-use Rattle.lone_law.specs.LoneCalls.{IsAnswered}
-use Rattle.lone_law.specs.Locks.{fewest_locks, locks_of}
+use Rattle.lone_call_law.specs.LoneCalls.{IsAnswered}
+use Rattle.lone_call_law.specs.Locks.{fewest_locks, locks_of}
 use Rattle.updater.specs.declared.terms.Turned.{Turned}
 use Rattle.index_core.specs.declared.party.CoreCall.{CoreCall}
 use Rattle.index_core.specs.declared.party.PartyState.{PartyState}

@@ -1,10 +1,10 @@
 -- Why a call was turned back, by the numbers that its own steps gave.
 use Rattle.std.specs.Prelude.{◌≡◌, ◌≢◌, ℕ, ◌+◌, ◌-◌, ◌*◌, ◌⊎◌, List, [], ◌∷◌, ◌++◌, length, All, Contains}
+use Rattle.pm_words.specs.Codes.{free_status}
 use Rattle.pm_words.specs.declared.again.Again.{Again}
 use Rattle.pm_words.specs.declared.again.Again.TheVariants as again
 use Rattle.pm_words.specs.declared.layout.Layout.{Layout}
 use Rattle.version_lock.specs.Versions.{IsFree, IsWorn}
-use Rattle.call_stages.specs.Kinds.{free_status}
 use Rattle.call_stages.specs.declared.once.Once.{Once}
 use Rattle.call_stages.specs.declared.once.Once.TheVariants as once
 use Rattle.call_stages.specs.declared.once.Placed.{Placed}

@@ -12,7 +12,7 @@ use Rattle.pm_words.specs.declared.layout.Layout.{Layout}
 use Rattle.pm_words.specs.Images.{Row}
 use Rattle.pm_words.specs.Locations.{image_words}
 use Rattle.pm_words.specs.Rows.{evicted, durable_row}
-use Rattle.sound_image.specs.Rules.{header_generation}
+use Rattle.image_rules.specs.Rules.{header_generation}
 use Rattle.index_core.specs.Crashes.{IsCrash, evicted_index}
 use Rattle.index_core.specs.Indexes.{Index, IsIndex, world}
 use Rattle.index_law.specs.Weights.{weight_sum}

@@ -3,8 +3,8 @@
 use Rattle.std.specs.Prelude.{◌≡◌, ℕ, ◌⊎◌, List, Option, Some}
 use mathlib.Core.Option.{some}
 use lib.ListN.{get_elem?}
+use Rattle.pm_words.specs.Codes.{free_status, gone_status}
 use Rattle.pm_words.specs.declared.machine.Turn.TheVariants.{Go}
-use Rattle.call_stages.specs.Kinds.{free_status, gone_status}
 use Rattle.index_law.specs.Worlds.{facts}
 use Rattle.updater.specs.declared.making.MakeTurn.{MakeTurn}
 use Rattle.updater.specs.declared.making.TurnReply.{TurnReply}

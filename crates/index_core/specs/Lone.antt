@@ -8,11 +8,11 @@ use lib.ListN.{get_elem?}
 use Rattle.cat_history.specs.Maps.{at}
 use Rattle.cat_key.specs.Names.{IsName}
 use Rattle.cat_history.specs.declared.op.Write.{Write}
+use Rattle.pm_words.specs.Codes.{free_status, gone_status}
 use Rattle.pm_words.specs.declared.again.Again.TheVariants as again
 use Rattle.call_stages.specs.declared.once.Once.{Once}
 use Rattle.call_stages.specs.declared.once.Once.TheVariants as once
 use Rattle.call_stages.specs.declared.once.Placed.{Placed}
-use Rattle.call_stages.specs.Kinds.{free_status, gone_status}
 use Rattle.cat_history.specs.Records.{change_of}
 use Rattle.node_ops.specs.declared.part.PartWords.{PartWords}
 use Rattle.node_ops.specs.declared.running.Running.{Running}
@@ -23,16 +23,16 @@ use Rattle.version_lock.specs.Versions.{IsWorn}
 use Rattle.index_law.specs.Facts.{version_in}
 use Rattle.index_law.specs.Anchors.{anchors_in, gone_nodes}
 use Rattle.index_law.specs.Worlds.{facts, written}
-use Rattle.lone_law.specs.Rooms.{target_node}
-use Rattle.lone_law.specs.Merging.{NextIsWorn, TriesMerge}
-use Rattle.lone_law.specs.LoneCalls.{FindsWorn, IsAnswered}
-use Rattle.lone_law.specs.There.{WalksBy}
-use Rattle.lone_law.specs.Splitting.{HasFree, HasLine, LacksLine}
-use Rattle.lone_law.specs.Locks.{locks_of, locks_in}
-use Rattle.lone_turn.specs.CallLogs.{KeepsLayer, KeepsLines, MakesReady, LeavesLines, ready_lines}
-use Rattle.lone_turn.specs.LoneTurns.{stamp_in}
-use Rattle.staleness.specs.LoneNodes.{LengthenWithin}
-use Rattle.staleness.specs.Short.{WaysAreShort}
+use Rattle.lone_call_law.specs.Rooms.{target_node}
+use Rattle.lone_call_law.specs.Merging.{NextIsWorn, TriesMerge}
+use Rattle.lone_call_law.specs.LoneCalls.{FindsWorn, IsAnswered}
+use Rattle.lone_call_law.specs.There.{WalksBy}
+use Rattle.lone_call_law.specs.Splitting.{HasFree, HasLine, LacksLine}
+use Rattle.lone_call_law.specs.Locks.{locks_of, locks_in}
+use Rattle.lone_updater_law.specs.CallLogs.{KeepsLayer, KeepsLines, MakesReady, LeavesLines, ready_lines}
+use Rattle.lone_updater_law.specs.LoneTurns.{stamp_in}
+use Rattle.lone_hops_law.specs.LoneNodes.{LengthenWithin}
+use Rattle.lone_hops_law.specs.Short.{WaysAreShort}
 use Rattle.updater.specs.declared.making.MakeTurn.{MakeTurn}
 use Rattle.updater.specs.declared.making.MakeTurn.TheVariants.{Taking, Working}
 use Rattle.updater.specs.declared.terms.Turned.{Turned}

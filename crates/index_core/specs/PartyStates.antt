@@ -27,8 +27,8 @@ use Rattle.node_ops.specs.CallStages.{stage_of, footing_of}
 use Rattle.node_ops.specs.PartSteps.{early_of, placed_of}
 use Rattle.node_ops.specs.RunningSteps.{Sound, running_call, count_in, listed_in}
 use Rattle.node_ops.specs.Asked.{IsOf, op_in}
-use Rattle.turn_row.specs.RowStages.{Resting}
-use Rattle.turn_row.specs.Turnings.{Turning}
+use Rattle.updater_row_law.specs.RowStages.{Resting}
+use Rattle.updater_row_law.specs.Turnings.{Turning}
 use Rattle.updater.specs.declared.making.MakeTurn.{MakeTurn}
 use Rattle.updater.specs.declared.making.TurnReply.{TurnReply}
 use Rattle.updater.specs.Makings.{IsMaking, making_terms, making_turning}

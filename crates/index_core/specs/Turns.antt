@@ -2,16 +2,16 @@
 use Rattle.std.specs.Prelude.{◌≡◌, ◌≢◌, ℕ, ◌*◌, ◌/◌, ◌<◌, ◌≤◌, ◌^◌, ◌⊎◌, true, slice_set, Option, Some, None}
 use mathlib.Core.Option.{some}
 use lib.ListN.{get_elem?}
+use Rattle.pm_words.specs.Codes.{free_status, gone_status}
 use Rattle.pm_words.specs.declared.machine.Turn.{Turn}
 use Rattle.pm_words.specs.declared.machine.Turn.TheVariants.{Go, Done}
 use Rattle.pm_words.specs.Rows.{CanAct, acted, got}
 use Rattle.pm_words.specs.Turns.{GoesBelow}
-use Rattle.call_stages.specs.Kinds.{free_status, gone_status}
 use Rattle.index_law.specs.Worlds.{facts}
 use Rattle.index_law.specs.Weights.{weight_sum}
-use Rattle.layer_law.specs.Laws.{LeavesNodes}
-use Rattle.lone_turn.specs.LoneTurns.{IsLoneTurn, stamp_in}
-use Rattle.turn_row.specs.RowStages.{Frees}
+use Rattle.index_layer_law.specs.Laws.{LeavesNodes}
+use Rattle.lone_updater_law.specs.LoneTurns.{IsLoneTurn, stamp_in}
+use Rattle.updater_row_law.specs.RowStages.{Frees}
 use Rattle.updater.specs.declared.making.MakeTurn.{MakeTurn}
 use Rattle.updater.specs.declared.making.MakeTurn.TheVariants.{Working}
 use Rattle.updater.specs.declared.making.TurnReply.{TurnReply}

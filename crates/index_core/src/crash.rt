@@ -5,12 +5,9 @@ ghost use Rattle.std.specs.Prelude.{◌≡◌};
 use crate::party::{CoreCall, PartyState};
 use cat_history::NameOp;
 use node_ops::Running;
-use pm_words::Image;
+use pm_words::{Image, MOST_WRITES};
 use std::marker::Model;
 use updater::MakeTurn;
-
-/// The limit of a call that has none: no clock reaches it.
-const MOST_LIMIT: u64 = 1 << 62;
 
 /// What a crash leaves: the image of the durable words, and the calls that were in flight.
 #[derive(Drop)]
@@ -83,7 +80,7 @@ impl CoreCall {
         requires { IsRunning machine.now }
         ensures { result ≡ call_in machine.now }
     {
-        let limit = machine.limit().unwrap_or(MOST_LIMIT);
+        let limit = machine.limit().unwrap_or(MOST_WRITES);
         match machine.op() {
             NameOp::Put { name, value } => CoreCall::Put { name, value, limit },
             NameOp::Get { name: low } => match machine.count() {

@@ -3,12 +3,12 @@
 ghost use Rattle.std.specs.Prelude.{◌≡◌, IfOk};
 ghost use Rattle.cat_history.specs.Maps.{map_of};
 ghost use Rattle.cat_history.specs.Replays.{pairs_of};
-ghost use Rattle.rest_image.specs.Rest.{IsRestImage, cached_image};
+ghost use Rattle.index_image_law.specs.Rest.{IsRestImage, cached_image};
 ghost use Rattle.index_core.specs.Indexes.{map_of_index, world};
 ghost use Rattle.index_core.specs.Lone.{IsQuiet};
 
 use crate::index::Core;
-use cat_history::{Listed, replay};
+use cat_history::{Items, replay};
 use cat_key::Pair;
 use pm_words::{Image, NoMemory};
 use std::alloc::Global;
@@ -28,7 +28,7 @@ impl Core {
     /// The map as it is, as pairs in rising order of names.
     ///
     /// It takes time in proportion to the names and the history, and to the logarithm of the names.
-    pub fn pairs(&self, alloc: Global) -> Result<Listed<Pair>, NoMemory>
+    pub fn pairs(&self, alloc: Global) -> Result<Items<Pair>, NoMemory>
         ensures pairs { IfOk result (λ pairs. pairs ≡ pairs_of (map_of_index self.now)) }
         ensures map { IfOk result (λ pairs. map_of pairs ≡ map_of_index self.now) }
     {

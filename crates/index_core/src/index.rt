@@ -22,16 +22,14 @@ ghost use Rattle.index_core.specs.Cores.{IsAdd};
 use crate::crash::{Crashed, Cuts};
 use crate::party::{CoreCall, CoreReply, InFlight, PartyState, Stepped};
 use call_stages::{Once, Placed, View};
-use cat_history::{Change, Listed, Write, replay};
+use cat_history::{Change, Items, Write, replay};
 use cat_key::Pair;
 use node_ops::{PartWords, Running};
 use pm_words::offsets::header;
+use pm_words::offsets::shared::CLOCK;
 use pm_words::{Action, Layout, Machine, Memory, NoMemory, Steps};
 use std::marker::Model;
 use std::sync::ledger::Ledger;
-
-/// The address of the clock.
-const CLOCK: u64 = 0;
 
 /// An index in memory, with at most one call in flight for each caller.
 #[derive(Drop)]
@@ -39,7 +37,7 @@ pub struct Core {
     pub(crate) memory: Memory,
     pub(crate) generation: u64,
     pub(crate) states: Vec<PartyState>,
-    base: Listed<Pair>,
+    base: Items<Pair>,
     history: Vec<Write>,
 }
 
@@ -61,7 +59,7 @@ pub struct Parts {
     pub memory: Memory,
     pub generation: u64,
     pub states: Vec<PartyState>,
-    pub base: Listed<Pair>,
+    pub base: Items<Pair>,
     pub history: Vec<Write>,
 }
 
@@ -115,7 +113,7 @@ impl Core {
     /// is what room the history has.
     pub fn opened(
         memory: Memory,
-        base: Listed<Pair>,
+        base: Items<Pair>,
         states: Vec<PartyState>,
         history: Vec<Write>,
     ) -> Core
@@ -366,7 +364,7 @@ impl Core {
     }
 
     /// The map that the history begins with.
-    pub fn base(&self) -> &Listed<Pair>
+    pub fn base(&self) -> &Items<Pair>
         ensures { result.now ≡ self.now.base }
     {
         &self.base

@@ -1,6 +1,7 @@
 -- What a party may do can be done.
 use Rattle.std.proofs.Common.{◌≡◌, ◌≢◌, inl, ⊎_elim, ℕ, ◌<◌, ◌≤◌, ◌^◌, true, List, length, slice_index, refl, sym, ap, ◌∙◌, subst, arith}
 use Rattle.std.proofs.lemmas.Nat.{same_from_place}
+use Rattle.pm_words.specs.Codes.{live_status}
 use Rattle.pm_words.specs.declared.layout.Layout.{Layout}
 use Rattle.pm_words.specs.declared.action.Action.{Action}
 use Rattle.pm_words.specs.declared.action.Action.TheVariants.{Load, Store, Exchange, Add, Drain}
@@ -18,7 +19,7 @@ use Rattle.cat_history.specs.Maps.{Map}
 use Rattle.cat_history.specs.declared.op.Write.{Write}
 use Rattle.data_node.specs.Spots.{Spot}
 use Rattle.data_node.specs.Lists.{next_offset, anchor_in}
-use Rattle.call_stages.specs.Kinds.{Told, HasWordAt, live_status, clock_address, word_address, version_address, status_address, prev_address, LeadsWithin}
+use Rattle.call_stages.specs.Kinds.{Told, HasWordAt, clock_address, word_address, version_address, status_address, prev_address, LeadsWithin}
 use Rattle.index_law.specs.Facts.{Facts, IsListed, facts_of, version_in}
 use Rattle.index_law.specs.Worlds.{World, facts}
 use Rattle.index_law.specs.Lawful.{AreLive, IsList, Sure, SureSaw, SureHolds, SureMeets}

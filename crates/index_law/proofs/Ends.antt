@@ -12,7 +12,7 @@ use Rattle.cat_history.proofs.ChangeLemmas.{at-changed_other, changed_found}
 use Rattle.cat_history.proofs.CrashEndLemmas.{old_or_cut_is_crash_end}
 use Rattle.data_node.specs.Lists.{target_from, key_of, IsIn}
 use Rattle.data_node.proofs.SpotLemmas.{same_name}
-use Rattle.sound_image.proofs.MapLemmas.{found_once}
+use Rattle.image_rules.proofs.MapLemmas.{found_once}
 use Rattle.call_stages.specs.Stages.{pended}
 use Rattle.index_law.specs.Facts.{map_now, durable_spot}
 use Rattle.index_law.specs.Worlds.{World, facts}

@@ -5,6 +5,7 @@ use Rattle.std.specs.Prelude.{Some, None, IfSome}
 use Rattle.std.proofs.lemmas.Bool.{cases_lt, cases_eq, lt-ltb, le-ltb, ltb-true}
 use mathlib.Core.Option.{some, some-injective}
 use lib.ListN.{get_elem?}
+use Rattle.pm_words.specs.Codes.{live_status}
 use Rattle.pm_words.specs.declared.layout.Layout.{Layout}
 use Rattle.pm_words.specs.Layouts.{IsLayout}
 use Rattle.pm_words.specs.Images.{fresh_words}
@@ -15,7 +16,7 @@ use Rattle.pm_words.proofs.Made.{fresh_at, fresh_image, row_of-at, row_of-at_vol
 use Rattle.data_node.specs.Spots.{Spot}
 use Rattle.data_node.specs.Lists.{next_offset}
 use Rattle.call_stages.specs.Stages.{Stage, Idle, HoldsNode, Tells}
-use Rattle.call_stages.specs.Kinds.{HasWordAt, live_status}
+use Rattle.call_stages.specs.Kinds.{HasWordAt}
 use Rattle.call_stages.specs.Lines.{HeldLine}
 use Rattle.index_law.specs.Facts.{Facts, facts_of, map_now, IsListed, status_in, spot_in}
 use Rattle.index_law.specs.Worlds.{Party, World, facts}

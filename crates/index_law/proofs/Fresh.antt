@@ -4,6 +4,7 @@ use Rattle.std.specs.Prelude.{if◌then◌else◌, Some, None}
 use Rattle.std.specs.FinMap.{empty, get-empty}
 use Rattle.cat_key.specs.Names.{name_cmp}
 use Rattle.std.proofs.lemmas.Bool.{cases_eq, eq-eqb, ne_eqb}
+use Rattle.pm_words.specs.Codes.{gone_status, live_status}
 use Rattle.pm_words.specs.declared.layout.Layout.{Layout}
 use Rattle.pm_words.specs.Layouts.{IsLayout}
 use Rattle.pm_words.specs.Images.{fresh_words, fresh_word}
@@ -15,7 +16,7 @@ use Rattle.pm_words.proofs.Kept.{acted_row}
 use Rattle.pm_words.proofs.Made.{fresh_at, fresh_image, row_of-at, row_of-at_volatile, row_of-row}
 use Rattle.version_lock.specs.Versions.{generation_of, IsFree}
 use Rattle.data_node.proofs.SpotLemmas.{means_empty}
-use Rattle.call_stages.specs.Kinds.{gone_status, HasWordAt, word_address, status_address, live_status}
+use Rattle.call_stages.specs.Kinds.{HasWordAt, word_address, status_address}
 use Rattle.data_node.specs.Spots.{Finds}
 use Rattle.data_node.specs.Lists.{next_offset, anchor_in}
 use Rattle.index_law.specs.Facts.{Facts, facts_of, version_in, status_in, spot_in, list_in, durable_spot, range_of, IsListed}

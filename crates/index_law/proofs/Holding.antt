@@ -5,6 +5,7 @@ use Rattle.std.proofs.Math.Nat.{add-mul}
 use Rattle.std.proofs.lemmas.List.{length-map}
 use Rattle.std.specs.FinMap.{keys}
 use Rattle.std.specs.List.{AllByRecursion}
+use Rattle.pm_words.specs.Codes.{gone_status}
 use Rattle.pm_words.specs.declared.layout.Layout.{Layout}
 use Rattle.cat_key.specs.Names.{IsName}
 use Rattle.cat_history.specs.Maps.{at}
@@ -18,7 +19,6 @@ use Rattle.data_node.specs.Spots.{Spot, Means}
 use Rattle.data_node.specs.Weights.{has_name_in, names_in}
 use Rattle.data_node.specs.Lists.{ListNode, anchor_in, key_of, target_from, IsMember, IsChain, Rise}
 use Rattle.data_node.proofs.RangeNames.{range_names}
-use Rattle.call_stages.specs.Kinds.{gone_status}
 use Rattle.index_law.specs.Facts.{Facts, map_now, range_of, IsListed}
 use Rattle.index_law.specs.Worlds.{facts}
 use Rattle.data_node.specs.Weights.{total}

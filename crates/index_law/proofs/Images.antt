@@ -10,12 +10,12 @@ use Rattle.data_node.specs.Spots.{Spot, IsTidy, Means}
 use Rattle.data_node.specs.Lines.{IsFitLine}
 use Rattle.data_node.specs.Lists.{members_from, range_in, IsIn, MakeList}
 use Rattle.data_node.specs.Weights.{list_weight}
-use Rattle.sound_image.specs.Nodes.{image_spot}
-use Rattle.sound_image.specs.Sound.{image_map}
-use Rattle.sound_image.specs.Laws.{KeepsRules}
-use Rattle.sound_image.specs.Rules.{IsSpare, line_spot}
-use Rattle.sound_image.proofs.TidyLemmas.{keeps_sound}
-use Rattle.sound_image.proofs.MapLemmas.{sound_has_map}
+use Rattle.image_rules.specs.Nodes.{image_spot}
+use Rattle.image_rules.specs.Sound.{image_map}
+use Rattle.image_rules.specs.Laws.{KeepsRules}
+use Rattle.image_rules.specs.Rules.{IsSpare, line_spot}
+use Rattle.image_rules.proofs.TidyLemmas.{keeps_sound}
+use Rattle.image_rules.proofs.MapLemmas.{sound_has_map}
 use Rattle.index_law.specs.Twins.{IsBlank}
 use Rattle.index_law.specs.Facts.{durable_spot}
 use Rattle.index_law.specs.Worlds.{World}

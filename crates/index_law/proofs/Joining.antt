@@ -3,6 +3,7 @@ use Rattle.std.proofs.Common.{◌≡◌, ◌≢◌, ℕ, ◌⊎◌, inl, inr, Bo
 use Rattle.std.specs.Prelude.{◌==◌, ◌||◌, Option, None, Some, IfSome}
 use Rattle.std.specs.List.{AllByRecursion}
 use Rattle.std.proofs.lemmas.Bool.{ne_eqb, eq-eqb}
+use Rattle.pm_words.specs.Codes.{gone_status}
 use Rattle.pm_words.specs.declared.layout.Layout.{Layout}
 use Rattle.pm_words.specs.declared.action.Action.{Action}
 use Rattle.version_lock.specs.Versions.{IsFree}
@@ -13,7 +14,7 @@ use Rattle.data_node.specs.Weights.{names_in}
 use Rattle.data_node.proofs.SpotLemmas.{updated-same, updated-other}
 use Rattle.data_node.proofs.NameCounts.{same_names}
 use Rattle.call_stages.specs.Stages.{Knows, KnowsDurable, IsAmong, Known, Held, Grip, Tells, AreCopies, Pace, Gathered, Joined, Gone, Stage, pended}
-use Rattle.call_stages.specs.Kinds.{IsGathered, from_key, gone_status, Merge, meets, knows_own, knows_right, copies, takes_up, puts_down, parts, gathers, joins, glances_joined, drains_joined, retires, yields}
+use Rattle.call_stages.specs.Kinds.{IsGathered, from_key, Merge, meets, knows_own, knows_right, copies, takes_up, puts_down, parts, gathers, joins, glances_joined, drains_joined, retires, yields}
 use Rattle.index_law.specs.Facts.{Facts, map_now, range_of, IsListed, cached_word}
 use Rattle.index_law.specs.Lawful.{IsList, AreLive, AreKnown, AreSettled, SureHolds, SureMeets, IsAtPace, Sure}
 use Rattle.index_law.proofs.Moves.{merge_after, MergeGave}

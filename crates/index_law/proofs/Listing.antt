@@ -2,6 +2,7 @@
 use Rattle.std.proofs.Common.{◌≡◌, ◌≢◌, ℕ, ◌<◌, ◌≤◌, ◌⊎◌, inl, inr, ⊎_elim, Bool, cond, List, refl, sym, ap, ◌∙◌, subst, arith}
 use Rattle.std.specs.Prelude.{Option}
 use Rattle.std.proofs.lemmas.Bool.{cases_eq, eq-eqb, ne_eqb}
+use Rattle.pm_words.specs.Codes.{live_status, gone_status}
 use Rattle.pm_words.specs.declared.layout.Layout.{Layout}
 use Rattle.pm_words.specs.declared.action.Action.{Action}
 use Rattle.version_lock.specs.Versions.{IsFree}
@@ -12,7 +13,7 @@ use Rattle.data_node.specs.Lists.{ListNode, next_offset, IsChain, Rise, key_of}
 use Rattle.call_stages.specs.declared.once.Once.{Once}
 use Rattle.call_stages.specs.declared.once.Placed.{Placed}
 use Rattle.call_stages.specs.Stages.{Stage}
-use Rattle.call_stages.specs.Kinds.{Step, looks, locks, stores, commits, drains, counts, unlocks, splits, claims, publishes, leaves, live_status, Split, fills, lights, switches, glances_left, glances_fresh, drains_left, drains_fresh, trims, gone_status, Merge, meets, knows_own, knows_right, copies, takes_up, puts_down, parts, gathers, joins, glances_joined, drains_joined, retires, yields, merges}
+use Rattle.call_stages.specs.Kinds.{Step, looks, locks, stores, commits, drains, counts, unlocks, splits, claims, publishes, leaves, Split, fills, lights, switches, glances_left, glances_fresh, drains_left, drains_fresh, trims, Merge, meets, knows_own, knows_right, copies, takes_up, puts_down, parts, gathers, joins, glances_joined, drains_joined, retires, yields, merges}
 use Rattle.index_law.specs.Facts.{Facts, map_now, IsListed}
 use Rattle.index_law.specs.Lawful.{IsList, AreLive, Sure}
 use Rattle.call_stages.specs.Stages.{HoldsNode}

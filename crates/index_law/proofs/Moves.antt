@@ -3,6 +3,7 @@ use Rattle.std.proofs.Common.{◌≡◌, ◌≢◌, ℕ, ◌+◌, ◌<◌, inl, 
 use Rattle.std.specs.Prelude.{◌==◌, Option, Some, None}
 use Rattle.std.proofs.lemmas.Bool.{eq-eqb, ne_eqb}
 use Rattle.std.proofs.lemmas.List.{set-get_or, append-nil, length-append}
+use Rattle.pm_words.specs.Codes.{live_status, gone_status}
 use Rattle.pm_words.specs.declared.layout.Layout.{Layout}
 use Rattle.pm_words.specs.declared.action.Action.{Action}
 use Rattle.pm_words.specs.Locations.{Location, Volatile, Cached, Durable, Clock, Node, HasLocation, address_of}
@@ -22,7 +23,7 @@ use Rattle.index_law.specs.Facts.{Facts, facts_of, cached_word, spot_in, map_now
 use Rattle.index_law.specs.Worlds.{written}
 use Rattle.data_node.specs.Spots.{bitmap_offset}
 use Rattle.data_node.specs.Lists.{next_offset}
-use Rattle.call_stages.specs.Kinds.{status_address, prev_address, live_status, gone_status, IsContent}
+use Rattle.call_stages.specs.Kinds.{status_address, prev_address, IsContent}
 use Rattle.index_law.specs.Facts.{IsListed}
 use Rattle.index_law.specs.Lawful.{IsList, Sure}
 use Rattle.index_law.proofs.Rows.{with_version, with_status, with_word, with_next, with_past, with_writes, version_in-here, status_in-here, spot_in-here, cached_word-here, facts-elsewhere, facts-version, facts-status, facts-word, facts-next, facts-past, links_content, links_else}

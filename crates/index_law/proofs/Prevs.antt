@@ -4,6 +4,7 @@ use Rattle.std.specs.List.{AllByRecursion, IsDistinct, list_any}
 use Rattle.std.proofs.lemmas.Map.Steps.{length-le_from_distinct_below}
 use Rattle.std.proofs.Math.Dec.{eqb}
 use Rattle.std.proofs.lemmas.List.{get_or-set_other}
+use Rattle.pm_words.specs.Codes.{gone_status, live_status}
 use Rattle.pm_words.specs.Rows as rows
 use Rattle.std.specs.Prelude.{◌==◌, ◌||◌, nat_lt, slice_set, Option, Some, None, IfSome}
 use Rattle.std.proofs.lemmas.Bool.{lt-ltb, ltb-true, eq-eqb, eqb-true, ne_eqb, cases_eq, cond_both}
@@ -22,7 +23,7 @@ use Rattle.data_node.specs.Lists.{ListNode, next_offset, anchor_in, IsMember, Is
 use Rattle.call_stages.specs.declared.once.Once.{Once}
 use Rattle.call_stages.specs.declared.once.Placed.{Placed}
 use Rattle.call_stages.specs.Stages.{Gone, Stage, Idle, Saw, Wears, Reads, Holds, Eyes, Splits, Leaves, Meets, Joins}
-use Rattle.call_stages.specs.Kinds.{Step, gone_status, live_status, clock_address, word_address, status_address, prev_address}
+use Rattle.call_stages.specs.Kinds.{Step, clock_address, word_address, status_address, prev_address}
 use Rattle.call_stages.specs.Kinds as kinds
 use Rattle.index_law.specs.Facts.{Facts, IsListed}
 use Rattle.index_law.specs.Worlds.{Party, World, facts, moved_on, stepped, evicted_world}

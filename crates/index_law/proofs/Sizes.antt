@@ -4,11 +4,11 @@ use Rattle.std.proofs.lemmas.Bool.{cases_eq, eq-eqb, eqb-true, ne_eqb}
 use Rattle.std.proofs.lemmas.List.{length-map}
 use Rattle.std.specs.List.{AllByRecursion}
 use Rattle.cat_history.specs.declared.op.NameOp.TheVariants.{Put, Get, Del}
+use Rattle.pm_words.specs.Codes.{live_status, gone_status}
 use Rattle.data_node.specs.Spots.{Spot}
 use Rattle.data_node.specs.Lists.{ListNode, anchor_in, IsMember, IsChain, Rise}
 use Rattle.data_node.proofs.NameCounts.{one_if, tally}
 use Rattle.data_node.proofs.RangeNames.{range_names}
-use Rattle.call_stages.specs.Kinds.{live_status, gone_status}
 use Rattle.index_law.specs.Facts.{Facts, map_now, range_of, IsListed}
 use Rattle.index_law.specs.Worlds.{facts}
 use Rattle.index_law.specs.Anchors.{text_of_key, gone_nodes, NodesAreCounted}

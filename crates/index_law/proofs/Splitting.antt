@@ -2,13 +2,14 @@
 use Rattle.std.proofs.Common.{◌≡◌, ◌≢◌, ℕ, ◌<◌, Bool, true, false, cond, List, refl, sym, ap, ◌∙◌, subst, arith}
 use Rattle.std.specs.Prelude.{◌==◌, ◌||◌, ◌&&◌, nat_le, nat_lt, if◌then◌else◌, Option, None, Some, IfSome}
 use Rattle.std.proofs.lemmas.Bool.{ne_eqb, eq-eqb, leb-true, lt-ltb, le-ltb, leb-false}
+use Rattle.pm_words.specs.Codes.{live_status}
 use Rattle.pm_words.specs.declared.layout.Layout.{Layout}
 use Rattle.pm_words.specs.declared.action.Action.{Action}
 use Rattle.data_node.specs.Spots.{Spot, Means, updated, bitmap_offset}
 use Rattle.data_node.specs.Lists.{next_offset, key_of, anchor_in, StaysIn}
 use Rattle.data_node.proofs.SpotLemmas.{updated-same}
 use Rattle.call_stages.specs.Stages.{Grip, Tells, Phase, Filling, Linked, Parted, Stage}
-use Rattle.call_stages.specs.Kinds.{from_key, below_key, live_status, Split, fills, lights, switches, glances_left, glances_fresh, drains_left, drains_fresh, trims}
+use Rattle.call_stages.specs.Kinds.{from_key, below_key, Split, fills, lights, switches, glances_left, glances_fresh, drains_left, drains_fresh, trims}
 use Rattle.index_law.specs.Facts.{Facts, map_now, range_of, cached_word}
 use Rattle.index_law.specs.Lawful.{IsList, IsLinked, IsAtPhase, Sure}
 use Rattle.index_law.proofs.Moves.{split_after, SplitGave}

@@ -2,8 +2,8 @@
 use Rattle.std.proofs.Common.{◌≡◌, ◌≢◌, ℕ, ◌%◌, arith, Bool, true, false, List, [], ◌∷◌, refl, sym, ap, ◌∙◌, subst}
 use Rattle.std.specs.FinMap.{empty, get-empty}
 use Rattle.cat_key.specs.Names.{name_cmp}
-use Rattle.sound_image.specs.Sound.{with_slots}
-use Rattle.sound_image.proofs.MapLemmas.{slots_find, found_once}
+use Rattle.image_rules.specs.Sound.{with_slots}
+use Rattle.image_rules.proofs.MapLemmas.{slots_find, found_once}
 use Rattle.std.specs.Prelude.{not, ◌&&◌, slice_index, None}
 use Rattle.cat_key.specs.Names.{IsName}
 use Rattle.cat_history.specs.Maps.{Map, at}

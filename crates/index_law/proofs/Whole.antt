@@ -4,6 +4,7 @@ use Rattle.std.specs.Prelude.{slice_set, Option, Some, None, IfSome}
 use Rattle.std.proofs.lemmas.List.{set-get_or}
 use mathlib.Core.Option.{some}
 use lib.ListN.{get_elem?}
+use Rattle.pm_words.specs.Codes.{gone_status}
 use Rattle.pm_words.specs.declared.layout.Layout.{Layout}
 use Rattle.pm_words.specs.declared.action.Action.{Action}
 use Rattle.pm_words.specs.declared.action.Action.TheVariants.{Load}
@@ -15,7 +16,6 @@ use Rattle.cat_history.specs.declared.op.Write.{Write}
 use Rattle.data_node.specs.Spots.{Spot}
 use Rattle.data_node.specs.Lists.{ListNode, next_offset, IsIn}
 use Rattle.call_stages.specs.Stages.{Stage}
-use Rattle.call_stages.specs.Kinds.{gone_status}
 use Rattle.call_stages.specs.Lines.{HeldLine, line_address, Notes, passes_line, takes, looks_up, notes, keeps_safe}
 use Rattle.index_law.specs.Facts.{Facts, facts_of, spot_in, status_in, list_in, IsListed}
 use Rattle.index_law.specs.Worlds.{Party, facts}

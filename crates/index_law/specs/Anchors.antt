@@ -3,6 +3,7 @@ use Rattle.std.specs.Prelude.{◌≡◌, ◌≢◌, ℕ, zero, suc, ◌+◌, ◌
 use Rattle.std.specs.Prelude.{true, slice_get, List, [], ◌∷◌, map, length, Option, Some, IsSome}
 use mathlib.Core.Option.{some}
 use lib.ListN.{get_elem?}
+use Rattle.pm_words.specs.Codes.{gone_status}
 use Rattle.pm_words.specs.declared.layout.Layout.{Layout}
 use Rattle.pm_words.specs.declared.action.Action.{Action}
 use Rattle.pm_words.specs.Rows.{got}
@@ -13,11 +14,11 @@ use Rattle.shapes.specs.Members.{with_name, without_name}
 use Rattle.shapes.specs.Weights.{IsShape, weight}
 use Rattle.data_node.specs.Spots.{Means}
 use Rattle.data_node.specs.Lists.{ListNode}
-use Rattle.sound_image.specs.Nodes.{image_list}
+use Rattle.image_rules.specs.Nodes.{image_list}
 use Rattle.call_stages.specs.declared.once.Once.{Once}
 use Rattle.call_stages.specs.declared.once.Placed.{Placed}
 use Rattle.call_stages.specs.Stages.{Stage, Idle}
-use Rattle.call_stages.specs.Kinds.{Step, gone_status}
+use Rattle.call_stages.specs.Kinds.{Step}
 use Rattle.index_law.specs.Facts.{Facts, map_now, range_of, IsListed}
 use Rattle.index_law.specs.Worlds.{Party, World, facts, stepped}
 use Rattle.index_law.specs.Lawful.{Lawful, IsList, Each}

@@ -3,8 +3,8 @@ use Rattle.std.specs.Prelude.{◌≤◌, List, Contains}
 use Rattle.pm_words.specs.Rows.{durable_row}
 use Rattle.cat_history.specs.CrashEnds.{IsCrashEnd}
 use Rattle.cat_history.specs.declared.op.Change.{Change}
-use Rattle.sound_image.specs.Sound.{IsSound, IsMapOf, image_map}
-use Rattle.sound_image.specs.Weights.{image_weight}
+use Rattle.image_rules.specs.Sound.{IsSound, IsMapOf, image_map}
+use Rattle.image_rules.specs.Weights.{image_weight}
 use Rattle.index_law.specs.Facts.{map_now}
 use Rattle.index_law.specs.Worlds.{World, facts}
 use Rattle.index_law.specs.Lawful.{Lawful}

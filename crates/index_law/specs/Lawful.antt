@@ -3,6 +3,7 @@ use Rattle.std.specs.Prelude.{◌≡◌, ◌≢◌, ℕ, ◌/◌, ◌<◌, ◌�
 use Rattle.std.specs.Prelude.{slice_get, Option, Some, None, IfSome, IsSome}
 use mathlib.Core.Option.{some}
 use lib.ListN.{get_elem?}
+use Rattle.pm_words.specs.Codes.{free_status, live_status, gone_status}
 use Rattle.pm_words.specs.declared.layout.Layout.{Layout}
 use Rattle.pm_words.specs.Locations.{Cached, Durable}
 use Rattle.pm_words.specs.Rows.{IsRow}
@@ -17,7 +18,7 @@ use Rattle.cat_history.specs.declared.op.Write.{Write}
 use Rattle.data_node.specs.Spots.{Means}
 use Rattle.data_node.specs.Lists.{next_offset, key_of, anchor_in, MakeList, StaysIn}
 use Rattle.data_node.specs.Weights.{names_in}
-use Rattle.call_stages.specs.Kinds.{IsStill, clock_address, free_status, live_status, gone_status, from_key}
+use Rattle.call_stages.specs.Kinds.{IsStill, clock_address, from_key}
 use Rattle.call_stages.specs.Stages.{Knows, Held, Sight, Sees, Grip, Tells, Phase, Filling, Linked, Parted, Pace}
 use Rattle.call_stages.specs.Stages.{Gathered, Joined, Gone, Stage, Idle, Saw, Wears, Reads, Holds, Eyes, Splits, Leaves}
 use Rattle.call_stages.specs.Stages.{Meets, Joins, HoldsNode, AreCopies, pended}

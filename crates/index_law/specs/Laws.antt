@@ -4,6 +4,7 @@ use Rattle.std.specs.Prelude.{None, IfSome, Contains}
 use Rattle.std.specs.FinMap.{empty, len}
 use mathlib.Core.Option.{some}
 use lib.ListN.{get_elem?}
+use Rattle.pm_words.specs.Codes.{live_status}
 use Rattle.pm_words.specs.declared.layout.Layout.{Layout}
 use Rattle.pm_words.specs.declared.action.Action.{Action}
 use Rattle.pm_words.specs.declared.action.Action.TheVariants.{Load, Store, Exchange, Add, Drain}
@@ -29,7 +30,7 @@ use Rattle.call_stages.specs.declared.once.Placed.{Placed}
 use Rattle.call_stages.specs.Stages.{Held, Sight, Grip, Phase, Linked, Pace, Joined, Stage, Idle, Saw, Wears, Reads, Holds, Eyes}
 use Rattle.call_stages.specs.Stages.{Splits, Leaves, Meets, Joins, counted, pending_in, pended}
 use Rattle.call_stages.specs.Kinds.{IsRefusal, Step, Told, LeadsWithin, HasWordAt, clock_address, word_address}
-use Rattle.call_stages.specs.Kinds.{version_address, status_address, prev_address, live_status}
+use Rattle.call_stages.specs.Kinds.{version_address, status_address, prev_address}
 use Rattle.index_law.specs.Facts.{Facts, map_now, range_of, durable_spot, IsListed}
 use Rattle.index_law.specs.Twins.{AreDurablyKnown, IsFront}
 use Rattle.index_law.specs.Worlds.{Party, World, facts, stepped, started, joined, evicted_world}

@@ -11,6 +11,7 @@ use Rattle.cat_history.specs.declared.op.Write.{Write}
 use Rattle.cat_history.specs.declared.op.Change.TheVariants.{Del as Deletes}
 use Rattle.cat_history.specs.declared.op.NameOp.{NameOp}
 use Rattle.cat_history.specs.declared.op.NameOp.TheVariants.{Put, Get, Del}
+use Rattle.pm_words.specs.Codes.{free_status, gone_status}
 use Rattle.pm_words.specs.declared.layout.Layout.{Layout}
 use Rattle.shapes.specs.Anchors.{Anchors, AreAnchors, names_between, past, target_of, next_of, IsFullPut, splits}
 use Rattle.shapes.specs.Anchors.{put_anchors, merges, del_anchors}
@@ -23,7 +24,7 @@ use Rattle.pm_words.specs.Rows.{got}
 use Rattle.call_stages.specs.declared.once.Once.{Once}
 use Rattle.call_stages.specs.declared.once.Placed.{Placed}
 use Rattle.call_stages.specs.Stages.{Held, Grip, Pace, Gathered, Joined, Gone, Stage, Idle, Holds, Eyes, Meets, Joins}
-use Rattle.call_stages.specs.Kinds.{Step, free_status, gone_status}
+use Rattle.call_stages.specs.Kinds.{Step}
 use Rattle.data_node.specs.Slots.{AreAllLive}
 use Rattle.data_node.specs.Spots.{Spot, Means, bitmap_offset}
 use Rattle.data_node.specs.Lists.{next_offset}

@@ -4,6 +4,7 @@ use Rattle.std.specs.Prelude.{◌≡◌, ◌≢◌, ℕ, zero, suc, ◌<◌, ◌
 use Rattle.std.specs.Prelude.{length, slice_set, Option, Some, IfSome}
 use mathlib.Core.Option.{some}
 use lib.ListN.{get_elem?}
+use Rattle.pm_words.specs.Codes.{gone_status}
 use Rattle.pm_words.specs.declared.layout.Layout.{Layout}
 use Rattle.pm_words.specs.declared.action.Action.{Action}
 use Rattle.pm_words.specs.declared.action.Action.TheVariants.{Load}
@@ -13,7 +14,7 @@ use Rattle.data_node.specs.Lists.{next_offset}
 use Rattle.call_stages.specs.declared.once.Once.{Once}
 use Rattle.call_stages.specs.declared.once.Placed.{Placed}
 use Rattle.call_stages.specs.Stages.{Stage, Idle}
-use Rattle.call_stages.specs.Kinds.{Step, gone_status, prev_address}
+use Rattle.call_stages.specs.Kinds.{Step, prev_address}
 use Rattle.call_stages.specs.Prevs.{Debt, no_debt, Deals, Prevs}
 use Rattle.call_stages.specs.Orders.{AreInOrder}
 use Rattle.index_law.specs.Facts.{Facts, IsListed}

@@ -5,7 +5,7 @@ use Rattle.pm_words.specs.Locations.{Word, Header, Root, Location, at}
 use Rattle.version_lock.specs.Versions.{generation_of, IsFree}
 use Rattle.data_node.specs.Spots.{Spot, Means, bitmap_offset}
 use Rattle.data_node.specs.Lists.{next_offset}
-use Rattle.sound_image.specs.Rules.{IsSpare}
+use Rattle.image_rules.specs.Rules.{IsSpare}
 use Rattle.call_stages.specs.Stages.{Held, Grip, Phase, Filling, Linked, Parted, Pace, Gathered, Joined, Gone, Stage}
 use Rattle.call_stages.specs.Stages.{Idle, Saw, Wears, Reads, Holds, Eyes, Splits, Leaves, Meets, Joins, IsAmong, pended}
 use Rattle.index_law.specs.Facts.{Facts, map_now, range_of, durable_spot, durable_version}

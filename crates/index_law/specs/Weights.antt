@@ -3,6 +3,7 @@ use Rattle.std.specs.Prelude.{◌≡◌, ℕ, zero, suc, ◌+◌, ◌≤◌, ◌
 use Rattle.std.specs.Prelude.{Some, None}
 use mathlib.Core.Option.{some}
 use lib.ListN.{get_elem?}
+use Rattle.pm_words.specs.Codes.{gone_status}
 use Rattle.pm_words.specs.declared.layout.Layout.{Layout}
 use Rattle.pm_words.specs.declared.action.Action.{Action}
 use Rattle.pm_words.specs.declared.action.Action.TheVariants.{Store}
@@ -15,7 +16,7 @@ use Rattle.call_stages.specs.declared.once.Placed.{Placed}
 use Rattle.call_stages.specs.Stages.{Held, Pace, Gathered, Joined, Gone, Stage, Idle, Saw, Wears, Reads, Holds, Eyes, Splits}
 use Rattle.call_stages.specs.Stages.{Leaves, Meets, Joins}
 use Rattle.data_node.specs.Spots.{bitmap_offset}
-use Rattle.call_stages.specs.Kinds.{Step, gone_status, word_address}
+use Rattle.call_stages.specs.Kinds.{Step, word_address}
 use Rattle.index_law.specs.Facts.{Facts, range_of, durable_spot}
 use Rattle.index_law.specs.Laws.{durable_list}
 use Rattle.index_law.specs.Worlds.{Party, World, facts, stepped, started, joined, evicted_world}

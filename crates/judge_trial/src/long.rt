@@ -1,7 +1,7 @@
 //! A long round, made by a plain map, and how long it takes to judge it.
 
 use anyhow::{Result, anyhow};
-use cat_history::{Listed, Op, Parts, Record, Records, Reply, ScanPart};
+use cat_history::{Items, Op, Parts, Record, Records, Reply, ScanPart};
 use cat_key::{Name, Pair};
 use std::alloc::{AllocGlobal, Global};
 use std::collections::BTreeMap;
@@ -79,9 +79,9 @@ impl Playing {
             low,
             high: None,
             place: self.place,
-            pairs: Listed::of(pairs),
+            pairs: Items::of(pairs),
         })?;
-        Ok(Listed::of(parts))
+        Ok(Items::of(parts))
     }
 
     /// A write's answer, at the next place.
@@ -161,21 +161,21 @@ fn long_round(alloc: Global, calls: u64) -> Result<LongRound> {
         ..
     } = played(alloc, calls)?;
     Ok(LongRound {
-        asked: Listed::of(asked),
-        told: Listed::of(told),
+        asked: Items::of(asked),
+        told: Items::of(told),
         end: RoundEnd {
             crashed: false,
             limit: 1 << 62,
             writes: place,
             names: names.len() as u64,
-            budgets: Listed::of(Vec::new(alloc)),
+            budgets: Items::of(Vec::new(alloc)),
         },
     })
 }
 
 /// Judges a round, which has to be legal, and tells how many names it leaves.
 fn names_left(alloc: Global, round: &LongRound) -> Result<usize> {
-    let base = Listed::of(Vec::new(alloc));
+    let base = Items::of(Vec::new(alloc));
     match judge(alloc, base, &round.asked, &round.told, &round.end) {
         Ok(pairs) => Ok(pairs.as_slice().len()),
         Err(fault) => Err(anyhow!("{fault:?}")),

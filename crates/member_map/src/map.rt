@@ -6,7 +6,7 @@ ghost use Rattle.std.specs.FinMap.{empty};
 use crate::bounds::next_bound;
 use crate::pairs::insert_pair;
 use crate::targets::{first_in_target, merge_target, split_target};
-use cat_history::{Listed, NoMemory, number_in, position_of};
+use cat_history::{Items, NoMemory, number_in, position_of};
 use cat_key::{Name, Pair};
 use shapes::{Full, MapPart, NameMap};
 use std::alloc::Global;
@@ -100,7 +100,7 @@ impl NameMap for MemberMap {
         let listed = first_in_target(alloc, &self.pairs, &self.bounds, low, count)?;
         Ok(MapPart {
             high: next_bound(&self.bounds, low),
-            pairs: Listed::of(listed),
+            pairs: Items::of(listed),
         })
     }
 

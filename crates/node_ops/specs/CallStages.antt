@@ -2,7 +2,7 @@
 use Rattle.std.specs.Prelude.{ℕ, zero, suc, ◌+◌, ◌-◌, List, [], ◌∷◌, ◌++◌, take, slice_index, Bool, true, false, Option, Some, None}
 use Rattle.std.specs.Prelude.{◌==◌, if◌then◌else◌}
 use Rattle.std.specs.Int.{bit_at}
-use Rattle.pm_words.specs.declared.TheConstants.{LINE}
+use Rattle.pm_words.specs.declared.TheConstants.{LINE_WORDS}
 use Rattle.pm_words.specs.declared.machine.Turn.{Turn}
 use Rattle.pm_words.specs.declared.machine.Turn.TheVariants.{Go, Done}
 use Rattle.pm_words.specs.declared.layout.Layout.{Layout}
@@ -145,7 +145,7 @@ has_place call old place = record {
 
 -- the words that a fence of this line has still to make durable: the rest of it
 abbrev pub fence_rest : ℕ → Fence → ℕ × ℕ
-fence_rest line fence = (line + fence.word, LINE - fence.word)
+fence_rest line fence = (line + fence.word, LINE_WORDS - fence.word)
 
 -- the word that it has loaded to make it durable
 abbrev pub fence_hand : ℕ → Fence → Option (ℕ × ℕ)

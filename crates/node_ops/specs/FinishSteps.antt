@@ -1,6 +1,6 @@
 -- The end of a write whose store is made, step by step.
 use Rattle.std.specs.Prelude.{ℕ, ◌+◌, ◌≤◌, Option, Some, None}
-use Rattle.pm_words.specs.declared.TheConstants.{LINE}
+use Rattle.pm_words.specs.declared.TheConstants.{LINE_WORDS}
 use Rattle.pm_words.specs.Locations.{node_words}
 use Rattle.pm_words.specs.declared.action.Action.{Action}
 use Rattle.pm_words.specs.declared.action.Action.TheVariants.{Store, Add}
@@ -45,7 +45,7 @@ abbrev pub finish_turned : Finish → ℕ → Turn Finish (Once Placed)
 finish_turned finish got = finish_at_turned finish finish.at got
 
 abbrev pub IsFinishAt : Call → FinishAt → Type 0
-IsFinishAt call (at.Fence line fence) = (line + LINE ≤ node_words call.view.layout) × IsFence fence
+IsFinishAt call (at.Fence line fence) = (line + LINE_WORDS ≤ node_words call.view.layout) × IsFence fence
 IsFinishAt call at.Add = Unit {0}
 IsFinishAt call (at.Unlock place) = Unit {0}
 

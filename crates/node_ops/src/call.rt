@@ -8,9 +8,6 @@ use call_stages::View;
 use cat_key::{Name, WORDS};
 use pm_words::offsets::node;
 
-/// The address of the clock, the first word of a row.
-pub(crate) const CLOCK: u64 = 0;
-
 /// What a call has: the node that it works on and how many hops its walk made to it, which stay the same once it is
 /// there, the words and the fingerprint of its name, and the limit that the clock has to be below, if there is one.
 #[derive(Clone, Copy)]

@@ -149,7 +149,7 @@ impl Machine for Del {
 
 impl Del {
     ghost use Rattle.pm_words.specs.Turns.{GoesBelow};
-    ghost use Rattle.data_list.specs.Advances.{AdvancesTo};
+    ghost use Rattle.pm_words.specs.Turns.{AdvancesTo};
     ghost use Rattle.node_ops.specs.DelSteps.{del_left, del_takes, del_turned};
 
     /// Tells it in place the number that its action gave. It goes on, or is done where there is an answer.
@@ -182,7 +182,7 @@ impl Del {
 }
 
 ghost use Rattle.pm_words.specs.Turns.{GoesBelow};
-ghost use Rattle.data_list.specs.Advances.{AdvancesTo};
+ghost use Rattle.pm_words.specs.Turns.{AdvancesTo};
 ghost use Rattle.split_merge.specs.Merges.{merge_takes, merge_turned, merge_left};
 
 /// Tells a merge in place the number that its action gave.

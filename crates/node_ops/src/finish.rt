@@ -3,11 +3,12 @@
 
 ghost use Rattle.std.specs.Prelude.{◌≡◌, ℕ};
 
-use crate::call::{CLOCK, Call};
+use crate::call::Call;
 use crate::lookup::Hold;
 use call_stages::{Once, Placed};
 use cat_history::{Change, NameOp};
 use pm_words::offsets::node;
+use pm_words::offsets::shared::CLOCK;
 use pm_words::{Action, Fence, Machine, Turn};
 use version_lock::freed_of;
 
@@ -69,7 +70,7 @@ impl Machine for Finish {
 impl Finish {
     ghost use Rattle.std.specs.Prelude.{◌≡◌};
     ghost use Rattle.pm_words.specs.Turns.{GoesBelow};
-    ghost use Rattle.data_list.specs.Advances.{AdvancesTo};
+    ghost use Rattle.pm_words.specs.Turns.{AdvancesTo};
     ghost use Rattle.call_stages.specs.Stages.{counted, placed_in};
     ghost use Rattle.node_ops.specs.Calls.{IsCall, name_in};
     ghost use Rattle.node_ops.specs.FinishSteps.{IsFinish, finish_takes, finish_turned, finish_left};

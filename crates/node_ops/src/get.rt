@@ -92,7 +92,7 @@ impl Machine for Get {
 impl Get {
     ghost use Rattle.std.specs.Prelude.{◌≡◌};
     ghost use Rattle.pm_words.specs.Turns.{GoesBelow};
-    ghost use Rattle.data_list.specs.Advances.{AdvancesTo};
+    ghost use Rattle.pm_words.specs.Turns.{AdvancesTo};
     ghost use Rattle.node_ops.specs.LookupSteps.{lookup_turned};
     ghost use Rattle.node_ops.specs.GetSteps.{get_left, get_looked, get_takes, get_turned};
 

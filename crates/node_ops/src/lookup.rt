@@ -16,12 +16,13 @@
 
 ghost use Rattle.std.specs.Prelude.{◌≡◌, ℕ};
 
-use crate::call::{CLOCK, Call, slot_word};
+use crate::call::{Call, slot_word};
 use call_stages::{Once, Placed};
 use cat_key::WORDS;
 use data_list::{Sighting, Target, Walk, Walked};
 use data_node::{PRINT_WORDS, candidates, lowest_live, without_live};
 use pm_words::offsets::node;
+use pm_words::offsets::shared::CLOCK;
 use pm_words::{Action, Again, Machine, Turn};
 use search_layer::Floor;
 use version_lock::{freed_of, locked_of};
@@ -186,7 +187,7 @@ impl Lookup {
     ghost use Rattle.pm_words.specs.Turns.{GoesBelow};
     ghost use Rattle.pm_words.specs.Layouts.{IsLayout};
     ghost use Rattle.pm_words.specs.declared.machine.Turn.TheVariants.{Done};
-    ghost use Rattle.data_list.specs.Advances.{AdvancesTo};
+    ghost use Rattle.pm_words.specs.Turns.{AdvancesTo};
     ghost use Rattle.data_node.specs.Bits.{without_live};
     ghost use Rattle.data_node.specs.Slots.{IsLive};
     ghost use Rattle.data_list.specs.Walks.{walk_turned};

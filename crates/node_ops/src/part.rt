@@ -16,10 +16,7 @@ use cat_key::{Name, WORDS};
 use data_list::Next;
 use data_node::{Order, is_below, is_live, sort_order};
 use pm_words::offsets::node;
-use pm_words::{Action, Again, Machine, Turn};
-
-/// How many words stand in a slot: those of a name, and its number.
-const SLOT_WORDS: u64 = WORDS as u64 + 1;
+use pm_words::{Action, Again, Machine, SLOT_WORDS, Turn};
 
 /// What a part tells: the first names of its node from its low name on, as they were at its place.
 #[derive(Clone, Copy)]
@@ -252,7 +249,7 @@ impl Machine for Part {
 impl Part {
     ghost use Rattle.std.specs.Prelude.{◌≡◌, ◌<◌};
     ghost use Rattle.pm_words.specs.Turns.{GoesBelow};
-    ghost use Rattle.data_list.specs.Advances.{AdvancesTo};
+    ghost use Rattle.pm_words.specs.Turns.{AdvancesTo};
     ghost use Rattle.node_ops.specs.PartSteps.{part_left, part_takes, part_turned};
 
     /// Tells it in place the number that its action gave. It goes on, or is done where there is an answer.

@@ -163,7 +163,7 @@ impl Machine for Put {
 
 impl Put {
     ghost use Rattle.pm_words.specs.Turns.{GoesBelow};
-    ghost use Rattle.data_list.specs.Advances.{AdvancesTo};
+    ghost use Rattle.pm_words.specs.Turns.{AdvancesTo};
     ghost use Rattle.node_ops.specs.PutSteps.{put_left, put_takes, put_turned};
 
     /// Tells it in place the number that its action gave. It goes on, or is done where there is an answer.

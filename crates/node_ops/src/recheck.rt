@@ -6,9 +6,9 @@
 
 ghost use Rattle.std.specs.Prelude.{◌≡◌, ◌<◌};
 
-use crate::call::CLOCK;
 use call_stages::{Once, View};
 use pm_words::offsets::node;
+use pm_words::offsets::shared::CLOCK;
 use pm_words::{Action, Again, Machine, Turn};
 
 /// What was told of a node, with its version word, is the same at this place.

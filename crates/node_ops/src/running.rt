@@ -57,7 +57,7 @@ impl Running {
     ghost use Rattle.std.specs.Prelude.{◌≡◌, ◌↔◌, IsSome, IsTrue};
     ghost use Rattle.call_stages.specs.Stages.{counted, placed_in};
     ghost use Rattle.pm_words.specs.Turns.{GoesBelow};
-    ghost use Rattle.data_list.specs.Advances.{AdvancesTo};
+    ghost use Rattle.pm_words.specs.Turns.{AdvancesTo};
     ghost use Rattle.node_ops.specs.PartSteps.{part_left, part_takes, part_turned};
     ghost use Rattle.node_ops.specs.RunningSteps.{IsRunning, running_call, running_left, running_takes, running_turned};
     ghost use Rattle.node_ops.specs.RunningSteps.{count_in, listed_in, wrapped_part};

@@ -33,10 +33,10 @@ use Rattle.call_stages.specs.Stages.{Stage}
 use Rattle.call_stages.specs.Stages.Stage.{Idle, Saw, Wears, Reads, Holds, Eyes, Splits, Leaves, Meets, Joins}
 use Rattle.node_ops.specs.Asked.{op_in}
 use Rattle.node_ops.specs.CallStages.{stage_of}
-use Rattle.sound_image.specs.Rules.{header_generation}
-use Rattle.sound_image.specs.Sound.{IsMapOf}
-use Rattle.sound_image.specs.Weights.{image_weight}
-use Rattle.sound_layer.specs.Sound.{IsSoundByAll}
+use Rattle.image_rules.specs.Rules.{header_generation}
+use Rattle.image_rules.specs.Sound.{IsMapOf}
+use Rattle.image_rules.specs.Weights.{image_weight}
+use Rattle.image_layer_rules.specs.Sound.{IsSoundByAll}
 use Rattle.pac_index.specs.declared.caller.CutCall.{CutCall}
 use Rattle.pac_index.specs.declared.crashing.Crashed.{Crashed}
 use Rattle.pac_index.specs.Callers.{HasCallers, TellsCut, added_by_all, seen_by}

@@ -17,7 +17,7 @@ use Rattle.updater.specs.Makings.{making_turned, worked}
 use Rattle.updater.specs.Takings.{untaken}
 use Rattle.updater.specs.Works.{work_from, work_left, work_turned}
 use Rattle.epochs.specs.Kept.{first_epoch}
-use Rattle.data_list.specs.Advances.{turn_of}
+use Rattle.pm_words.specs.Turns.{turn_of}
 use Rattle.index_core.specs.PartyStates.{state_turned}
 use Rattle.index_core.specs.declared.party.PartyState.{PartyState}
 use Rattle.pac_index.specs.declared.rule.About.{About}

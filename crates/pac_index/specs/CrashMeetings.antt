@@ -14,10 +14,10 @@ use Rattle.cat_history.specs.declared.op.Write.{Write}
 use Rattle.pm_words.specs.Images.{Row}
 use Rattle.pm_words.specs.Locations.{image_words}
 use Rattle.pm_words.specs.Rows.{durable_row}
-use Rattle.sound_image.specs.Rules.{header_generation}
-use Rattle.sound_image.specs.Sound.{IsMapOf}
-use Rattle.sound_image.specs.Weights.{image_weight}
-use Rattle.sound_layer.specs.Sound.{IsSoundByAll}
+use Rattle.image_rules.specs.Rules.{header_generation}
+use Rattle.image_rules.specs.Sound.{IsMapOf}
+use Rattle.image_rules.specs.Weights.{image_weight}
+use Rattle.image_layer_rules.specs.Sound.{IsSoundByAll}
 use Rattle.index_core.specs.CoreCalls.{op_of}
 use Rattle.index_core.specs.CrashLaws.{evicted_by}
 use Rattle.index_core.specs.Crashes.{unplaced}

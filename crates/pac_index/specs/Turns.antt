@@ -5,12 +5,12 @@ use Rattle.epochs.specs.declared.answers.Advance.{Advance}
 use Rattle.epochs.specs.declared.rule.PinMember.{PinMember}
 use Rattle.epochs.specs.Answers.{HasAdvanced, IsRefused, IsReleased}
 use Rattle.epochs.specs.Kept.{first_epoch}
+use Rattle.pm_words.specs.Codes.{free_status}
 use Rattle.pm_words.specs.declared.layout.Layout.{Layout}
 use Rattle.pm_words.specs.declared.machine.Turn.{Turn}
 use Rattle.pm_words.specs.declared.machine.Turn.TheVariants.{Go, Done}
 use Rattle.pm_words.specs.Locations.{row_words}
 use Rattle.pm_words.specs.Rows.{given, action_address}
-use Rattle.call_stages.specs.Kinds.{free_status}
 use Rattle.updater.specs.declared.making.MakeTurn.{MakeTurn}
 use Rattle.updater.specs.declared.making.MakeTurn.TheVariants.{Taking, Working}
 use Rattle.updater.specs.declared.making.TurnReply.{TurnReply}
@@ -20,7 +20,7 @@ use Rattle.updater.specs.Takings.{untaken}
 use Rattle.updater.specs.Makings.{IsMaking, making_from, making_asks, making_turned, making_takes, making_left, worked}
 use Rattle.updater.specs.Works.{work_from, work_turned}
 use Rattle.updater.specs.declared.work.Work.{Work}
-use Rattle.data_list.specs.Advances.{AdvancesTo, turn_of}
+use Rattle.pm_words.specs.Turns.{AdvancesTo, turn_of}
 use Rattle.index_core.specs.PartyStates.{state_turned}
 use Rattle.atomic_table.specs.Table.{Me}
 use Rattle.pac_index.specs.declared.rule.Member.{Member}

@@ -1,7 +1,7 @@
 //! What the table keeps, and what one step tells.
 
 use atomic_table::{Join, Play, Split, TableRule};
-use cat_history::{Listed, Write};
+use cat_history::{Items, Write};
 use cat_key::{Name, Pair};
 use index_core::{CoreCall, PartyState};
 use node_ops::PartWords;
@@ -15,7 +15,7 @@ use std::marker::{Brand, PhantomData};
 pub struct About {
     pub layout: Layout,
     pub generation: u64,
-    pub base: Listed<Pair>,
+    pub base: Items<Pair>,
     pub opened: Memory,
 }
 
@@ -34,12 +34,12 @@ pub struct AnsweredPart {
 pub struct Member {
     pub about: About,
     pub state: PartyState,
-    pub seen: Listed<Write>,
-    pub told: Listed<u64>,
+    pub seen: Items<Write>,
+    pub told: Items<u64>,
     pub taken: u64,
     pub added: u64,
     pub none_free: bool,
-    pub known: Listed<AnsweredPart>,
+    pub known: Items<AnsweredPart>,
 }
 
 /// What a seat knows: its parties.

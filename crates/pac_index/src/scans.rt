@@ -11,7 +11,7 @@ use crate::caller::Caller;
 use crate::ended::Ended;
 use crate::gate::{Gate, OpenGate, Pace};
 use crate::shared::Shared;
-use cat_history::{Listed, Parts, ScanPart};
+use cat_history::{Items, Parts, ScanPart};
 use cat_key::Name;
 use index_core::listed_pairs;
 use pm_words::NoMemory;
@@ -117,14 +117,14 @@ impl Shared {
         while let Some(low) = next {
             let read = self.read_part(rt, alloc, caller, low, left, pace)?;
             let Some(part) = read else {
-                return Ok(Scanned::Cut(Listed::of(parts)));
+                return Ok(Scanned::Cut(Items::of(parts)));
             };
             left -= part.pairs.as_slice().len() as u64;
             let high = part.high;
             parts.push(part)?;
             next = if left > 0 { high } else { None };
         }
-        Ok(Scanned::Done(Listed::of(parts)))
+        Ok(Scanned::Done(Items::of(parts)))
     }
 
     /// The part of a scan that begins at this name, with so many names left, unless it was cut off.
@@ -160,7 +160,7 @@ impl Shared {
             low,
             high: words.high,
             place: words.place,
-            pairs: Listed::of(listed_pairs(alloc, &words)?),
+            pairs: Items::of(listed_pairs(alloc, &words)?),
         }))
     }
 }

@@ -2,7 +2,7 @@ ghost use Rattle.std.specs.Prelude.{◌≡◌, ◌≢◌, ◌+◌, ◌<◌, ◌^
 ghost use Rattle.pm_words.specs.Layouts.{IsLayout};
 ghost use Rattle.pm_words.specs.Locations.{row_words};
 ghost use Rattle.version_lock.specs.declared.TheConstants.{GENERATION_LIMIT};
-ghost use Rattle.data_list.specs.Advances.{turn_of};
+ghost use Rattle.pm_words.specs.Turns.{turn_of};
 ghost use Rattle.call_stages.specs.Views.{IsView};
 ghost use Rattle.node_ops.specs.Asked.{IsOf};
 ghost use Rattle.node_ops.specs.RunningSteps.{IsRunning, listed_in};

@@ -23,11 +23,9 @@ use crate::tried::TriedTurn;
 use atomic_table::Seat;
 use epochs::{Advance, EpochSeat};
 use pm_words::Machine;
+use pm_words::codes::updater_lock::UNTAKEN;
 use std::marker::Brand;
 use updater::{TakeTurn, Turned, Work};
-
-/// The word of the updater lock while no party has it.
-pub(crate) const UNTAKEN: u64 = 0;
 
 impl Shared {
     /// One try of a turn of the updater, beside the calls of the others: it takes the READY log lines to the search layer

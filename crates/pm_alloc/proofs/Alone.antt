@@ -1,11 +1,11 @@
 -- What becomes of a row of words as a node is retired or released.
 use Rattle.std.proofs.Common.{◌≡◌, ◌≢◌, ℕ, ◌<◌, List, length, refl, sym, ap, ◌∙◌, arith}
 use Rattle.std.proofs.lemmas.List.{length-set}
+use Rattle.pm_words.specs.Codes.{free_status, gone_status}
 use Rattle.pm_words.specs.declared.layout.Layout.{Layout}
 use Rattle.pm_words.specs.Locations.{Location, Volatile, HasLocation, row_words, address_of, at}
 use Rattle.pm_words.specs.Rows.{acted}
 use Rattle.pm_words.proofs.Apart.{at-set_same, at-set_other}
-use Rattle.call_stages.specs.Kinds.{free_status, gone_status}
 use Rattle.pm_alloc.specs.declared.gone.ReleaseAt.TheVariants.{Stamp}
 use Rattle.pm_alloc.specs.Gone.{no_stamp, release_at_asks, RetiresAlone, ReleasesAlone}
 

@@ -1,6 +1,7 @@
 -- Each turn of a claim is a step, and its answer follows from what it was told.
 use Rattle.std.proofs.Common.{◌≡◌, ◌≢◌, ℕ, ◌+◌, ◌<◌, ◌≤◌, ◌==◌, Bool, true, false, cond, ltb, [], Some, None, refl, sym, ◌∙◌, subst, ap, arith}
 use Rattle.std.proofs.lemmas.Bool.{eqb-true, eqb-false, ltb-true, ltb-false}
+use Rattle.pm_words.specs.Codes.{free_status}
 use Rattle.pm_words.specs.declared.layout.Layout.{Layout}
 use Rattle.pm_words.specs.declared.action.Action.{Action}
 use Rattle.pm_words.specs.declared.action.Action.TheVariants.{Load, Exchange}
@@ -9,7 +10,7 @@ use Rattle.pm_words.specs.declared.machine.Turn.{Turn}
 use Rattle.pm_words.specs.declared.machine.Turn.TheVariants.{Go, Done}
 use Rattle.version_lock.specs.Versions.{generation_of, IsFree, IsWorn, is_free_word, is_worn_word}
 use Rattle.call_stages.specs.Stages.{Held, Stage, Holds, Eyes, just_held}
-use Rattle.call_stages.specs.Kinds.{version_address, status_address, free_status, Told, Look, peeks, peeks_status, eyes, eyes_free, passes as passes_by, loses, claims}
+use Rattle.call_stages.specs.Kinds.{version_address, status_address, Told, Look, peeks, peeks_status, eyes, eyes_free, passes as passes_by, loses, claims}
 use Rattle.version_lock.proofs.WordTests.{free_word, taken_word, worn_word, fresh_word}
 use Rattle.pm_alloc.specs.declared.claim.Claimed.{Claimed}
 use Rattle.pm_alloc.specs.declared.claim.Claimed.TheVariants as claimed

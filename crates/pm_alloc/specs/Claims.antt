@@ -1,5 +1,6 @@
 -- The claim of a free node, step by step.
 use Rattle.std.specs.Prelude.{◌≡◌, ◌≢◌, ℕ, ◌+◌, ◌-◌, ◌*◌, ◌<◌, ◌≤◌, ◌==◌, nat_lt, if◌then◌else◌}
+use Rattle.pm_words.specs.Codes.{free_status}
 use Rattle.pm_words.specs.declared.layout.Layout.{Layout}
 use Rattle.pm_words.specs.declared.action.Action.{Action}
 use Rattle.pm_words.specs.declared.action.Action.TheVariants.{Load, Exchange}
@@ -10,7 +11,7 @@ use Rattle.pm_words.specs.Layouts.{IsLayout}
 use Rattle.version_lock.specs.declared.TheConstants.{GENERATION_LIMIT}
 use Rattle.version_lock.specs.Versions.{generation_of, kept_count, locked_word, IsFree, IsWorn, is_free_word}
 use Rattle.version_lock.specs.Versions.{is_worn_word}
-use Rattle.call_stages.specs.Kinds.{version_address, status_address, free_status, Told}
+use Rattle.call_stages.specs.Kinds.{version_address, status_address, Told}
 use Rattle.pm_alloc.specs.declared.claim.Claimed.{Claimed}
 use Rattle.pm_alloc.specs.declared.claim.Claimed.TheVariants as claimed
 use Rattle.pm_alloc.specs.declared.claim.Claim.{Claim}

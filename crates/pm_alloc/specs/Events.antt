@@ -1,12 +1,13 @@
 -- What a claim answers, by the words that it was told.
 use Rattle.std.specs.Prelude.{◌≡◌, ◌≢◌, ℕ, ◌<◌, ◌≤◌, List}
+use Rattle.pm_words.specs.Codes.{free_status}
 use Rattle.pm_words.specs.declared.layout.Layout.{Layout}
 use Rattle.pm_words.specs.declared.again.Again.TheVariants as again
 use Rattle.pm_words.specs.declared.machine.Turn.{Turn}
 use Rattle.pm_words.specs.declared.machine.Turn.TheVariants.{Go, Done}
 use Rattle.pm_words.specs.Locations.{Node, Volatile, Cached, at}
 use Rattle.version_lock.specs.Versions.{IsFree, IsWorn}
-use Rattle.call_stages.specs.Kinds.{free_status, Told}
+use Rattle.call_stages.specs.Kinds.{Told}
 use Rattle.pm_alloc.specs.declared.claim.Claimed.{Claimed}
 use Rattle.pm_alloc.specs.declared.claim.Claimed.TheVariants as claimed
 use Rattle.pm_alloc.specs.declared.claim.Claim.{Claim}

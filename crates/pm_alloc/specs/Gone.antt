@@ -1,5 +1,6 @@
 -- The end of a merged node, and its way back, step by step.
 use Rattle.std.specs.Prelude.{◌≡◌, ◌≢◌, ℕ, ◌<◌, List}
+use Rattle.pm_words.specs.Codes.{free_status, gone_status}
 use Rattle.pm_words.specs.declared.layout.Layout.{Layout}
 use Rattle.pm_words.specs.declared.action.Action.{Action}
 use Rattle.pm_words.specs.declared.action.Action.TheVariants.{Store}
@@ -8,7 +9,7 @@ use Rattle.pm_words.specs.declared.machine.Turn.TheVariants.{Go, Done}
 use Rattle.pm_words.specs.Layouts.{IsLayout}
 use Rattle.pm_words.specs.Locations.{Location, Volatile, HasLocation, address_of, at}
 use Rattle.pm_words.specs.Rows.{IsRow, acted}
-use Rattle.call_stages.specs.Kinds.{status_address, free_status, gone_status}
+use Rattle.call_stages.specs.Kinds.{status_address}
 use Rattle.pm_alloc.specs.declared.gone.Retire.{Retire}
 use Rattle.pm_alloc.specs.declared.gone.Release.{Release}
 use Rattle.pm_alloc.specs.declared.gone.ReleaseAt.{ReleaseAt}

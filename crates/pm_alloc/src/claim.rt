@@ -1,4 +1,4 @@
-use crate::gone::FREE;
+use pm_words::codes::status::FREE;
 use pm_words::offsets::{node, volatile};
 use pm_words::{Action, Again, Layout, Machine, Turn};
 use version_lock::{is_free, locked_of};

@@ -1,13 +1,8 @@
 //! The end of a merged node, and its way back.
 
+use pm_words::codes::status::{FREE, GONE};
 use pm_words::offsets::volatile;
 use pm_words::{Action, Layout, Machine, Turn};
-
-/// The status of a node that is not in use.
-pub(crate) const FREE: u64 = 0;
-
-/// The status of a node that was merged into another.
-const GONE: u64 = 2;
 
 /// The stamp of a node that has none.
 const NO_STAMP: u64 = 0;

@@ -1,4 +1,5 @@
 pub mod Bytes
+pub mod Codes
 pub mod Fences
 pub mod Images
 pub mod Laws

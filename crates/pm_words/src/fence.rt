@@ -4,7 +4,7 @@
 ghost use Rattle.std.specs.Prelude.{◌≡◌, ◌<◌};
 ghost use Rattle.pm_words.specs.Fences.{line_of};
 
-use crate::LINE;
+use crate::LINE_WORDS;
 use crate::action::Action;
 
 /// It makes a line durable, word by word: it loads each word and gives it to the durable twin.
@@ -47,7 +47,7 @@ impl Fence {
 
     /// What it is once it is told a number, or None where the whole line is durable.
     pub fn next(self, got: u64) -> Option<Fence>
-        requires { self.word < LINE }
+        requires { self.word < LINE_WORDS }
         ensures { result ≡ fence_next self got }
     {
         match self.at {
@@ -56,7 +56,7 @@ impl Fence {
                 ..self
             }),
             FenceAt::Drain { .. } => {
-                if self.word + 1 < LINE {
+                if self.word + 1 < LINE_WORDS {
                     Some(Fence {
                         word: self.word + 1,
                         at: FenceAt::Load,
@@ -73,5 +73,5 @@ impl Fence {
 pub fn line_of(word: u64) -> u64
     ensures { result ≡ line_of word }
 {
-    word / LINE * LINE
+    word / LINE_WORDS * LINE_WORDS
 }

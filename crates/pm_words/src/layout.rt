@@ -5,7 +5,7 @@ ghost use Rattle.pm_words.specs.Locations.{leaf_count, kind_words, word_number, 
 ghost use Rattle.pm_words.specs.Locations.{durable_address, HasWord, HasLocation, Node, Line, Leaf, Cell, Volatile};
 ghost use Rattle.pm_words.specs.Locations.{Mark};
 
-use crate::{KEY, LINE, LINES};
+use crate::{KEY, LINE_WORDS, LOG_LINES};
 
 /// A number of a layout.
 #[derive(Clone, Copy, PartialEq, Eq, Debug)]
@@ -133,7 +133,7 @@ impl Layout {
         ensures word { result ≡ word_number self.now (Line caller index offset) }
         ensures within { result < image_words self.now }
     {
-        self.log_start() + (LINES * caller + index) * LINE + offset
+        self.log_start() + (LOG_LINES * caller + index) * LINE_WORDS + offset
     }
 
     /// A leaf's word, as an image word.
@@ -143,7 +143,7 @@ impl Layout {
         ensures word { result ≡ word_number self.now (Leaf number offset) }
         ensures within { result < image_words self.now }
     {
-        self.leaves_start() + number * LINE + offset
+        self.leaves_start() + number * LINE_WORDS + offset
     }
 
     /// A cell's word, as an image word. The kinds 2 to 5 are the cells for 4, 16, 48 and 256 children.
@@ -207,7 +207,7 @@ impl Layout {
         ensures start { result ≡ start_of (image_parts self.now) 4 }
         ensures bound { result ≤ 1115152 }
     {
-        self.log_start() + LINES * LINE * self.callers
+        self.log_start() + LOG_LINES * LINE_WORDS * self.callers
     }
 
     /// Where the cells of a kind start.

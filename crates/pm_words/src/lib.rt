@@ -5,6 +5,7 @@
 mod action;
 mod again;
 mod bytes;
+pub mod codes;
 mod fence;
 mod image;
 pub mod laws;
@@ -30,8 +31,17 @@ pub use std::alloc::AllocError as NoMemory;
 /// The words of a name or a key.
 pub const KEY: usize = 3;
 
+/// The words of a slot: those of a name, and its value.
+pub const SLOT_WORDS: u64 = KEY as u64 + 1;
+
 /// The words of a line, which is flushed as one.
-pub const LINE: u64 = 8;
+pub const LINE_WORDS: u64 = 8;
 
 /// The log lines of one caller.
-pub const LINES: u64 = 8;
+pub const LOG_LINES: u64 = 8;
+
+/// The most nodes that a layout has.
+pub const MOST_NODES: u64 = 4096;
+
+/// The most writes that a catalogue ever places.
+pub const MOST_WRITES: u64 = 1 << 62;

@@ -1,4 +1,4 @@
-ghost use Rattle.std.specs.Prelude.{◌≡◌, ◌+◌, ◌<◌, IfOk};
+ghost use Rattle.std.specs.Prelude.{◌≡◌, ◌+◌, ◌<◌, IfOk, slice_index};
 ghost use Rattle.pm_words.specs.Layouts.{IsLayout};
 ghost use Rattle.pm_words.specs.Locations.{image_words, row_words};
 ghost use Rattle.pm_words.specs.Rows.{IsRow, MayName, CanAct, action_address, acted, got, evicted, cached_row, durable_row, row_of};
@@ -58,6 +58,15 @@ impl Memory {
         ensures row { IsRow self.now.layout self.now.words }
     {
         self.words.as_slice()
+    }
+
+    /// The word at this address.
+    pub fn word(&self, at: u64) -> u64
+        requires { at < row_words self.now.layout }
+        ensures word { result ≡ slice_index self.now.words at }
+        ensures row { IsRow self.now.layout self.now.words }
+    {
+        self.words[at as usize]
     }
 
     /// The layout of its image.

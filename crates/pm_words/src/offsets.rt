@@ -92,3 +92,12 @@ pub mod volatile {
     /// The first of the permutation's eight words.
     pub const PERMUTATION: u64 = 8;
 }
+
+/// The words that a row begins with, which all callers share. The words 2 to 7 are 0.
+pub mod shared {
+    /// The clock: how many writes were placed.
+    pub const CLOCK: u64 = 0;
+
+    /// The updater lock.
+    pub const UPDATER: u64 = 1;
+}

@@ -5,7 +5,7 @@ ghost use Rattle.radix_nodes.specs.Fills.{IsFilling, filling_start, filling_offs
 ghost use Rattle.pm_words.specs.Fences.{fence_start};
 ghost use Rattle.radix_nodes.specs.declared.filling.Filling.TheVariants as Filling;
 
-use pm_words::{Action, Fence, LINE};
+use pm_words::{Action, Fence, LINE_WORDS};
 
 /// It stores the words of a part one after another, and then makes the part's lines durable.
 #[derive(Clone, Copy)]
@@ -32,7 +32,7 @@ impl Filling {
     {
         match self {
             Filling::Store { offset } => *offset,
-            Filling::Drain { line, fence } => LINE * *line + fence.word,
+            Filling::Drain { line, fence } => LINE_WORDS * *line + fence.word,
         }
     }
 
@@ -54,7 +54,7 @@ impl Filling {
     {
         match self {
             Filling::Store { offset } => {
-                if offset + 1 < LINE * lines {
+                if offset + 1 < LINE_WORDS * lines {
                     return Some(Filling::Store { offset: offset + 1 });
                 }
                 Some(first_of(0))

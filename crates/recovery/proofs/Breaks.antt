@@ -3,7 +3,7 @@ use Rattle.std.proofs.Common.{◌≡◌, ℕ, suc, ◌+◌, ◌≤◌, ◌⊎◌
 use Rattle.pm_words.specs.declared.layout.Layout.{Layout}
 use Rattle.pm_words.specs.Images.{Row}
 use Rattle.pm_words.specs.Rows.{durable_row}
-use Rattle.sound_image.specs.Rules.{header_generation}
+use Rattle.image_rules.specs.Rules.{header_generation}
 use Rattle.image_recovery.specs.declared.making.Making.{Making}
 use Rattle.image_recovery.specs.declared.stepping.Recovery.{Recovery as Moves}
 use Rattle.image_recovery.specs.Recovered.{IsLeftOf}

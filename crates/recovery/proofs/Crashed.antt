@@ -1,7 +1,7 @@
 -- How an image is opened that a crash left.
 use Rattle.std.proofs.Common.{sym, subst}
 use Rattle.pm_words.specs.Images.{Row}
-use Rattle.sound_layer.specs.Sound.{IsSoundByAll}
+use Rattle.image_layer_rules.specs.Sound.{IsSoundByAll}
 use Rattle.recovery.specs.Crashed.{CrashIsUndamaged}
 
 pub crash_is_undamaged : CrashIsUndamaged

@@ -2,6 +2,7 @@
 use Rattle.std.proofs.Common.{◌≡◌, ◌≢◌, ℕ, suc, ◌+◌, ◌^◌, ◌<◌, ◌≤◌, List, [], ◌∷◌, length, length-set, slice_set, inl, inr, ⊎_elim, refl, sym, ap, ◌∙◌, subst, arith}
 use Rattle.std.specs.List.{AllByRecursion}
 use Rattle.std.proofs.lemmas.Bool.{cases_eq}
+use Rattle.pm_words.specs.Codes.{live_status}
 use Rattle.pm_words.specs.declared.layout.Layout.{Layout}
 use Rattle.pm_words.specs.Locations.{Location, Volatile, Cached, Node, Clock, Updater, HasLocation, address_of, row_words, at}
 use Rattle.pm_words.specs.declared.action.Action.TheVariants.{Store}
@@ -10,10 +11,9 @@ use Rattle.pm_words.proofs.Apart.{addresses_within, at-set_same, at-set_other}
 use Rattle.pm_words.proofs.Kept.{acted_row, outside_header}
 use Rattle.data_node.specs.Lists.{ListNode, IsChain, IsIn, IsMember, Rise, anchor_in, next_offset}
 use Rattle.data_node.proofs.ListLemmas.{all_member, members_few, not_behind, rise_at}
-use Rattle.call_stages.specs.Kinds.{live_status}
 use Rattle.index_law.specs.Facts.{list_in, spot_in}
 use Rattle.index_law.proofs.Rows.{spot_in-alike}
-use Rattle.opening_law.specs.Openings.{LeadBack, TellsList}
+use Rattle.index_opening_law.specs.Openings.{LeadBack, TellsList}
 use Rattle.recovery.specs.Tellings.{IsNodeMark, IsUntold, KeepsBeside, told_words}
 
 -- what one node's telling changes

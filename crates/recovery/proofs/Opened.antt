@@ -6,6 +6,7 @@ use Rattle.cat_key.specs.declared.Pair.{Pair}
 use Rattle.cat_history.specs.Maps.{map_of}
 use Rattle.cat_history.specs.Replays.{pairs_of}
 use Rattle.cat_history.specs.declared.op.Write.{Write}
+use Rattle.pm_words.specs.Codes.{gone_status, empty_state}
 use Rattle.pm_words.specs.declared.layout.Layout.{Layout}
 use Rattle.pm_words.specs.Images.{Row}
 use Rattle.pm_words.specs.Locations.{Word, Location, Root, Leaf, Cached, Durable, HasWord, at}
@@ -15,28 +16,26 @@ use Rattle.data_node.specs.Lists.{ListNode, MakeList, Rise, range_in}
 use Rattle.data_node.specs.Spots.{Spot}
 use Rattle.data_node.specs.Weights.{node_weight, total}
 use Rattle.data_node.proofs.ListLemmas.{chain_is, members_few}
-use Rattle.call_stages.specs.Kinds.{gone_status}
-use Rattle.sound_image.specs.Nodes.{image_spot, image_list}
-use Rattle.sound_image.specs.Sound as image
-use Rattle.sound_image.specs.Sound.{image_map, IsMapOf as IsImageMap}
-use Rattle.sound_image.proofs.MapLemmas.{sound_has_map}
-use Rattle.sound_image.specs.Weights.{image_weight}
-use Rattle.sound_layer.specs.Sound.{IsSoundByAll, in_image}
+use Rattle.image_rules.specs.Nodes.{image_spot, image_list}
+use Rattle.image_rules.specs.Sound as image
+use Rattle.image_rules.specs.Sound.{image_map, IsMapOf as IsImageMap}
+use Rattle.image_rules.proofs.MapLemmas.{sound_has_map}
+use Rattle.image_rules.specs.Weights.{image_weight}
+use Rattle.image_layer_rules.specs.Sound.{IsSoundByAll, in_image}
 use Rattle.search_layer.specs.Leaves.{leaves_in}
 use Rattle.search_layer.proofs.LeafRows.{leaves_in-alike}
 use Rattle.index_law.specs.Facts.{Facts, list_in, spot_in}
 use Rattle.index_law.specs.Weights.{gone_weight, index_weight}
 use Rattle.index_law.specs.Worlds.{facts}
-use Rattle.turn_law.specs.Covers.{empty_state}
-use Rattle.turn_row.specs.Columns.{column, line_count, line_field, line_word}
-use Rattle.recovery_law.specs.Columns.{Columns, IsMapOf}
-use Rattle.recovery_law.specs.Rest.{Rests}
-use Rattle.recovery_law.specs.Rows.{columns_in, word_if}
-use Rattle.recovery_law.proofs.RowColumns.{columns_alike, crash_has_columns}
-use Rattle.recovery_law.proofs.SoundColumns.{spots_are, columns_keep_maps}
-use Rattle.opening_law.specs.Openings.{IsOpening, IsUnlocked, TellsList}
-use Rattle.opening_law.proofs.Opened.{spot_is, opening_has_list, opening_is_unlocked}
-use Rattle.staleness.proofs.Short.{empty_is_short}
+use Rattle.updater_row_law.specs.Columns.{column, line_count, line_field, line_word}
+use Rattle.image_recovery_law.specs.Columns.{Columns, IsMapOf}
+use Rattle.image_recovery_law.specs.Rest.{Rests}
+use Rattle.image_recovery_law.specs.Rows.{columns_in, word_if}
+use Rattle.image_recovery_law.proofs.RowColumns.{columns_alike, crash_has_columns}
+use Rattle.image_recovery_law.proofs.SoundColumns.{spots_are, columns_keep_maps}
+use Rattle.index_opening_law.specs.Openings.{IsOpening, IsUnlocked, TellsList}
+use Rattle.index_opening_law.proofs.Opened.{spot_is, opening_has_list, opening_is_unlocked}
+use Rattle.lone_hops_law.proofs.Short.{empty_is_short}
 use Rattle.index_core.specs.Indexes.{Index, layered, world}
 use Rattle.index_core.specs.Opened.{opened_index, row_with}
 use Rattle.index_core.proofs.Quiet.{can_walk}

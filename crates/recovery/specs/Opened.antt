@@ -6,10 +6,10 @@ use Rattle.cat_history.specs.Maps.{map_of}
 use Rattle.cat_history.specs.Replays.{pairs_of}
 use Rattle.version_lock.specs.Versions.{IsGeneration}
 use Rattle.version_lock.specs.declared.TheConstants.{LAST_COUNT}
-use Rattle.sound_image.specs.Rules.{header_generation}
-use Rattle.sound_image.specs.Sound.{IsMapOf, image_map}
-use Rattle.sound_image.specs.Weights.{image_weight}
-use Rattle.sound_layer.specs.Sound.{IsFirstOfAll, IsSoundByAll}
+use Rattle.image_rules.specs.Rules.{header_generation}
+use Rattle.image_rules.specs.Sound.{IsMapOf, image_map}
+use Rattle.image_rules.specs.Weights.{image_weight}
+use Rattle.image_layer_rules.specs.Sound.{IsFirstOfAll, IsSoundByAll}
 use Rattle.index_law.specs.Anchors.{anchors_in, gone_nodes, image_anchors}
 use Rattle.index_law.specs.Weights.{index_weight}
 use Rattle.index_law.specs.Worlds.{facts}
@@ -17,9 +17,9 @@ use Rattle.index_core.specs.Indexes.{Index, IsIndex, parties_of, world}
 use Rattle.index_core.specs.Fulls.{HasLowStamps}
 use Rattle.index_core.specs.Lone.{HasShortWays, IsQuiet, locks_left}
 use Rattle.index_core.specs.PartyStates.{idle_states}
-use Rattle.recovery_law.specs.Rest.{Rests}
-use Rattle.recovery_law.specs.Rows.{columns_in}
-use Rattle.opening_law.specs.Openings.{TellsList}
+use Rattle.image_recovery_law.specs.Rest.{Rests}
+use Rattle.image_recovery_law.specs.Rows.{columns_in}
+use Rattle.index_opening_law.specs.Openings.{TellsList}
 use Rattle.image_recovery.specs.Plans.{columns, list_of}
 use Rattle.image_recovery.specs.declared.recovering.Refused.{Refused}
 use Rattle.image_recovery.specs.declared.recovering.Refused.TheVariants as refused

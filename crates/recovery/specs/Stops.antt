@@ -5,11 +5,11 @@ use Rattle.pm_words.specs.Rows.{durable_row, evicted, row_of}
 use Rattle.cat_history.specs.Maps.{Map, map_of}
 use Rattle.cat_history.specs.Replays.{pairs_of}
 use Rattle.version_lock.specs.Versions.{IsGeneration}
-use Rattle.sound_image.specs.Nodes.{image_list}
-use Rattle.sound_image.specs.Rules.{header_generation}
-use Rattle.sound_image.specs.Sound.{IsMapOf, image_map}
-use Rattle.sound_image.specs.Weights.{image_weight}
-use Rattle.sound_layer.specs.Sound.{IsSoundByAll}
+use Rattle.image_rules.specs.Nodes.{image_list}
+use Rattle.image_rules.specs.Rules.{header_generation}
+use Rattle.image_rules.specs.Sound.{IsMapOf, image_map}
+use Rattle.image_rules.specs.Weights.{image_weight}
+use Rattle.image_layer_rules.specs.Sound.{IsSoundByAll}
 use Rattle.index_core.specs.Indexes.{parties_of}
 use Rattle.index_core.specs.PartyStates.{idle_states}
 use Rattle.image_recovery.specs.Recovered.{IsLeftOf, IsRecoverable}

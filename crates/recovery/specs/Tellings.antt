@@ -1,12 +1,13 @@
 -- How the volatile words of a recovered image come to tell its list.
 use Rattle.std.specs.Prelude.{◌≡◌, ℕ, ◌<◌, List}
+use Rattle.pm_words.specs.Codes.{live_status}
 use Rattle.pm_words.specs.declared.layout.Layout.{Layout}
 use Rattle.pm_words.specs.declared.action.Action.TheVariants.{Store}
 use Rattle.pm_words.specs.Images.{Row}
 use Rattle.pm_words.specs.Locations.{Location, Volatile, HasLocation, IsVolatile, at}
 use Rattle.pm_words.specs.Rows.{acted}
 use Rattle.data_node.specs.Lists.{MakeList}
-use Rattle.call_stages.specs.Kinds.{live_status, prev_address, status_address}
+use Rattle.call_stages.specs.Kinds.{prev_address, status_address}
 use Rattle.index_law.specs.Facts.{list_in, spot_in}
 
 -- The nodes make a list, and no volatile word tells anything yet.

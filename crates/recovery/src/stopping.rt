@@ -4,7 +4,7 @@ ghost use Rattle.std.specs.Prelude.{◌≡◌, ◌<◌, ◌↔◌, suc, IfOk, Is
 ghost use Rattle.pm_words.specs.Images.{Row};
 ghost use Rattle.pm_words.specs.Layouts.{IsLayout};
 ghost use Rattle.pm_words.specs.Locations.{image_words};
-ghost use Rattle.sound_layer.specs.Sound.{IsSoundByAll};
+ghost use Rattle.image_layer_rules.specs.Sound.{IsSoundByAll};
 ghost use Rattle.version_lock.specs.Versions.{IsGeneration};
 ghost use Rattle.image_recovery.specs.Plans.{columns};
 ghost use Rattle.recovery.specs.Opened.{IsOpenFault, IsOpenedFrom};
@@ -12,7 +12,7 @@ ghost use Rattle.recovery.specs.Stops.{IsDone, IsLeftBy, IsRecoveryOf, IsStarted
 
 use crate::opening::{OpenFault, fault_of};
 use crate::telling::tell_list;
-use cat_history::{Listed, Write};
+use cat_history::{Items, Write};
 use cat_key::Pair;
 use image_pairs::image_pairs;
 use image_recovery::{Begun, Recovery as Moves, begin_sound, refusal};
@@ -31,7 +31,7 @@ pub struct Recovery {
     moves: Moves,
     memory: Memory,
     /// The pairs of the image's map.
-    base: Listed<Pair>,
+    base: Items<Pair>,
     /// The parties of the index, and its history, so that `finish` needs no memory.
     states: Vec<PartyState>,
     history: Vec<Write>,

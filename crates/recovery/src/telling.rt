@@ -4,14 +4,12 @@ ghost use Rattle.std.specs.Prelude.{◌≡◌, ◌<◌};
 ghost use Rattle.pm_words.specs.Rows.{IsRow};
 ghost use Rattle.data_node.specs.Lists.{next_offset};
 ghost use Rattle.index_law.specs.Facts.{list_in, spot_in};
-ghost use Rattle.opening_law.specs.Openings.{TellsList};
+ghost use Rattle.index_opening_law.specs.Openings.{TellsList};
 ghost use Rattle.recovery.specs.Tellings.{IsUntold, KeepsBeside, told_node};
 
 use pm_words::Memory;
+use pm_words::codes::status::LIVE;
 use pm_words::offsets::{node, volatile};
-
-/// The status of a listed node.
-const LIVE: u64 = 1;
 
 /// Makes the volatile words tell the list that the nodes make: its nodes are LIVE, and the prev of each is the node
 /// before it. No other word changes.

@@ -14,7 +14,7 @@ ghost use Rattle.report_reader.specs.declared.part.Bounds.{Bounds};
 use crate::cut::{first_field, next_field};
 use crate::fault::LineFault;
 use crate::field::{is_word, read_decimal, read_name, read_place};
-use cat_history::{Listed, ScanPart};
+use cat_history::{Items, ScanPart};
 use cat_key::{Name, Pair};
 use std::alloc::Global;
 
@@ -39,7 +39,7 @@ pub(crate) fn read_part(alloc: Global, line: &[u8]) -> Result<ScanPart, LineFaul
         low: bounds.low,
         high: bounds.high,
         place: bounds.place,
-        pairs: Listed::of(pairs),
+        pairs: Items::of(pairs),
     })
 }
 

@@ -16,7 +16,7 @@ use crate::answer::Answer;
 use crate::fault::LineFault;
 use crate::head::{Head, read_head};
 use crate::part::read_part;
-use cat_history::{Listed, Op, Record, Reply, ScanPart};
+use cat_history::{Items, Op, Record, Reply, ScanPart};
 use cat_text::{Report, RoundReport};
 use std::alloc::Global;
 use std::mem;
@@ -201,7 +201,7 @@ impl Reading {
     {
         let records = mem::replace(&mut self.records, Vec::new(alloc));
         let round = RoundReport {
-            records: Listed::of(records),
+            records: Items::of(records),
             crashed,
             writes,
             names,
@@ -224,7 +224,7 @@ impl Reading {
         if !self.has_ended() {
             return None;
         }
-        Some(Listed::of(self.rounds))
+        Some(Items::of(self.rounds))
     }
 
     /// Whether the last line read ended a round.
@@ -257,7 +257,7 @@ fn reply_of(answer: Answer, parts: Vec<ScanPart>) -> Reply
     match answer {
         Answer::Old { old, place } => Reply::Old { old, place },
         Answer::Parts { cut, .. } => Reply::Parts {
-            parts: Listed::of(parts),
+            parts: Items::of(parts),
             cut,
         },
         Answer::Full => Reply::Full,

@@ -2,7 +2,6 @@ pub mod Layers
 pub mod Keys
 pub mod Leaves
 pub mod Reading
-pub mod Advances
 pub mod FloorSteps
 pub mod ChangeSteps
 pub mod SetSteps

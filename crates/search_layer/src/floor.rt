@@ -57,7 +57,7 @@ impl Floor {
     ghost use Rattle.pm_words.specs.Locations.{leaf_count};
     ghost use Rattle.pm_words.specs.Turns.{GoesBelow};
     ghost use Rattle.search_layer.specs.declared.reader.ReaderAt.TheVariants as ReaderAt;
-    ghost use Rattle.search_layer.specs.Advances.{AdvancesTo};
+    ghost use Rattle.pm_words.specs.Turns.{AdvancesTo};
     ghost use Rattle.search_layer.specs.FloorSteps.{IsFloor, floor_starts, floor_takes, floor_turned, floor_left};
     ghost use Rattle.search_layer.specs.FloorSteps.{floor_past, better};
 

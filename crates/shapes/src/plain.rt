@@ -8,7 +8,7 @@ ghost use Rattle.cat_key.specs.Names.{IsName, name_cmp};
 ghost use Rattle.cat_history.specs.Scans.{is_below};
 
 use crate::map::{Full, MapPart, NameMap};
-use cat_history::{Listed, NoMemory, number_in, position_of};
+use cat_history::{Items, NoMemory, number_in, position_of};
 use cat_key::{Name, Pair};
 use std::alloc::Global;
 use std::marker::Model;
@@ -82,7 +82,7 @@ impl NameMap for PlainMap {
         let listed = first_from(alloc, &pairs, low, count)?;
         Ok(MapPart {
             high: None,
-            pairs: Listed::of(listed),
+            pairs: Items::of(listed),
         })
     }
 

@@ -1,7 +1,7 @@
 -- The opening of a line, step by step.
 use Rattle.std.specs.Prelude.{◌≡◌, ℕ, zero, suc, ◌+◌, ◌-◌, ◌*◌, ◌^◌, ◌<◌, ◌≤◌, nat_lt, if◌then◌else◌, false, List, [], ◌∷◌}
 use Rattle.std.specs.Prelude.{Option, Some, None}
-use Rattle.pm_words.specs.declared.TheConstants.{LINE}
+use Rattle.pm_words.specs.declared.TheConstants.{LINE_WORDS}
 use Rattle.pm_words.specs.declared.layout.Layout.{Layout}
 use Rattle.pm_words.specs.declared.action.Action.{Action}
 use Rattle.pm_words.specs.declared.action.Action.TheVariants.{Store}
@@ -45,7 +45,7 @@ state_fenced open_ None = Done tt
 
 abbrev pub open_at_turned : Open → OpenAt → ℕ → Turn Open (Unit {0})
 open_at_turned open_ (at.Field offset) got =
-    if nat_lt (offset + 1) LINE then opens_on open_ (at.Field (offset + 1)) else opens_on open_
+    if nat_lt (offset + 1) LINE_WORDS then opens_on open_ (at.Field (offset + 1)) else opens_on open_
     (at.FenceFields fence_start)
 open_at_turned open_ (at.FenceFields fence) got = fields_fenced open_ (fence_next fence got)
 open_at_turned open_ at.State got = opens_on open_ (at.FenceState fence_start)

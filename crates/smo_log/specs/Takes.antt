@@ -1,6 +1,6 @@
 -- The look for an EMPTY line, step by step.
 use Rattle.std.specs.Prelude.{◌≡◌, ℕ, ◌+◌, ◌-◌, ◌*◌, ◌^◌, ◌<◌, ◌==◌, nat_lt, if◌then◌else◌, false, [], ◌∷◌, Option, Some, None}
-use Rattle.pm_words.specs.declared.TheConstants.{LINES}
+use Rattle.pm_words.specs.declared.TheConstants.{LOG_LINES}
 use Rattle.pm_words.specs.declared.layout.Layout.{Layout}
 use Rattle.pm_words.specs.declared.action.Action.{Action}
 use Rattle.pm_words.specs.declared.action.Action.TheVariants.{Load}
@@ -22,7 +22,7 @@ take_from layout caller = record { layout = layout; caller = caller; index = 0; 
 
 -- the number of the line that it is at
 abbrev pub take_line : Take → ℕ
-take_line take = LINES * take.caller + take.index
+take_line take = LOG_LINES * take.caller + take.index
 
 abbrev pub take_at_asks : Layout → ℕ → TakeAt → Action
 take_at_asks l line at.State = Load (numbered_address l line 0)
@@ -38,7 +38,7 @@ takes_on take at = Go (record take { at = at })
 abbrev pub saw_state : Take → ℕ → Turn Take Taken
 saw_state take state =
     if state == 0 then takes_on take (at.Fence fence_start)
-    else (if nat_lt (take.index + 1) LINES then Go (record take { index = take.index + 1 }) else Done Full)
+    else (if nat_lt (take.index + 1) LOG_LINES then Go (record take { index = take.index + 1 }) else Done Full)
 
 abbrev pub take_fenced : Take → Option Fence → Turn Take Taken
 take_fenced take (Some fence) = takes_on take (at.Fence fence)

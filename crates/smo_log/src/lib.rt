@@ -11,7 +11,7 @@ mod read;
 mod state;
 mod take;
 
-pub use line::{Entry, KIND_MERGE, KIND_SPLIT};
+pub use line::Entry;
 pub use open::{Open, OpenAt};
 pub use read::{LineSeen, ReadLine};
 pub use state::{Clear, Ready, ReadyAt};

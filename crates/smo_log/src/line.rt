@@ -2,22 +2,7 @@ ghost use Rattle.std.specs.Prelude.{◌≡◌, ◌*◌, ◌<◌};
 ghost use Rattle.pm_words.specs.Layouts.{IsLayout};
 ghost use Rattle.smo_log.specs.LogLines.{numbered_address};
 
-use pm_words::{KEY, LINES, Layout};
-
-/// The kind of a split.
-pub const KIND_SPLIT: u64 = 1;
-
-/// The kind of a merge.
-pub const KIND_MERGE: u64 = 2;
-
-/// The state of a line that says nothing.
-pub(crate) const EMPTY: u64 = 0;
-
-/// The state of a line whose change has begun.
-pub(crate) const OPEN: u64 = 1;
-
-/// The state of a line whose change is done, but for the search layer.
-pub(crate) const READY: u64 = 2;
+use pm_words::{KEY, LOG_LINES, Layout};
 
 /// What a line says of a change.
 #[derive(Clone, Copy, PartialEq, Eq, Debug)]
@@ -39,5 +24,5 @@ pub(crate) fn line_address(layout: &Layout, line: u64, offset: u64) -> u64
     requires offset { offset < 8 }
     ensures { result ≡ numbered_address layout.now line offset }
 {
-    layout.cached(layout.line_word(line / LINES, line % LINES, offset))
+    layout.cached(layout.line_word(line / LOG_LINES, line % LOG_LINES, offset))
 }

@@ -1,8 +1,9 @@
 ghost use Rattle.std.specs.Prelude.{◌≡◌, ◌<◌};
 
-use crate::line::{Entry, OPEN, line_address};
+use crate::line::{Entry, line_address};
+use pm_words::codes::state::OPEN;
 use pm_words::offsets::line;
-use pm_words::{Action, Fence, LINE, Layout, Machine, Turn};
+use pm_words::{Action, Fence, LINE_WORDS, Layout, Machine, Turn};
 
 /// It stores what a line is to say, all seven words behind the state, and makes them durable; then the state OPEN, and
 /// makes that durable. The last word is to be 0, and an EMPTY line may hold anything there.
@@ -51,7 +52,7 @@ impl Machine for Open {
     fn resume(self, got: u64) -> Turn<Open, ()> {
         match self.at {
             OpenAt::Field { offset } => {
-                if offset + 1 < LINE {
+                if offset + 1 < LINE_WORDS {
                     self.goes_to(OpenAt::Field { offset: offset + 1 })
                 } else {
                     self.goes_to(OpenAt::FenceFields {

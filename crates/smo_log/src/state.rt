@@ -1,6 +1,7 @@
 ghost use Rattle.std.specs.Prelude.{◌≡◌, ◌<◌};
 
-use crate::line::{EMPTY, READY, line_address};
+use crate::line::line_address;
+use pm_words::codes::state::{EMPTY, READY};
 use pm_words::offsets::line;
 use pm_words::{Action, Fence, Layout, Machine, Turn};
 

@@ -1,7 +1,8 @@
 ghost use Rattle.std.specs.Prelude.{◌≡◌, ◌<◌};
 
-use crate::line::{EMPTY, line_address};
-use pm_words::{Action, Fence, LINES, Layout, Machine, Turn};
+use crate::line::line_address;
+use pm_words::codes::state::EMPTY;
+use pm_words::{Action, Fence, LOG_LINES, Layout, Machine, Turn};
 
 /// How the look for a line ended.
 #[derive(Clone, Copy, PartialEq, Eq, Debug)]
@@ -91,7 +92,7 @@ impl Take {
         requires { IsTake self.now }
         ensures { result ≡ take_line self.now }
     {
-        LINES * self.caller + self.index
+        LOG_LINES * self.caller + self.index
     }
 
     /// It goes on there.
@@ -102,7 +103,7 @@ impl Take {
     }
 
     fn saw_state(self, state: u64) -> Turn<Take, Taken>
-        requires { self.index < LINES }
+        requires { self.index < LOG_LINES }
         ensures { result ≡ saw_state self state }
     {
         if state == EMPTY {
@@ -111,7 +112,7 @@ impl Take {
             });
         }
         let index = self.index + 1;
-        if index < LINES {
+        if index < LOG_LINES {
             Turn::Go(Take { index, ..self })
         } else {
             Turn::Done(Taken::Full)

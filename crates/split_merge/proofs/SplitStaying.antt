@@ -3,6 +3,7 @@ use Rattle.std.proofs.Common.{◌≡◌, ◌≢◌, ℕ, zero, suc, ◌+◌, ◌
 use Rattle.std.specs.Prelude.{slice_set, replicate}
 use Rattle.std.proofs.lemmas.Bool.{cases_eq, eqb-false, ltb-true}
 use Rattle.std.proofs.lemmas.List.{length-set, length-replicate, length-take-le, get_or-set_same, get_or-set_other, get_or-take}
+use Rattle.pm_words.specs.Codes.{free_status}
 use Rattle.pm_words.specs.declared.layout.Layout.{Layout}
 use Rattle.pm_words.specs.declared.again.Again.TheVariants as again
 use Rattle.pm_words.specs.declared.again.Again.TheVariants.{Locked, Moved}
@@ -12,7 +13,7 @@ use Rattle.pm_words.specs.Layouts.{IsLayout}
 use Rattle.version_lock.specs.declared.TheConstants.{GENERATION_LIMIT}
 use Rattle.version_lock.specs.Versions.{is_free_word, is_worn_word}
 use Rattle.data_node.specs.Spots.{slot_offset}
-use Rattle.call_stages.specs.Kinds.{IsRefusal, free_status, Told}
+use Rattle.call_stages.specs.Kinds.{IsRefusal, Told}
 use Rattle.index_law.proofs.Versions.{own_lock, lock_fits}
 use Rattle.pm_alloc.specs.declared.claim.Claim.{Claim}
 use Rattle.pm_alloc.specs.declared.claim.ClaimAt.{ClaimAt}

@@ -5,12 +5,9 @@ use crate::uniting::Union;
 use data_node::without_live;
 use pm_alloc::Retire;
 use pm_words::offsets::{node, volatile};
-use pm_words::{Action, Fence, LINE, Machine, Turn};
+use pm_words::{Action, Fence, LINE_WORDS, Machine, SLOT_WORDS, Turn};
 use smo_log::{Open, Ready};
 use version_lock::freed_of;
-
-/// How many words a slot has: those of a name, and its value.
-const SLOT: u64 = 4;
 
 /// It merges the right node into the left one, and gives both back.
 #[derive(Clone, Copy)]
@@ -145,7 +142,7 @@ fn after_copy(left: u64, word: u64) -> JoinAt
     requires word { word < 4 }
     ensures { result ≡ after_copy left word }
 {
-    if word + 1 < SLOT {
+    if word + 1 < SLOT_WORDS {
         return JoinAt::Load {
             left,
             word: word + 1,
@@ -206,7 +203,7 @@ impl Union {
         ensures { result ≡ loads_from self.now left word }
     {
         let from = u64::from(self.pairs.from[left.trailing_zeros() as usize]);
-        Action::Load(self.address(self.right, node::SLOTS + SLOT * from + word))
+        Action::Load(self.address(self.right, node::SLOTS + SLOT_WORDS * from + word))
     }
 
     /// The store of that word in the lowest of these slots of the left node.
@@ -218,7 +215,7 @@ impl Union {
     {
         let slot = u64::from(left.trailing_zeros());
         Action::Store(
-            self.address(self.node, node::SLOTS + SLOT * slot + word),
+            self.address(self.node, node::SLOTS + SLOT_WORDS * slot + word),
             value,
         )
     }
@@ -281,9 +278,9 @@ impl Union {
         match fence {
             Some(fence) => JoinAt::FenceCopies { first, fence },
             None => {
-                if first + LINE < node::SLOTS + SLOT * (self.layout.slots() / 2) {
+                if first + LINE_WORDS < node::SLOTS + SLOT_WORDS * (self.layout.slots() / 2) {
                     JoinAt::FenceCopies {
-                        first: first + LINE,
+                        first: first + LINE_WORDS,
                         fence: Fence::new(),
                     }
                 } else {

@@ -1,11 +1,9 @@
 use crate::planning::Plan;
+use pm_words::codes::status::LIVE;
 use pm_words::offsets::{node, volatile};
-use pm_words::{Action, Fence, KEY, LINE, Machine, Turn};
+use pm_words::{Action, Fence, KEY, LINE_WORDS, Machine, Turn};
 use smo_log::{Open, Ready};
 use version_lock::freed_of;
-
-/// The status of a node that is in use.
-const LIVE: u64 = 1;
 
 /// It moves the upper half of a full node's names into a fresh node, and gives both back.
 #[derive(Clone, Copy)]
@@ -222,9 +220,9 @@ impl Plan {
         match fence {
             Some(fence) => MoveAt::FenceFresh { first, fence },
             None => {
-                if first + LINE < node::SLOTS + 4 * (self.layout.slots() / 2) {
+                if first + LINE_WORDS < node::SLOTS + 4 * (self.layout.slots() / 2) {
                     MoveAt::FenceFresh {
-                        first: first + LINE,
+                        first: first + LINE_WORDS,
                         fence: Fence::new(),
                     }
                 } else {

@@ -7,9 +7,10 @@ ghost use Rattle.split_merge.specs.Plans.{spot_of, entries_of, order_of, moved_o
 
 use cat_key::Name;
 use data_node::{Order, print_at, sort_order};
+use pm_words::codes::kind::SPLIT;
 use pm_words::offsets::node;
-use pm_words::{KEY, LINE, Layout};
-use smo_log::{Entry, KIND_SPLIT};
+use pm_words::{KEY, LINE_WORDS, Layout};
+use smo_log::Entry;
 
 /// The words of the largest node.
 pub const NODE_WORDS: usize = 272;
@@ -100,7 +101,7 @@ impl Plan {
         } else if offset < node::ANCHOR + KEY as u64 {
             self.anchor[(offset - node::ANCHOR) as usize]
         } else if offset < node::SLOTS {
-            self.prints(8 * (offset % LINE))
+            self.prints(8 * (offset % LINE_WORDS))
         } else {
             self.slot_word(offset - node::SLOTS)
         }
@@ -120,7 +121,7 @@ impl Plan {
         ensures { result ≡ entry_in self.now }
     {
         Entry {
-            kind: KIND_SPLIT,
+            kind: SPLIT,
             node: self.fresh,
             anchor: [self.word(3), self.word(4), self.word(5)],
             left: self.node,

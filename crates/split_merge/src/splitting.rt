@@ -10,7 +10,7 @@ use call_stages::View;
 use data_node::halves;
 use pm_alloc::{Claim, Claimed};
 use pm_words::offsets::node;
-use pm_words::{Action, Again, LINE, Machine, Turn};
+use pm_words::{Action, Again, LINE_WORDS, Machine, Turn};
 use smo_log::{Take, Taken};
 use version_lock::freed_of;
 
@@ -117,7 +117,7 @@ impl Split {
     ghost use Rattle.call_stages.specs.Kinds.{word_address};
     ghost use Rattle.call_stages.specs.Views.{IsView};
     ghost use Rattle.version_lock.specs.Versions.{IsLockWord};
-    ghost use Rattle.data_list.specs.Advances.{AdvancesTo};
+    ghost use Rattle.pm_words.specs.Turns.{AdvancesTo};
     ghost use Rattle.split_merge.specs.Splits.{IsSplit, split_from, split_left, split_takes, split_turned};
     ghost use Rattle.split_merge.specs.Splits.{taken, claimed, has_read};
 
@@ -195,7 +195,7 @@ impl Split {
             return None;
         };
         full[(node::PRINTS + count) as usize] = got;
-        if count + 1 < LINE + 4 * self.view.layout.slots() {
+        if count + 1 < LINE_WORDS + 4 * self.view.layout.slots() {
             if let SplitAt::Read { count, .. } = &mut self.at {
                 *count += 1;
             }

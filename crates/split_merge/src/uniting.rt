@@ -5,9 +5,10 @@ ghost use Rattle.std.specs.Prelude.{◌≡◌};
 use crate::pairing::Pairs;
 use crate::planning::name_or_some;
 use data_node::print_at;
+use pm_words::codes::kind::MERGE;
 use pm_words::offsets::node;
-use pm_words::{KEY, LINE, Layout};
-use smo_log::{Entry, KIND_MERGE};
+use pm_words::{KEY, LINE_WORDS, Layout};
+use smo_log::Entry;
 
 /// The words of a node before its slots.
 pub const HEAD: usize = 16;
@@ -58,7 +59,7 @@ impl Union {
         requires word { word < 4 }
         ensures { result ≡ joined_prints self.now word }
     {
-        let first = LINE * word;
+        let first = LINE_WORDS * word;
         u64::from_le_bytes([
             self.print(first),
             self.print(first + 1),
@@ -85,7 +86,7 @@ impl Union {
         ensures { result ≡ entry_in self.now }
     {
         Entry {
-            kind: KIND_MERGE,
+            kind: MERGE,
             node: self.right,
             anchor: name_or_some(self.head[3], self.head[4], self.head[5]),
             left: self.node,

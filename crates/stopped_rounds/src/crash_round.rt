@@ -21,7 +21,7 @@ ghost use Rattle.stopped_rounds.specs.Stops.{HasStopped, IsScanSoFar};
 
 use crate::bounded_map::{Bounded, BoundedMap};
 use cat_history::{
-    CutMark, Listed, NoMemory, Op, Parts, Record, Records, Reply, RoundPlan, ScanPart,
+    CutMark, Items, NoMemory, Op, Parts, Record, Records, Reply, RoundPlan, ScanPart,
 };
 use cat_key::Name;
 use shapes::{Full, MapPart};
@@ -89,7 +89,7 @@ pub fn run_crash_round<M: BoundedMap>(
         records.push_reserved(record);
     }
     Ok(StoppedRound {
-        records: Listed::of(records),
+        records: Items::of(records),
         writes,
     })
 }
@@ -253,17 +253,17 @@ fn scan<M: BoundedMap>(
     let mut next = Some(*from);
     while let Some(low) = next {
         if *budget == 0 {
-            return Ok((Listed::of(parts), true));
+            return Ok((Items::of(parts), true));
         }
         let Some(part) = read_part(alloc, map, low, left, place, budget)? else {
-            return Ok((Listed::of(parts), true));
+            return Ok((Items::of(parts), true));
         };
         left -= part.pairs.as_slice().len() as u64;
         let high = part.high;
         parts.push(part)?;
         next = if left > 0 { high } else { None };
     }
-    Ok((Listed::of(parts), false))
+    Ok((Items::of(parts), false))
 }
 
 /// Reads the part of a scan that begins at this name, with so many names left, as far as the budget goes.

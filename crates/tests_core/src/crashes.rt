@@ -10,8 +10,8 @@ use cat_key::Name;
 use index_core::{Core, CoreCall, Crashed, CutCall, Cuts};
 use pm_words::Image;
 use recovery::recover;
-use sound_image::number_in;
-use sound_layer::first_broken_of_all;
+use image_rules::number_in;
+use image_layer_rules::first_broken_of_all;
 use std::alloc::Global;
 use std::test::Fail;
 

@@ -8,7 +8,7 @@ use index_core::Core;
 use pm_words::offsets::header;
 use pm_words::{Image, ImageFault, Layout};
 use recovery::{OpenFault, recover};
-use sound_layer::first_broken_of_all;
+use image_layer_rules::first_broken_of_all;
 use std::alloc::Global;
 use std::test::Fail;
 

@@ -3,9 +3,9 @@
 ghost use Rattle.std.specs.Prelude.{◌<◌, ◌≤◌, length};
 
 use crate::images::{A, AS, B, C, image_with};
+use image_layer_rules::first_broken_of_all;
+use image_rules::Broken;
 use pm_words::Image;
-use sound_image::Broken;
-use sound_layer::first_broken_of_all;
 use std::alloc::Global;
 
 /// Of four nodes: the list goes by node 2, whose anchor is `a`, and then by node 1, whose anchor is `b`; leaf 3 leads

@@ -4,8 +4,8 @@ use crate::images::{A, AS, B, C, image_with};
 use cat_history::Pairs;
 use cat_key::{Name, Pair};
 use image_pairs::image_pairs;
+use image_rules::first_broken;
 use pm_words::Image;
-use sound_image::first_broken;
 use std::alloc::Global;
 
 /// The words of the one-byte names `d` to `g`.

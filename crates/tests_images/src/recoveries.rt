@@ -3,10 +3,10 @@
 ghost use Rattle.std.specs.Prelude.{◌≡◌, ◌<◌};
 
 use crate::images::{A, B, C, image_with};
+use image_layer_rules::first_broken_of_all;
 use image_recovery::{Begun, Move, Refused, begin, plan, recover};
+use image_rules::{Broken, first_broken};
 use pm_words::{Image, Steps};
-use sound_image::{Broken, first_broken};
-use sound_layer::first_broken_of_all;
 use std::alloc::Global;
 use std::marker::Brand;
 use std::sync::ledger::{Blank, Ledger};

@@ -4,8 +4,8 @@ ghost use Rattle.std.specs.Prelude.{◌≤◌, length};
 
 use crate::images::{A, AS, B, image_with};
 use cat_key::Name;
+use image_rules::{Broken, first_broken, number_in};
 use pm_words::Image;
-use sound_image::{Broken, first_broken, number_in};
 use std::alloc::Global;
 
 /// What a generation adds to a version word.

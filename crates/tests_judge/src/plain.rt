@@ -1,6 +1,6 @@
 //! Rounds as plain numbers.
 
-use cat_history::{CutMark, Listed, Op, Pairs, Parts, Record, Records, Reply, ScanPart};
+use cat_history::{CutMark, Items, Op, Pairs, Parts, Record, Records, Reply, ScanPart};
 use cat_key::{Name, Pair};
 use std::alloc::Global;
 use transcript::{Asked, AskedCall, Judged, RoundEnd, judge};
@@ -98,7 +98,7 @@ fn asked_of(alloc: Global, rows: &[[u64; 4]]) -> Option<Asked> {
             })
             .ok()?;
     }
-    Some(Listed::of(asked))
+    Some(Items::of(asked))
 }
 
 fn base_of(alloc: Global, rows: &[[u64; 2]]) -> Option<Pairs> {
@@ -111,7 +111,7 @@ fn base_of(alloc: Global, rows: &[[u64; 2]]) -> Option<Pairs> {
             })
             .ok()?;
     }
-    Some(Listed::of(pairs))
+    Some(Items::of(pairs))
 }
 
 /// The pairs that a part lists.
@@ -127,7 +127,7 @@ fn pairs_of(alloc: Global, row: &[u64; 10]) -> Option<Pairs> {
                 .ok()?;
         }
     }
-    Some(Listed::of(pairs))
+    Some(Items::of(pairs))
 }
 
 fn part_of(alloc: Global, row: &[u64; 10]) -> Option<ScanPart> {
@@ -152,7 +152,7 @@ fn parts_of(alloc: Global, rows: &[[u64; 10]], record: u64) -> Option<Parts> {
             parts.push(part_of(alloc, row)?).ok()?;
         }
     }
-    Some(Listed::of(parts))
+    Some(Items::of(parts))
 }
 
 fn mark_of(answer: u64, place: u64) -> CutMark {
@@ -199,7 +199,7 @@ fn told_of(alloc: Global, rows: &[[u64; 8]], parts: &[[u64; 10]]) -> Option<Reco
     for (at, row) in rows.iter().enumerate() {
         told.push(record_of(alloc, row, parts, at as u64)?).ok()?;
     }
-    Some(Listed::of(told))
+    Some(Items::of(told))
 }
 
 fn end_of(alloc: Global, end: &[u64; 4], budgets: &[u64]) -> Option<RoundEnd> {
@@ -208,7 +208,7 @@ fn end_of(alloc: Global, end: &[u64; 4], budgets: &[u64]) -> Option<RoundEnd> {
         limit: end[1],
         writes: end[2],
         names: end[3],
-        budgets: Listed::of(budgets.to_vec(alloc).ok()?),
+        budgets: Items::of(budgets.to_vec(alloc).ok()?),
     })
 }
 

@@ -7,8 +7,9 @@ ghost use Rattle.smo_log.specs.Opens.{IsOpen};
 ghost use Rattle.smo_log.specs.States.{IsReady};
 ghost use Rattle.smo_log.specs.Reads.{IsRead};
 
+use pm_words::codes::kind::SPLIT;
 use pm_words::{Action, Layout, Machine, Turn};
-use smo_log::{Clear, Entry, KIND_SPLIT, LineSeen, Open, ReadLine, Ready, Take, Taken};
+use smo_log::{Clear, Entry, LineSeen, Open, ReadLine, Ready, Take, Taken};
 use std::alloc::Global;
 use std::process::Abort;
 use std::test::Fail;
@@ -176,7 +177,7 @@ fn one_line(rt: HostRuntime) -> Result<(), Fail> {
     let empty = [0, 0, 0, 0, 0, 0, 0, 5];
     assert!(rt; line == Taken::Line { line: 10 } && rows(&rt, &row, 10) == (empty, empty));
     let entry = Entry {
-        kind: KIND_SPLIT,
+        kind: SPLIT,
         node: 2,
         anchor: [0x63 << 56, 0, 0],
         left: 1,

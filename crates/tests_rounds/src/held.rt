@@ -4,7 +4,7 @@ ghost use Rattle.std.specs.Prelude.{◌≡◌, ◌<◌, ◌≤◌, ◌^◌, All,
 ghost use Rattle.index_core.specs.Lone.{IsQuiet};
 ghost use Rattle.thread_rounds.specs.RunRounds.{IsJoinedAnd};
 
-use cat_history::{CallerOp, Listed, Op, RoundPlan};
+use cat_history::{CallerOp, Items, Op, RoundPlan};
 use cat_key::Name;
 use core_rounds::open_fresh;
 use pac_index::Gate;
@@ -213,7 +213,7 @@ fn planned(ops: Vec<CallerOp>, updater: u64) -> Result<RoundPlan, Fail>
         return Err("a third caller".into());
     }
     Ok(RoundPlan {
-        ops: Listed::of(ops),
+        ops: Items::of(ops),
         updater,
         limit: 1 << 62,
         crash: None,

@@ -2,7 +2,7 @@
 
 ghost use Rattle.std.specs.Prelude.{◌≡◌, ◌<◌, ◌≤◌, ◌^◌, All, IfOk, None};
 
-use cat_history::{CallerOp, Listed, Op, Reply, RoundPlan};
+use cat_history::{CallerOp, Items, Op, Reply, RoundPlan};
 use cat_key::Name;
 use core_rounds::open_fresh;
 use pac_index::Gate;
@@ -69,7 +69,7 @@ fn planned(ops: Vec<CallerOp>, callers: u64) -> Result<RoundPlan, Fail>
         return Err("one caller more".into());
     }
     Ok(RoundPlan {
-        ops: Listed::of(ops),
+        ops: Items::of(ops),
         updater: 64,
         limit: 1 << 62,
         crash: None,

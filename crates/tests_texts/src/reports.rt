@@ -1,6 +1,6 @@
 //! The text of each form of a report, also of those that no round has yet.
 
-use cat_history::{CutMark, Listed, NoMemory, Op, Parts, Record, Reply, ScanPart};
+use cat_history::{CutMark, Items, NoMemory, Op, Parts, Record, Reply, ScanPart};
 use cat_key::{Name, Pair};
 use cat_text::{Report, RoundReport, print_rounds};
 use std::alloc::Global;
@@ -50,7 +50,7 @@ fn part(
         low,
         high,
         place: 4,
-        pairs: Listed::of(pairs),
+        pairs: Items::of(pairs),
     })
 }
 
@@ -67,7 +67,7 @@ fn parts_of(alloc: Global, names: &Names, number: u64) -> Result<Parts, NoMemory
             parts.push(part(alloc, c, None, &[c])?)?;
         }
     }
-    Ok(Listed::of(parts))
+    Ok(Items::of(parts))
 }
 
 /// What the call of this number is answered where it is no scan.
@@ -128,7 +128,7 @@ fn crashed_round(alloc: Global, names: &Names) -> Result<RoundReport, NoMemory> 
         records.push(record_of(alloc, names, number)?)?;
     }
     Ok(RoundReport {
-        records: Listed::of(records),
+        records: Items::of(records),
         crashed: true,
         writes: 1,
         names: 0,
@@ -138,7 +138,7 @@ fn crashed_round(alloc: Global, names: &Names) -> Result<RoundReport, NoMemory> 
 /// A round without calls that is joined.
 fn joined_round(alloc: Global) -> RoundReport {
     RoundReport {
-        records: Listed::of(Vec::new(alloc)),
+        records: Items::of(Vec::new(alloc)),
         crashed: false,
         writes: 0,
         names: 12,

@@ -10,7 +10,7 @@ use crate::playing::LIMIT;
 use cat_key::Name;
 use pac_index::{Caller, CutCall, Shared, Tried};
 use pm_words::{Layout, NoMemory};
-use sound_image::number_in;
+use image_rules::number_in;
 use std::alloc::Global;
 use std::test::Fail;
 

@@ -1,7 +1,7 @@
 //! Histories: what a replay leaves, and the marks of writes that were cut off.
 
 use cat_history::{
-    Change, CutMark, Listed, Op, Pairs, Record, Records, Reply, Write, Writes, replay, settle,
+    Change, CutMark, Items, Op, Pairs, Record, Records, Reply, Write, Writes, replay, settle,
 };
 use cat_key::{Name, Pair};
 use std::alloc::Global;
@@ -27,7 +27,7 @@ fn pairs_of(alloc: Global, text: &[u8]) -> Option<Pairs> {
     for [letter, digit] in rows_of(text) {
         push_pair(&mut pairs, *letter, number(*digit))?;
     }
-    Some(Listed::of(pairs))
+    Some(Items::of(pairs))
 }
 
 fn push_pair(pairs: &mut Vec<Pair>, letter: u8, value: u64) -> Option<()> {
@@ -109,7 +109,7 @@ fn cut_off(alloc: Global, op: Op, mark: CutMark) -> Option<Records> {
         reply: Reply::Cut { mark },
     };
     records.push(record).ok()?;
-    Some(Listed::of(records))
+    Some(Items::of(records))
 }
 
 /// The mark of the first record.

@@ -13,10 +13,10 @@ use Rattle.cat_history.specs.declared.plan.RoundPlan.{RoundPlan}
 use Rattle.cat_history.specs.declared.record.Record.{Record}
 use Rattle.pm_words.specs.Images.{Row}
 use Rattle.pm_words.specs.Locations.{Clock, at}
-use Rattle.sound_image.specs.Rules.{header_generation}
-use Rattle.sound_image.specs.Sound.{IsMapOf}
-use Rattle.sound_image.specs.Weights.{image_weight}
-use Rattle.sound_layer.specs.Sound.{IsSoundByAll}
+use Rattle.image_rules.specs.Rules.{header_generation}
+use Rattle.image_rules.specs.Sound.{IsMapOf}
+use Rattle.image_rules.specs.Weights.{image_weight}
+use Rattle.image_layer_rules.specs.Sound.{IsSoundByAll}
 use Rattle.shapes.specs.ShapeRounds.{puts_added, FullIsPaid}
 use Rattle.cat_text.specs.ReportGrammar.{IsReportReply, StandByCaller}
 use Rattle.caller_rounds.specs.Apart.{AreApart, TookPlace, changes_asked}

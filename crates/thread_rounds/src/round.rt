@@ -10,7 +10,7 @@ ghost use Rattle.thread_rounds.specs.RunRounds.{IsRun};
 
 use crate::counting::placed;
 use crate::worker::{Played, plays};
-use cat_history::{Listed, NoMemory, Record, Records, RoundPlan};
+use cat_history::{Items, NoMemory, Record, Records, RoundPlan};
 use index_core::Core;
 use pac_index::{Caller, Crashed, Gate, Shared};
 use pm_words::Image;
@@ -75,7 +75,7 @@ fn joined(
     let met = shared.close(alloc, callers)?;
     let writes = met.history().len() as u64;
     Ok(Round {
-        records: Listed::of(records),
+        records: Items::of(records),
         writes,
         finish: Finish::Joined(met),
     })
@@ -95,7 +95,7 @@ fn crashed(
     let Crashed { image, cuts: _ } = shared.crash(alloc, callers, seed)?;
     let writes = placed(records.as_slice());
     Ok(Round {
-        records: Listed::of(records),
+        records: Items::of(records),
         writes,
         finish: Finish::Crashed(image),
     })

@@ -3,14 +3,14 @@
 ghost use Rattle.std.specs.Prelude.{◌≡◌};
 ghost use Rattle.transcript.specs.declared.asking.Judged.TheVariants.{NoMemory};
 
-use cat_history::{Budgets, CallerOp, Listed};
+use cat_history::{Budgets, CallerOp, Items};
 use std::alloc::AllocError;
 
 /// A caller's number, and what it asks.
 pub type AskedCall = CallerOp;
 
 /// The calls of a round, in the order of the script.
-pub type Asked = Listed<AskedCall>;
+pub type Asked = Items<AskedCall>;
 
 /// What is said of the end of a round.
 #[derive(Drop)]

@@ -19,7 +19,7 @@ use crate::asking::RoundEnd;
 use crate::forms::{all_answered, all_have_form, all_keep_budgets, is_writer};
 use crate::names::{Names, change, change_all, names_of};
 use crate::stops::stop_once;
-use cat_history::{Change, CutMark, Listed, Op, Pairs, Record, Reply, Write};
+use cat_history::{Change, CutMark, Items, Op, Pairs, Record, Reply, Write};
 use cat_key::Pair;
 use std::alloc::Global;
 
@@ -142,5 +142,5 @@ pub(crate) fn pairs_in(alloc: Global, names: Names) -> Result<Pairs, NoMemory>
     for (name, value) in names {
         pairs.push(Pair { name, value })?;
     }
-    Ok(Listed::of(pairs))
+    Ok(Items::of(pairs))
 }

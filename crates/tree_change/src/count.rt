@@ -48,7 +48,7 @@ impl Machine for Count {
 impl Count {
     ghost use Rattle.std.specs.Prelude.{◌≡◌, ◌<◌};
     ghost use Rattle.pm_words.specs.Layouts.{IsLayout};
-    ghost use Rattle.search_layer.specs.Advances.{AdvancesTo};
+    ghost use Rattle.pm_words.specs.Turns.{AdvancesTo};
     ghost use Rattle.tree_floor.specs.Floors.{IsCellOf};
     ghost use Rattle.tree_change.specs.Counts.{IsCount, count_starts, count_takes, count_turned};
 

@@ -51,7 +51,7 @@ impl FindRoom {
     ghost use Rattle.std.specs.Prelude.{◌≡◌, ◌<◌, ◌≤◌};
     ghost use Rattle.pm_words.specs.Layouts.{IsLayout};
     ghost use Rattle.tree_law.specs.Words.{kind_of};
-    ghost use Rattle.search_layer.specs.Advances.{AdvancesTo};
+    ghost use Rattle.pm_words.specs.Turns.{AdvancesTo};
     ghost use Rattle.tree_floor.specs.Floors.{IsCellOf};
     ghost use Rattle.tree_change.specs.FindRooms.{IsFindRoom, find_room_starts, find_room_takes, find_room_turned};
 

@@ -87,7 +87,7 @@ impl Machine for Finish {
 impl Finish {
     ghost use Rattle.std.specs.Prelude.{◌≡◌, ◌≢◌, ◌<◌};
     ghost use Rattle.pm_words.specs.Layouts.{IsLayout};
-    ghost use Rattle.search_layer.specs.Advances.{AdvancesTo};
+    ghost use Rattle.pm_words.specs.Turns.{AdvancesTo};
     ghost use Rattle.tree_change.specs.Finishes.{IsFinish, IsTarget, IsMarked, finish_starts, quiet_starts};
     ghost use Rattle.tree_change.specs.Finishes.{finish_takes, finish_turned, finish_to, unmarks};
 

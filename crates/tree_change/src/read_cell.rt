@@ -51,7 +51,7 @@ impl Machine for ReadCell {
 impl ReadCell {
     ghost use Rattle.std.specs.Prelude.{◌≡◌, ◌<◌};
     ghost use Rattle.pm_words.specs.Layouts.{IsLayout};
-    ghost use Rattle.search_layer.specs.Advances.{AdvancesTo};
+    ghost use Rattle.pm_words.specs.Turns.{AdvancesTo};
     ghost use Rattle.tree_floor.specs.Floors.{IsCellOf};
     ghost use Rattle.tree_change.specs.Reads.{IsReadCell, read_starts, read_takes, read_turned};
 

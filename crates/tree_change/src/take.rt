@@ -67,7 +67,7 @@ impl Take {
     ghost use Rattle.std.specs.Prelude.{◌≡◌, ◌<◌, ◌≤◌};
     ghost use Rattle.pm_words.specs.Layouts.{IsLayout};
     ghost use Rattle.pm_words.specs.Locations.{leaf_count};
-    ghost use Rattle.search_layer.specs.Advances.{AdvancesTo};
+    ghost use Rattle.pm_words.specs.Turns.{AdvancesTo};
     ghost use Rattle.tree_change.specs.Takes.{IsTake, take_starts, take_takes, take_turned, take_seeks};
 
     /// It takes one of this kind.

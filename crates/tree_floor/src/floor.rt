@@ -108,7 +108,7 @@ impl Floor {
     ghost use Rattle.cat_key.specs.declared.TheConstants.{WORDS};
     ghost use Rattle.radix_nodes.specs.Keys.{key_bytes};
     ghost use Rattle.pm_words.specs.Layouts.{IsLayout};
-    ghost use Rattle.search_layer.specs.Advances.{AdvancesTo};
+    ghost use Rattle.pm_words.specs.Turns.{AdvancesTo};
     ghost use Rattle.tree_floor.specs.Floors.{IsFloor, IsCellOf, floor_starts, floor_takes, floor_turned};
     ghost use Rattle.tree_floor.specs.Floors.{goes_to, lands, back, enters, scans, has_key, has_key_word, has_depth};
     ghost use Rattle.tree_floor.specs.Floors.{has_prefix, has_prefix_word, has_scanned};

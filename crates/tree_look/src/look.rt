@@ -131,7 +131,7 @@ impl Look {
     ghost use Rattle.std.specs.Prelude.{◌≡◌, ◌<◌, ◌^◌};
     ghost use Rattle.radix_nodes.specs.Keys.{key_bytes};
     ghost use Rattle.pm_words.specs.Layouts.{IsLayout};
-    ghost use Rattle.search_layer.specs.Advances.{AdvancesTo};
+    ghost use Rattle.pm_words.specs.Turns.{AdvancesTo};
     ghost use Rattle.tree_look.specs.Looks.{IsLook, look_starts, look_takes, look_turned, goes_to, lands, parts};
     ghost use Rattle.tree_look.specs.Looks.{has_key, has_key_word, has_depth, has_prefix, has_prefix_word, has_found};
 

@@ -3,9 +3,9 @@ use Rattle.std.proofs.Common.{◌≡◌, ℕ, refl, ap}
 use Rattle.pm_words.specs.declared.machine.Turn.{Turn}
 use Rattle.pm_words.specs.declared.machine.Turn.TheVariants.{Go, Done}
 use Rattle.call_stages.specs.Watches.{lets_go}
-use Rattle.turn_row.specs.RowStages.{RowLine, RowTarget, Resting, Between, HasTarget}
-use Rattle.turn_row.specs.RowSteps.{RowStep}
-use Rattle.turn_row.specs.Turnings.{SeesTarget, TurnFoot}
+use Rattle.updater_row_law.specs.RowStages.{RowLine, RowTarget, Resting, Between, HasTarget}
+use Rattle.updater_row_law.specs.RowSteps.{RowStep}
+use Rattle.updater_row_law.specs.Turnings.{SeesTarget, TurnFoot}
 use Rattle.updater.specs.declared.taking.TakeTurn.{TakeTurn}
 use Rattle.updater.specs.declared.taking.Took.{Took}
 use Rattle.updater.specs.declared.taking.Took.TheVariants.{Taken, Held}

@@ -2,6 +2,7 @@
 use Rattle.std.proofs.Common.{◌≡◌, ℕ, ◌+◌, ◌*◌, ◌<◌, ◌≤◌, ◌==◌, ◌&&◌, not, Bool, true, false, cond, ltb, leb, List, [], ◌∷◌, inl, inr, refl, sym, subst, ap, arith}
 use Rattle.std.specs.Prelude.{slice_set}
 use Rattle.std.proofs.lemmas.Bool.{eqb-true, eqb-false, ltb-true, ltb-false, leb-true, leb-false}
+use Rattle.pm_words.specs.Codes.{gone_status, free_status, ready_state, merge_kind}
 use Rattle.pm_words.specs.declared.layout.Layout.{Layout}
 use Rattle.pm_words.specs.declared.action.Action.{Action}
 use Rattle.pm_words.specs.declared.action.Action.TheVariants.{Load, Store}
@@ -11,7 +12,7 @@ use Rattle.pm_words.specs.Locations.{Leaf, Cached, address_of, row_words}
 use Rattle.pm_words.proofs.Apart.{addresses_within}
 use Rattle.version_lock.specs.Versions.{is_worn_word, IsFree}
 use Rattle.version_lock.proofs.WordTests.{free_is}
-use Rattle.call_stages.specs.Kinds.{gone_status, free_status, status_address, version_address, Told}
+use Rattle.call_stages.specs.Kinds.{status_address, version_address, Told}
 use Rattle.data_list.specs.declared.target.Walked.{Walked}
 use Rattle.data_list.specs.declared.target.Walked.TheVariants as walked
 use Rattle.data_list.specs.declared.walk.Walk.{Walk}
@@ -37,11 +38,11 @@ use Rattle.smo_log.specs.declared.line.Entry.{Entry}
 use Rattle.smo_log.specs.declared.read.ReadLine.{ReadLine}
 use Rattle.smo_log.specs.LogLines.{numbered_address}
 use Rattle.smo_log.specs.Reads.{read_asks, read_turned, seen_in}
-use Rattle.turn_row.specs.Columns.{RowTerms}
-use Rattle.turn_row.specs.RowStages.{RowLine, line_read, RowStage, Resting, Between, Reads, Lands, HasTarget, Changes, Stamps, Clears, Sweeps, Gone, HasStamp, IsUnworn, Frees, Counts, after_line as line_done, after_node as node_done, after_change as change_done}
-use Rattle.turn_row.specs.RowStages as rows
-use Rattle.turn_row.specs.RowSteps.{RowStep, line_at}
-use Rattle.turn_row.specs.RowSteps as steps
+use Rattle.updater_row_law.specs.Columns.{RowTerms}
+use Rattle.updater_row_law.specs.RowStages.{RowLine, line_read, RowStage, Resting, Between, Reads, Lands, HasTarget, Changes, Stamps, Clears, Sweeps, Gone, HasStamp, IsUnworn, Frees, Counts, after_line as line_done, after_node as node_done, after_change as change_done}
+use Rattle.updater_row_law.specs.RowStages as rows
+use Rattle.updater_row_law.specs.RowSteps.{RowStep, line_at}
+use Rattle.updater_row_law.specs.RowSteps as steps
 use Rattle.updater.specs.declared.taking.Took.TheVariants as took
 use Rattle.updater.specs.declared.terms.Terms.{Terms}
 use Rattle.updater.specs.declared.terms.Found.{Found}
@@ -49,9 +50,8 @@ use Rattle.updater.specs.declared.work.Work.{Work}
 use Rattle.updater.specs.declared.work.WorkAt.{WorkAt}
 use Rattle.updater.specs.declared.work.WorkAt.TheVariants as at
 use Rattle.updater.specs.Takings.{taking_asks, taking_from}
-use Rattle.turn_law.specs.Covers.{ready_state, merge_kind}
-use Rattle.turn_row.specs.Columns.{line_count}
-use Rattle.turn_row.specs.RowStages.{are_same}
+use Rattle.updater_row_law.specs.Columns.{line_count}
+use Rattle.updater_row_law.specs.RowStages.{are_same}
 use Rattle.updater.specs.Works.{work_at_asks, after_line, reads_fields, saw_state, changes, clears, changed, after_node, saw_status, saw_stamp, saw_version, after_count, on, leaves, found_at, saw_again, has_read, has_landed, has_walked, has_set, has_unset, has_released, work_at_turned, IsReading, IsWalkTo, IsWorkAt}
 use Rattle.updater.proofs.WalkLoads.{walk_place, walk_told}
 use Rattle.updater.specs.Steps.{row_terms, line_of, target_of, release_stage, work_at_stage, work_stage, stage_after, stage_taken, TakingsAreSteps, WorksStart, WorksAreSteps}

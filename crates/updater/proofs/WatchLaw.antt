@@ -1,5 +1,6 @@
 -- Each turn is a watch, and sees the target that it finds.
 use Rattle.std.proofs.Common.{◌≡◌, ℕ, ◌+◌, ◌<◌, ◌==◌, ◌&&◌, not, Bool, true, false, cond, refl, sym, subst, ap, ◌∙◌, arith}
+use Rattle.pm_words.specs.Codes.{free_status}
 use Rattle.pm_words.specs.declared.layout.Layout.{Layout}
 use Rattle.pm_words.specs.declared.action.Action.{Action}
 use Rattle.pm_words.specs.declared.action.Action.TheVariants.{Load}
@@ -7,7 +8,7 @@ use Rattle.pm_words.specs.declared.machine.Turn.{Turn}
 use Rattle.pm_words.specs.declared.machine.Turn.TheVariants.{Go, Done}
 use Rattle.pm_words.specs.Locations.{Line, Cached, address_of}
 use Rattle.pm_words.proofs.Apart.{addresses_apart}
-use Rattle.call_stages.specs.Kinds.{free_status, Told}
+use Rattle.call_stages.specs.Kinds.{Told}
 use Rattle.call_stages.specs.Watches.{Watching, Watch, lets_go}
 use Rattle.data_list.specs.declared.key.KeyWords.{KeyWords}
 use Rattle.data_list.specs.declared.target.Walked.{Walked}
@@ -33,8 +34,8 @@ use Rattle.smo_log.specs.declared.read.ReadLine.{ReadLine}
 use Rattle.smo_log.specs.LogLines.{numbered_address, caller_of, index_of}
 use Rattle.smo_log.specs.Reads.{read_turned}
 use Rattle.smo_log.proofs.LineLaw.{caller_within, index_within}
-use Rattle.turn_row.specs.Columns.{line_count}
-use Rattle.turn_row.specs.RowStages.{RowLine, RowTarget, HasTarget}
+use Rattle.updater_row_law.specs.Columns.{line_count}
+use Rattle.updater_row_law.specs.RowStages.{RowLine, RowTarget, HasTarget}
 use Rattle.updater.specs.declared.terms.Terms.{Terms}
 use Rattle.updater.specs.declared.terms.Turned.{Turned}
 use Rattle.updater.specs.declared.terms.Found.{Found}
@@ -43,7 +44,7 @@ use Rattle.updater.specs.declared.work.WorkAt.{WorkAt}
 use Rattle.updater.specs.declared.work.WorkAt.TheVariants as at
 use Rattle.updater.specs.Works.{work_at_asks, work_asks, after_line, reads_fields, changes, clears, changed, after_node, on, leaves, saw_again, has_read, has_landed, has_walked, has_set, has_unset, has_released, work_at_turned, work_turned, IsWalkTo, IsWorkAt, ToldOfLine}
 use Rattle.updater.specs.Steps.{row_terms, line_of, target_of, release_stage, work_at_stage, stage_after}
-use Rattle.turn_row.specs.Turnings.{SeesTarget}
+use Rattle.updater_row_law.specs.Turnings.{SeesTarget}
 use Rattle.updater.specs.Watches.{work_at_watching, work_watching, SeesFound, WorkWatches, WorksAreWatches, TargetsAreSeen, KeysHaveOneNumber, WalksAreTold}
 use Rattle.updater.proofs.WalkLoads.{LoadsApart, walk_place, walk_told, turn_told}
 

@@ -2,12 +2,12 @@
 use Rattle.std.proofs.Common.{◌≡◌, ◌≢◌, ℕ, ◌+◌, ◌^◌, ◌<◌, ◌≤◌, ◌==◌, ◌&&◌, ◌↔◌, not, Bool, true, false, cond, ltb, inl, inr, refl, sym, subst, ap, ◌∙◌, add-one, arith}
 use Rattle.std.specs.Prelude.{slice_set}
 use Rattle.std.proofs.lemmas.Bool.{cases_eq, eqb-true, eqb-false, eq-eqb, ltb-false, and_from}
+use Rattle.pm_words.specs.Codes.{free_status, gone_status, merge_kind}
 use Rattle.pm_words.specs.declared.layout.Layout.{Layout}
 use Rattle.pm_words.specs.declared.action.Action.TheVariants.{Store}
 use Rattle.pm_words.specs.declared.machine.Turn.{Turn}
 use Rattle.pm_words.specs.declared.machine.Turn.TheVariants.{Go, Done}
 use Rattle.version_lock.specs.Versions.{is_worn_word}
-use Rattle.call_stages.specs.Kinds.{free_status, gone_status}
 use Rattle.data_list.specs.declared.target.Walked.{Walked}
 use Rattle.data_list.specs.declared.target.Walked.TheVariants as walked
 use Rattle.data_list.specs.declared.walk.Walk.{Walk}
@@ -34,9 +34,8 @@ use Rattle.updater.specs.declared.terms.Found.{Found}
 use Rattle.updater.specs.declared.work.Work.{Work}
 use Rattle.updater.specs.declared.work.WorkAt.{WorkAt}
 use Rattle.updater.specs.declared.work.WorkAt.TheVariants as at
-use Rattle.turn_law.specs.Covers.{merge_kind}
-use Rattle.turn_row.specs.Columns.{line_count}
-use Rattle.turn_row.specs.RowStages.{are_same}
+use Rattle.updater_row_law.specs.Columns.{line_count}
+use Rattle.updater_row_law.specs.RowStages.{are_same}
 use Rattle.updater.specs.Works.{after_line, reads_fields, saw_state, changes, clears, changed, after_node, saw_status, allows, saw_stamp, saw_version, after_count, on, leaves, found_at, saw_again, has_read, has_landed, has_walked, has_set, has_unset, has_released, work_at_asks, work_at_turned, IsOnLine, IsWorkAt, IsTerms}
 use Rattle.updater.specs.Takings.{updater_address}
 use Rattle.updater.specs.Events.{Heard, SaysSo, word_led, how_many, stands, was_ready, is_emptied, is_left, is_freed, NoneFree, EndsSo, IsTold, HasLines, HasNodes, IsFoundBy, HasHeard, Heeds, WorksBegin, WorksHeed, WorksLeave}

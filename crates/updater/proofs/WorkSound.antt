@@ -3,12 +3,13 @@ use Rattle.std.proofs.Common.{◌≡◌, ◌≢◌, ℕ, zero, suc, ◌+◌, ◌
 use Rattle.std.specs.Prelude.{slice_set}
 use Rattle.std.proofs.lemmas.Bool.{cases_eq, ltb-true, ltb-false}
 use Rattle.std.proofs.lemmas.List.{length-set, get_or-set_same, get_or-set_other}
+use Rattle.pm_words.specs.Codes.{gone_status, ready_state, merge_kind}
 use Rattle.pm_words.specs.declared.layout.Layout.{Layout}
 use Rattle.pm_words.specs.declared.action.Action.TheVariants.{Load}
 use Rattle.pm_words.specs.declared.machine.Turn.{Turn}
 use Rattle.pm_words.specs.declared.machine.Turn.TheVariants.{Go, Done}
 use Rattle.version_lock.specs.Versions.{is_worn_word}
-use Rattle.call_stages.specs.Kinds.{gone_status, Told}
+use Rattle.call_stages.specs.Kinds.{Told}
 use Rattle.data_list.specs.declared.target.Walked.{Walked}
 use Rattle.data_list.specs.declared.target.Walked.TheVariants as walked
 use Rattle.data_list.specs.declared.walk.Walk.{Walk}
@@ -41,9 +42,8 @@ use Rattle.updater.specs.declared.terms.Found.{Found}
 use Rattle.updater.specs.declared.work.Work.{Work}
 use Rattle.updater.specs.declared.work.WorkAt.{WorkAt}
 use Rattle.updater.specs.declared.work.WorkAt.TheVariants as at
-use Rattle.turn_law.specs.Covers.{ready_state, merge_kind}
-use Rattle.turn_row.specs.Columns.{line_count}
-use Rattle.turn_row.specs.RowStages.{are_same}
+use Rattle.updater_row_law.specs.Columns.{line_count}
+use Rattle.updater_row_law.specs.RowStages.{are_same}
 use Rattle.updater.specs.Works.{work_at_asks, after_line, reads_fields, saw_state, lands, walks, changes, clears, changed, after_node, saw_status, allows, saw_stamp, saw_version, after_count, on, leaves, found_at, saw_again, has_read, has_landed, has_walked, has_set, has_unset, has_released, work_at_turned, IsTerms, IsEntry, IsOnLine, IsOnNode, IsThrough, IsReading, IsWalkTo, IsWorkAt, ToldOfLine}
 use Rattle.updater.specs.Laws.{WorkStays, WorksStaySound}
 use Rattle.updater.proofs.WalkLoads.{walk_told}

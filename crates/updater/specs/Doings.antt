@@ -10,7 +10,7 @@ use Rattle.smo_log.specs.LogLines.{numbered_address}
 use Rattle.updater.specs.declared.terms.Terms.{Terms}
 use Rattle.updater.specs.declared.work.Work.{Work}
 use Rattle.updater.specs.Takings.{updater_address}
-use Rattle.turn_row.specs.Columns.{line_count}
+use Rattle.updater_row_law.specs.Columns.{line_count}
 use Rattle.updater.specs.Works.{work_asks, IsWork}
 use Rattle.updater.specs.Events.{Heard, is_emptied, is_freed, word_led, HasHeard}
 

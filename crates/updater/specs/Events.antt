@@ -1,12 +1,12 @@
 -- What a turn of the updater answers, by what it was told.
 use Rattle.std.specs.Prelude.{◌≡◌, ◌≢◌, ℕ, zero, suc, ◌+◌, ◌<◌, ◌==◌, ◌&&◌, ◌↔◌, not, nat_le, Bool, true, false}
 use Rattle.std.specs.Prelude.{if◌then◌else◌}
+use Rattle.pm_words.specs.Codes.{free_status, gone_status, ready_state, merge_kind}
 use Rattle.pm_words.specs.declared.layout.Layout.{Layout}
 use Rattle.pm_words.specs.declared.action.Action.TheVariants.{Store}
 use Rattle.pm_words.specs.declared.machine.Turn.{Turn}
 use Rattle.pm_words.specs.declared.machine.Turn.TheVariants.{Go, Done}
 use Rattle.version_lock.specs.Versions.{is_worn_word}
-use Rattle.call_stages.specs.Kinds.{free_status, gone_status}
 use Rattle.data_list.specs.declared.target.Walked.{Walked}
 use Rattle.data_list.specs.declared.target.Walked.TheVariants as walked
 use Rattle.data_list.specs.declared.walk.Walk.{Walk}
@@ -22,11 +22,9 @@ use Rattle.updater.specs.declared.terms.Found.{Found}
 use Rattle.updater.specs.declared.work.Work.{Work}
 use Rattle.updater.specs.declared.work.WorkAt.{WorkAt}
 use Rattle.updater.specs.declared.work.WorkAt.TheVariants as at
-use Rattle.turn_law.specs.Covers.{ready_state}
-use Rattle.turn_row.specs.Columns.{line_count}
+use Rattle.updater_row_law.specs.Columns.{line_count}
 use Rattle.updater.specs.Works.{work_from, work_asks, work_turned, work_takes}
-use Rattle.turn_law.specs.Covers.{merge_kind}
-use Rattle.turn_row.specs.RowStages.{are_same}
+use Rattle.updater_row_law.specs.RowStages.{are_same}
 use Rattle.updater.specs.Works.{allows, found_at}
 use Rattle.updater.specs.Takings.{updater_address}
 

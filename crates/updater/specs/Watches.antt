@@ -12,9 +12,9 @@ use Rattle.data_list.specs.Walks.{walk_asks}
 use Rattle.data_list.specs.WalkStages.{walk_watching}
 use Rattle.search_layer.specs.Keys.{key_number}
 use Rattle.smo_log.specs.declared.line.Entry.{Entry}
-use Rattle.turn_row.specs.Columns.{RowTerms}
-use Rattle.turn_row.specs.RowStages.{RowLine, RowTarget, RowStage, Resting, HasTarget}
-use Rattle.turn_row.specs.Turnings.{Turning, SeesTarget, TurnFoot}
+use Rattle.updater_row_law.specs.Columns.{RowTerms}
+use Rattle.updater_row_law.specs.RowStages.{RowLine, RowTarget, RowStage, Resting, HasTarget}
+use Rattle.updater_row_law.specs.Turnings.{Turning, SeesTarget, TurnFoot}
 use Rattle.updater.specs.declared.terms.Terms.{Terms}
 use Rattle.updater.specs.declared.terms.Turned.{Turned}
 use Rattle.updater.specs.declared.work.Work.{Work}

@@ -1,6 +1,7 @@
 -- A turn of the updater, step by step.
 use Rattle.std.specs.Prelude.{◌≡◌, ◌≢◌, ℕ, ◌+◌, ◌-◌, ◌*◌, ◌^◌, ◌<◌, ◌≤◌, ◌==◌, ◌&&◌, not, nat_lt, nat_le, Bool, true}
 use Rattle.std.specs.Prelude.{if◌then◌else◌, [], ◌∷◌, length, slice_index}
+use Rattle.pm_words.specs.Codes.{free_status, gone_status, ready_state, merge_kind}
 use Rattle.pm_words.specs.declared.layout.Layout.{Layout}
 use Rattle.pm_words.specs.declared.action.Action.{Action}
 use Rattle.pm_words.specs.declared.action.Action.TheVariants.{Load, Store}
@@ -8,7 +9,7 @@ use Rattle.pm_words.specs.declared.machine.Turn.{Turn}
 use Rattle.pm_words.specs.declared.machine.Turn.TheVariants.{Go, Done}
 use Rattle.pm_words.specs.Layouts.{IsLayout}
 use Rattle.version_lock.specs.Versions.{is_worn_word}
-use Rattle.call_stages.specs.Kinds.{version_address, status_address, free_status, gone_status, Told}
+use Rattle.call_stages.specs.Kinds.{version_address, status_address, Told}
 use Rattle.data_list.specs.declared.target.Target.{Target}
 use Rattle.data_list.specs.declared.target.Walked.{Walked}
 use Rattle.data_list.specs.declared.target.Walked.TheVariants as walked
@@ -31,9 +32,8 @@ use Rattle.smo_log.specs.declared.read.ReadLine.{ReadLine}
 use Rattle.smo_log.specs.LogLines.{numbered_address}
 use Rattle.smo_log.specs.Reads.{IsRead, read_from, read_asks, read_turned, read_left}
 use Rattle.smo_log.specs.States.{IsClear, clear_from, clear_asks}
-use Rattle.turn_law.specs.Covers.{ready_state, merge_kind}
-use Rattle.turn_row.specs.Columns.{line_count}
-use Rattle.turn_row.specs.RowStages.{are_same}
+use Rattle.updater_row_law.specs.Columns.{line_count}
+use Rattle.updater_row_law.specs.RowStages.{are_same}
 use Rattle.updater.specs.declared.terms.Terms.{Terms}
 use Rattle.updater.specs.declared.terms.Tally.{Tally}
 use Rattle.updater.specs.declared.terms.Turned.{Turned}

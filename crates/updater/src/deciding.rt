@@ -6,16 +6,13 @@ use crate::terms::{Found, Terms};
 use crate::work::WorkAt;
 use data_list::Walk;
 use pm_alloc::Release;
-use pm_words::{KEY, LINES};
+use pm_words::codes::kind::MERGE;
+use pm_words::codes::state::READY;
+use pm_words::codes::status::GONE;
+use pm_words::{KEY, LOG_LINES};
 use search_layer::{Floor, Set, Unset};
-use smo_log::{Clear, Entry, KIND_MERGE, ReadLine};
+use smo_log::{Clear, Entry, ReadLine};
 use version_lock::{GENERATION_UNIT, LAST_COUNT, generation_in};
-
-/// The state of a line whose change is done, but for the search layer.
-const READY: u64 = 2;
-
-/// The status of a node that was merged into another.
-const GONE: u64 = 2;
 
 impl Terms {
     ghost use Rattle.std.specs.Prelude.{◌≡◌, ◌+◌, ◌*◌, ◌<◌};
@@ -29,7 +26,7 @@ impl Terms {
         requires line { line < 8 * self.now.layout.callers }
         ensures { result ≡ after_line self.now line }
     {
-        if line + 1 < LINES * self.layout.callers() {
+        if line + 1 < LOG_LINES * self.layout.callers() {
             return WorkAt::State { line: line + 1 };
         }
         WorkAt::Status { node: 0 }
@@ -100,7 +97,7 @@ impl Terms {
         requires line { line < 8 * self.now.layout.callers }
         ensures { result ≡ changed self.now line entry }
     {
-        if entry.kind == KIND_MERGE {
+        if entry.kind == MERGE {
             return WorkAt::Stamping { line, entry };
         }
         self.clears(line)
@@ -189,7 +186,7 @@ impl Terms {
 }
 
 ghost use Rattle.version_lock.specs.Versions.{is_worn_word};
-ghost use Rattle.turn_row.specs.RowStages.{are_same};
+ghost use Rattle.updater_row_law.specs.RowStages.{are_same};
 
 /// Whether the node's lock can't be taken any more in this generation.
 fn is_worn(version: u64, generation: u64) -> bool

@@ -38,7 +38,7 @@ pub fn works_do()
 ghost use Rattle.updater.specs.Steps.{TakingsAreSteps, WorksStart, WorksAreSteps};
 
 /// Each turn is a step of a turn on rows of words, whatever number it is told of those that its action may give. That
-/// these steps keep what is lawful is `turn_row`'s, which rests on the walk's promise where a walk ends at a target.
+/// these steps keep what is lawful is `updater_row_law`'s, which rests on the walk's promise where a walk ends at a target.
 pub fn turns_are_steps()
     ensures takings { TakingsAreSteps }
     ensures starts { WorksStart }

@@ -55,7 +55,7 @@ impl Machine for MakeTurn {
 impl MakeTurn {
     ghost use Rattle.pm_words.specs.Layouts.{IsLayout};
     ghost use Rattle.pm_words.specs.Turns.{GoesBelow};
-    ghost use Rattle.data_list.specs.Advances.{AdvancesTo};
+    ghost use Rattle.pm_words.specs.Turns.{AdvancesTo};
     ghost use Rattle.updater.specs.Makings.{IsMaking, making_from, making_left, making_takes, making_turned};
 
     /// A turn with this stamp and release, in the generation of this run.

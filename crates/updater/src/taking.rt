@@ -1,15 +1,8 @@
 ghost use Rattle.std.specs.Prelude.{◌≡◌, ◌^◌, ◌<◌};
 
+use pm_words::codes::updater_lock::{TAKEN, UNTAKEN};
+use pm_words::offsets::shared::UPDATER;
 use pm_words::{Action, Layout, Machine, Turn};
-
-/// The address of the updater lock.
-pub(crate) const UPDATER: u64 = 1;
-
-/// The word of the updater lock while no party has it.
-pub(crate) const UNTAKEN: u64 = 0;
-
-/// The word of the updater lock while a party has it.
-const TAKEN: u64 = 1;
 
 /// How an attempt at the updater lock ended.
 #[derive(Clone, Copy, PartialEq, Eq, Debug)]

@@ -20,17 +20,16 @@
 
 ghost use Rattle.std.specs.Prelude.{◌≡◌, ℕ, ◌+◌, ◌*◌, ◌<◌, ◌≤◌};
 
-use crate::taking::{UNTAKEN, UPDATER};
 use crate::terms::{Found, Tally, Terms, Turned};
 use data_list::{Walk, Walked};
 use pm_alloc::Release;
+use pm_words::codes::status::FREE;
+use pm_words::codes::updater_lock::UNTAKEN;
+use pm_words::offsets::shared::UPDATER;
 use pm_words::offsets::{node, volatile};
 use pm_words::{Action, Layout, Machine, Turn};
 use search_layer::{Floor, Set, Unset};
 use smo_log::{Clear, Entry, ReadLine};
-
-/// The status of a node that is not in use.
-const FREE: u64 = 0;
 
 /// A turn of the updater, which has taken the updater lock for it.
 #[derive(Clone, Copy)]
@@ -160,7 +159,7 @@ impl Work {
     ghost use Rattle.std.specs.Prelude.{◌≡◌, ◌≤◌};
     ghost use Rattle.pm_words.specs.Layouts.{IsLayout};
     ghost use Rattle.pm_words.specs.Turns.{GoesBelow};
-    ghost use Rattle.data_list.specs.Advances.{AdvancesTo};
+    ghost use Rattle.pm_words.specs.Turns.{AdvancesTo};
     ghost use Rattle.updater.specs.Works.{IsWork, work_from, work_takes, work_turned, work_left};
 
     /// A turn with this stamp and release, in the generation of this run.

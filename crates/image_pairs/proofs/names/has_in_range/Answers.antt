@@ -2,7 +2,7 @@ use Rattle.std.proofs.Common.{◌<◌, ◌≤◌, nat_lt, not, ap, sym, subst, �
 use Rattle.std.proofs.lemmas.Bool.{eq-eqb, ltb-true, ltb-false}
 use Rattle.data_node.specs.Lists.{number_of}
 use Rattle.data_node.proofs.KeyLemmas.{anchor-number}
-use Rattle.sound_image.specs.Nodes.{image_spot}
+use Rattle.image_rules.specs.Nodes.{image_spot}
 use Rattle.image_pairs.proofs.PairWalks.{next_within, out_below, in_last, in_by_next}
 use Rattle.image_pairs.proofs.names.has_in_range.Goals as goal
 

@@ -4,7 +4,7 @@ use Rattle.std.specs.Int.{bit_at}
 use Rattle.cat_key.specs.Names.{AreNameWords, bytes_of}
 use Rattle.data_node.specs.Lists.{number_of, target_from}
 use Rattle.data_node.specs.Spots.{bitmap_offset, name_words}
-use Rattle.sound_image.specs.Nodes.{image_spot, image_list, image_range}
+use Rattle.image_rules.specs.Nodes.{image_spot, image_list, image_range}
 use Rattle.image_pairs.proofs.PairWalks.{range_of_words, live_named, found_name}
 use Rattle.image_pairs.proofs.names.name_in.Goals as goal
 

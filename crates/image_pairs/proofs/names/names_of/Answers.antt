@@ -1,7 +1,7 @@
 use Rattle.std.proofs.Common.{◌∙◌, sym, ap, ℕ, List, BTreeMap}
 use Rattle.std.specs.FinMap.{empty}
 use Rattle.cat_history.proofs.ReplayLemmas.{entries-none}
-use Rattle.sound_image.specs.Nodes.{image_spot, image_range}
+use Rattle.image_rules.specs.Nodes.{image_spot, image_range}
 use Rattle.image_pairs.proofs.SlotLemmas.{slot_puts, slot_leaves}
 use Rattle.image_pairs.proofs.names.names_of.Goals as goal
 use Rattle.image_pairs.proofs.names.names_of.Goals.{in-Some+in_ok-insert, in_default}

@@ -1,7 +1,7 @@
 use Rattle.std.proofs.Common.{◌≡◌}
 use Rattle.std.specs.FinMap.{empty, entries}
-use Rattle.sound_image.specs.Nodes.{image_spot, image_range}
-use Rattle.sound_image.specs.Sound.{with_slots}
+use Rattle.image_rules.specs.Nodes.{image_spot, image_range}
+use Rattle.image_rules.specs.Sound.{with_slots}
 use Rattle.image_pairs.proofs.names.names_of.Given as goal
 
 -- the names of the slots so far are in the tree

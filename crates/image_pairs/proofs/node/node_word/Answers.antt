@@ -1,5 +1,5 @@
 use Rattle.std.proofs.Common.{◌∙◌, ap, sym, slice_index}
-use Rattle.sound_image.proofs.WordLemmas.{image_spot-here, node_number}
+use Rattle.image_rules.proofs.WordLemmas.{image_spot-here, node_number}
 use Rattle.image_pairs.proofs.node.node_word.Goals as goal
 
 pub returns-clause-word : goal.returns-clause-word

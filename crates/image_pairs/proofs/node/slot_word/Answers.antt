@@ -1,6 +1,6 @@
 use Rattle.std.proofs.Common.{◌∙◌, ap, sym, slice_index, arith}
 use Rattle.data_node.specs.Spots.{slot_offset}
-use Rattle.sound_image.proofs.WordLemmas.{image_spot-here, node_number}
+use Rattle.image_rules.proofs.WordLemmas.{image_spot-here, node_number}
 use Rattle.image_pairs.proofs.node.slot_word.Goals as goal
 
 pub returns : goal.returns

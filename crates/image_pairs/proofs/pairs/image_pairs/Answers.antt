@@ -1,7 +1,7 @@
 use Rattle.std.proofs.Common.{◌∙◌, ap}
 use Rattle.cat_history.specs.Maps.{map_of}
 use Rattle.cat_history.proofs.ReplayLemmas.{map_of-pairs_of}
-use Rattle.sound_image.specs.Sound.{image_map}
+use Rattle.image_rules.specs.Sound.{image_map}
 use Rattle.image_pairs.proofs.pairs.image_pairs.Goals as goal
 
 pub returns-clause-map : goal.returns-clause-map

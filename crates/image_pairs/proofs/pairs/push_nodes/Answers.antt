@@ -1,8 +1,8 @@
 use Rattle.std.proofs.Common.{◌∙◌, List, sym, arith}
 use Rattle.std.specs.FinMap.{empty}
 use Rattle.cat_key.specs.declared.Pair.{Pair}
-use Rattle.sound_image.specs.Nodes.{image_spot, image_range}
-use Rattle.sound_image.specs.Sound.{with_slots}
+use Rattle.image_rules.specs.Nodes.{image_spot, image_range}
+use Rattle.image_rules.specs.Sound.{with_slots}
 use Rattle.image_pairs.proofs.PairWalks.{pairs_begin, pairs_end, pairs_on, next_within}
 use Rattle.image_pairs.proofs.pairs.push_nodes.Goals as goal
 

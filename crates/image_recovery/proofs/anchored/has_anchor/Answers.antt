@@ -2,7 +2,7 @@ use Rattle.std.proofs.Common.{◌≡◌, ◌∙◌, ap, sym, subst}
 use Rattle.std.specs.Prelude.{◌↔◌, IsTrue}
 use Rattle.data_node.specs.Lists.{anchor_in, number_of}
 use Rattle.data_node.proofs.KeyLemmas.{anchor-number}
-use Rattle.sound_image.specs.Nodes.{image_spot}
+use Rattle.image_rules.specs.Nodes.{image_spot}
 use Rattle.image_recovery.proofs.anchored.has_anchor.Goals as goal
 
 pub returns : goal.returns

@@ -3,8 +3,8 @@ use Rattle.std.proofs.lemmas.Bool.{false≢true}
 use Rattle.pm_words.specs.declared.layout.Layout.{Layout}
 use Rattle.data_node.specs.Lists.{number_of}
 use Rattle.data_node.proofs.PositionLemmas.{position_in}
-use Rattle.sound_image.specs.Nodes.{image_list, next_in}
-use Rattle.sound_image.proofs.WalkLemmas.{walk_on, walk_ends, walk_full, none_more}
+use Rattle.image_rules.specs.Nodes.{image_list, next_in}
+use Rattle.image_rules.proofs.WalkLemmas.{walk_on, walk_ends, walk_full, none_more}
 use Rattle.image_recovery.proofs.Walking.{HasKeyAt, sound_leads, key_of_list, no_key_at, no_key}
 use Rattle.image_recovery.proofs.anchored.node_with.Goals as goal
 

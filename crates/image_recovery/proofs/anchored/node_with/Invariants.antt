@@ -1,5 +1,5 @@
 use Rattle.data_node.specs.Lists.{number_of}
-use Rattle.sound_image.proofs.WalkLemmas.{Walks}
+use Rattle.image_rules.proofs.WalkLemmas.{Walks}
 use Rattle.image_recovery.proofs.Walking.{HasKeyAt}
 use Rattle.image_recovery.proofs.anchored.node_with.Given as goal
 

@@ -1,5 +1,5 @@
 use Rattle.std.proofs.Common.{◌≡◌, ◌+◌, [], ◌∷◌, ◌++◌, inl, inr, sym, subst}
-use Rattle.recovery_law.specs.Stages.{Sets}
+use Rattle.image_recovery_law.specs.Stages.{Sets}
 use Rattle.image_recovery.specs.declared.moves.Move.TheVariants.{Set}
 use Rattle.image_recovery.specs.Plans.{columns, PlansTo}
 use Rattle.image_recovery.proofs.PlanLemmas.{ok_then, used_if, empty_if, no_set, set}

@@ -1,4 +1,4 @@
-use Rattle.recovery_law.specs.Stages.{Sets}
+use Rattle.image_recovery_law.specs.Stages.{Sets}
 use Rattle.image_recovery.specs.Plans.{PlansTo}
 use Rattle.image_recovery.proofs.planning.plan_sets.Given as goal
 

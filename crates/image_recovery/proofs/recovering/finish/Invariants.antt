@@ -1,6 +1,6 @@
 use Rattle.std.proofs.Common.{◌≡◌, List}
 use Rattle.pm_words.specs.Images.{Row}
-use Rattle.recovery_law.specs.Moves as law
+use Rattle.image_recovery_law.specs.Moves as law
 use Rattle.image_recovery.specs.Plans.{columns, list_of}
 use Rattle.image_recovery.specs.Makings.{making_left}
 use Rattle.image_recovery.specs.MakingLaw.{IsAtMove}

@@ -1,6 +1,6 @@
 use Rattle.std.proofs.Common.{refl, subst}
 use Rattle.pm_words.specs.Images.{Row, IsImage}
-use Rattle.sound_layer.specs.Sound.{in_image}
+use Rattle.image_layer_rules.specs.Sound.{in_image}
 use Rattle.image_recovery.proofs.RecoveringLemmas.{is_recoverable, begins_plan}
 use Rattle.image_recovery.proofs.stepping.begin_sound.Goals as goal
 

@@ -2,7 +2,7 @@ use Rattle.std.proofs.Common.{◌≢◌, ◌∙◌, ap, sym, arith}
 use Rattle.std.proofs.lemmas.Bool.{eq-eqb, ltb-true, ltb-false, lt-ltb}
 use Rattle.data_node.specs.Lists.{number_of, anchor_in}
 use Rattle.data_node.proofs.KeyLemmas.{anchor-number}
-use Rattle.sound_image.specs.Nodes.{image_spot, next_in}
+use Rattle.image_rules.specs.Nodes.{image_spot, next_in}
 use Rattle.image_recovery.proofs.trim.is_between.Goals as goal
 
 pub returns-then-is_below : goal.returns-then-is_below

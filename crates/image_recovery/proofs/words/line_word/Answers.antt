@@ -1,8 +1,8 @@
 use Rattle.std.proofs.Common.{◌∙◌, ◌/◌, ◌%◌, ap, sym, slice_index}
 use Rattle.pm_words.specs.declared.layout.Layout.{Layout}
 use Rattle.pm_words.specs.Locations.{Line, word_number, word_at}
-use Rattle.turn_row.specs.Columns.{line_word}
-use Rattle.recovery_law.proofs.RowColumns.{word_if-here, has_line_word, line_here}
+use Rattle.updater_row_law.specs.Columns.{line_word}
+use Rattle.image_recovery_law.proofs.RowColumns.{word_if-here, has_line_word, line_here}
 use Rattle.image_recovery.proofs.words.line_word.Goals as goal
 
 pub returns : goal.returns

@@ -1,7 +1,7 @@
 use Rattle.std.proofs.Common.{◌∙◌, ap, sym, slice_index, arith}
 use Rattle.pm_words.specs.declared.layout.Layout.{Layout}
 use Rattle.pm_words.specs.Locations.{Node, word_number}
-use Rattle.sound_image.proofs.WordLemmas.{image_spot-here, image_spot-outside}
+use Rattle.image_rules.proofs.WordLemmas.{image_spot-here, image_spot-outside}
 use Rattle.image_recovery.proofs.words.node_word.Goals as goal
 
 pub returns-then-nodes-node : goal.returns-then-nodes-node

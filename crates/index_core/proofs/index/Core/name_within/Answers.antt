@@ -3,7 +3,7 @@ use Rattle.call_stages.specs.declared.once.Once.{Once}
 use Rattle.call_stages.specs.declared.once.Placed.{Placed}
 use Rattle.pm_words.specs.declared.layout.Layout.{Layout}
 use Rattle.std.specs.Prelude.{Some, None}
-use Rattle.lone_turn.specs.CallLogs.{ready_lines}
+use Rattle.lone_updater_law.specs.CallLogs.{ready_lines}
 use Rattle.index_core.specs.Costs.{most_actions}
 use Rattle.index_core.specs.Indexes.{Index, world}
 use Rattle.index_core.specs.Lone.{lacks_node, needs_split, whole_of}

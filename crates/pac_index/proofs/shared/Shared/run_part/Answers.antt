@@ -1,6 +1,6 @@
 use Rattle.std.proofs.Common.{sym, ap, ◌∙◌, subst}
 use Rattle.std.specs.Prelude.{IsSome, Option, Some, IfSome}
-use Rattle.data_list.specs.Advances.{turn_of}
+use Rattle.pm_words.specs.Turns.{turn_of}
 use Rattle.call_stages.specs.declared.once.Once.{Once}
 use Rattle.call_stages.specs.declared.once.Placed.{Placed}
 use Rattle.node_ops.specs.declared.part.PartWords.{PartWords}

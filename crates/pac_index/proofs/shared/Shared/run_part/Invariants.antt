@@ -1,6 +1,6 @@
 use Rattle.std.proofs.Common.{◌≡◌}
 use Rattle.std.specs.Prelude.{IfSome}
-use Rattle.data_list.specs.Advances.{turn_of}
+use Rattle.pm_words.specs.Turns.{turn_of}
 use Rattle.node_ops.specs.PartSteps.{IsEarly}
 use Rattle.index_core.specs.declared.party.CoreCall.TheVariants as call
 use Rattle.pac_index.specs.Budgets.{Pays}

@@ -1,5 +1,5 @@
 use Rattle.std.proofs.Common.{◌≡◌}
-use Rattle.data_list.specs.Advances.{turn_of}
+use Rattle.pm_words.specs.Turns.{turn_of}
 use Rattle.updater.specs.Makings.{worked}
 use Rattle.pac_index.specs.Budgets.{Pays}
 use Rattle.pac_index.specs.Kept.{IsLone, party}

@@ -1,7 +1,7 @@
 use Rattle.std.proofs.Common.{◌+◌, ap, ◌∙◌}
 use Rattle.pm_words.specs.declared.layout.Layout.{Layout}
 use Rattle.pm_words.specs.Images.{Row}
-use Rattle.sound_layer.specs.Sound.{in_image}
+use Rattle.image_layer_rules.specs.Sound.{in_image}
 use Rattle.index_core.specs.PartyStates.{idle_states}
 use Rattle.recovery.proofs.Opened.{keeps_base}
 use Rattle.recovery.proofs.stopping.Recovery.of_sound.Goals as goal

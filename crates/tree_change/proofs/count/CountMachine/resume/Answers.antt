@@ -1,6 +1,6 @@
 use Rattle.std.proofs.Common.{subst, ap, ◌∙◌}
 use Rattle.pm_words.specs.Turns.{GoesBelow}
-use Rattle.search_layer.specs.Advances.{turn_of}
+use Rattle.pm_words.specs.Turns.{turn_of}
 use Rattle.tree_change.specs.declared.others.Counted.{Counted}
 use Rattle.tree_change.specs.Counts.{count_left}
 use Rattle.tree_change.proofs.CountStays.{count_fewer}

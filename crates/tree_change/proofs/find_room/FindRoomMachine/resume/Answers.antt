@@ -1,6 +1,6 @@
 use Rattle.std.proofs.Common.{subst, ap, ◌∙◌}
 use Rattle.pm_words.specs.Turns.{GoesBelow}
-use Rattle.search_layer.specs.Advances.{turn_of}
+use Rattle.pm_words.specs.Turns.{turn_of}
 use Rattle.tree_change.specs.declared.room.Room.{Room}
 use Rattle.tree_change.specs.FindRooms.{find_room_left}
 use Rattle.tree_change.proofs.PlacesExact.{find_room_fewer}

@@ -1,6 +1,6 @@
 use Rattle.std.proofs.Common.{subst, ap, ◌∙◌}
 use Rattle.pm_words.specs.Turns.{GoesBelow}
-use Rattle.search_layer.specs.Advances.{turn_of}
+use Rattle.pm_words.specs.Turns.{turn_of}
 use Rattle.tree_change.specs.Finishes.{finish_left}
 use Rattle.tree_change.proofs.FinishStays.{finish_fewer}
 use Rattle.tree_change.proofs.finish.FinishMachine.resume.Goals as goal

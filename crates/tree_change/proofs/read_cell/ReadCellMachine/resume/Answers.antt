@@ -1,6 +1,6 @@
 use Rattle.std.proofs.Common.{subst, ap, ◌∙◌}
 use Rattle.pm_words.specs.Turns.{GoesBelow}
-use Rattle.search_layer.specs.Advances.{turn_of}
+use Rattle.pm_words.specs.Turns.{turn_of}
 use Rattle.radix_nodes.specs.declared.cell.Cell as cells
 use Rattle.tree_change.specs.Reads.{read_left}
 use Rattle.tree_change.proofs.ReadExact.{read_fewer}

@@ -1,7 +1,7 @@
 use Rattle.std.proofs.Common.{ℕ, subst, ap, ◌∙◌}
 use Rattle.pm_words.specs.Turns.{GoesBelow}
 use Rattle.tree_floor.specs.Floors.{floor_left}
-use Rattle.search_layer.specs.Advances.{turn_of}
+use Rattle.pm_words.specs.Turns.{turn_of}
 use Rattle.tree_floor.proofs.FloorStays.{floor_fewer}
 use Rattle.tree_floor.proofs.floor.FloorMachine.resume.Goals as goal
 

@@ -1,6 +1,6 @@
 use Rattle.std.proofs.Common.{subst, ap, ◌∙◌}
 use Rattle.pm_words.specs.Turns.{GoesBelow}
-use Rattle.search_layer.specs.Advances.{turn_of}
+use Rattle.pm_words.specs.Turns.{turn_of}
 use Rattle.tree_look.specs.declared.look.Looked.{Looked}
 use Rattle.tree_look.specs.Looks.{look_left}
 use Rattle.tree_look.proofs.LookStays.{look_fewer}

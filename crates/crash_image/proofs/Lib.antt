@@ -1,2 +1,0 @@
-pub mod TwinWords
-pub mod CrashLaw

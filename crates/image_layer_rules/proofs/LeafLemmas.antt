@@ -1,0 +1,61 @@
+-- The words of leaves and of lines, where the image has them and where it hasn't.
+use Rattle.std.proofs.Common.{◌≡◌, ℕ, ◌*◌, ◌/◌, ◌%◌, ◌^◌, ◌<◌, ◌≤◌, ◌&&◌, true, false, cond, List, refl, sym, ◌∙◌, arith, slice_index}
+use Rattle.std.specs.Prelude.{nat_lt}
+use Rattle.std.proofs.lemmas.Bool.{lt-ltb, le-ltb, ltb-true, and_parts}
+use Rattle.pm_words.specs.declared.layout.Layout.{Layout}
+use Rattle.pm_words.specs.Locations.{Line, Leaf, Cached, Durable, leaf_count, word_at, at}
+use Rattle.pm_words.specs.Rows.{durable_row, row_of}
+use Rattle.pm_words.proofs.Made.{durable_row-at, row_of-at}
+use Rattle.search_layer.specs.Leaves.{leaves_in}
+use Rattle.image_layer_rules.specs.Leaves.{image_leaves, line_word}
+use Rattle.image_layer_rules.specs.Laws.{CrashKeepsLeaves, StartCachesLeaves, CrashKeepsLines, StartCachesLines}
+
+pub image_leaves-here : (l : Layout) (image : List ℕ) (leaf offset : ℕ) → leaf < leaf_count l → offset < 8 → image_leaves l image leaf offset ≡ word_at l image (Leaf leaf offset)
+unfolding image_leaves
+image_leaves-here l image leaf offset here small = rw (lt-ltb leaf (leaf_count l) here, lt-ltb offset 8 small) refl
+
+pub image_leaves-outside : (l : Layout) (image : List ℕ) (leaf offset : ℕ) → leaf_count l ≤ leaf → image_leaves l image leaf offset ≡ 0
+unfolding image_leaves
+image_leaves-outside l image leaf offset out = rw (le-ltb leaf (leaf_count l) out) refl
+
+pub image_leaves-fits : (l : Layout) (image : List ℕ) (leaf offset : ℕ) → ((k : ℕ) → slice_index image k < 2 ^ 64) → image_leaves l image leaf offset < 2 ^ 64
+unfolding image_leaves
+image_leaves-fits l image leaf offset fits =
+    elim (nat_lt leaf (leaf_count l) && nat_lt offset 8) as (λ b. cond b (word_at l image (Leaf leaf offset)) 0 < 2 ^ 64) [
+      | true ↦ fits _
+      | false ↦ omega arith
+    ]
+
+pub line_word-here : (l : Layout) (image : List ℕ) (line offset : ℕ) → line < 8 * l.callers → offset < 8 → line_word l image line offset ≡ word_at l image (Line (line / 8) (line % 8) offset)
+unfolding line_word
+line_word-here l image line offset here small = rw (lt-ltb line (8 * l.callers) here, lt-ltb offset 8 small) refl
+
+pub line_word-outside : (l : Layout) (image : List ℕ) (line offset : ℕ) → 8 * l.callers ≤ line → line_word l image line offset ≡ 0
+unfolding line_word
+line_word-outside l image line offset out = rw (le-ltb line (8 * l.callers) out) refl
+
+pub crash_keeps_leaves : CrashKeepsLeaves
+unfolding image_leaves leaves_in
+crash_keeps_leaves l words leaf offset =
+    elim (nat_lt leaf (leaf_count l) && nat_lt offset 8) as (λ b. cond b (word_at l (durable_row l words) (Leaf leaf offset)) 0 ≡ cond b (at l words (Durable (Leaf leaf offset))) 0) [
+      | true ↦ durable_row-at l words (Leaf leaf offset)
+      | false ↦ refl
+    ]
+
+pub start_caches_leaves : StartCachesLeaves
+unfolding image_leaves leaves_in
+start_caches_leaves l image leaf offset is =
+    elim (nat_lt leaf (leaf_count l) && nat_lt offset 8)
+    as (λ b. (nat_lt leaf (leaf_count l) && nat_lt offset 8) ≡ b → cond b (at l (row_of l image) (Cached (Leaf leaf offset))) 0 ≡ cond b (word_at l image (Leaf leaf offset)) 0) [
+      | true ↦ λ here.
+          let parts = and_parts (nat_lt leaf (leaf_count l)) (nat_lt offset 8) here in
+          (row_of-at l image (Leaf leaf offset) is (ltb-true leaf (leaf_count l) parts.0, ltb-true offset 8 parts.1)).0
+      | false ↦ λ _. refl
+    ] refl
+
+pub crash_keeps_lines : CrashKeepsLines
+crash_keeps_lines l words line offset here small = line_word-here l (durable_row l words) line offset here small ∙ durable_row-at l words (Line (line / 8) (line % 8) offset)
+
+pub start_caches_lines : StartCachesLines
+start_caches_lines l image line offset is here small =
+    (row_of-at l image (Line (line / 8) (line % 8) offset) is (omega arith, omega arith, small)).0 ∙ sym (line_word-here l image line offset here small)

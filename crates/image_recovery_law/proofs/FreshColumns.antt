@@ -1,0 +1,81 @@
+-- A fresh image is sound by all rules.
+use Rattle.std.proofs.Common.{◌≡◌, ℕ, cond, List, [], ◌∷◌, Some, None, inl, inr, sym, subst, ap, ◌∙◌, arith}
+use Rattle.std.proofs.lemmas.Bool.{cases_eq, eq-eqb, ne_eqb}
+use Rattle.pm_words.specs.declared.layout.Layout.{Layout}
+use Rattle.pm_words.specs.Images.{fresh_words}
+use Rattle.pm_words.specs.Layouts.{IsLayout}
+use Rattle.pm_words.specs.Locations.{Node, Cached, leaf_count}
+use Rattle.pm_words.specs.Rows.{row_of}
+use Rattle.pm_words.proofs.Made.{fresh_at, fresh_image}
+use Rattle.data_node.specs.Spots.{Spot}
+use Rattle.data_node.specs.Lists.{ListNode, next_offset, IsIn, IsChain}
+use Rattle.search_layer.specs.Layers.{HasFew}
+use Rattle.search_layer.specs.Leaves.{LayerWords, leaves_in, layer_in, IsLayerRow}
+use Rattle.search_layer.specs.Laws.{fresh_layer}
+use Rattle.search_layer.proofs.Fresh.{fresh_is_at_rest}
+use Rattle.updater_law.specs.Covered.{IsCovered}
+use Rattle.updater_law.specs.Covers.{IsOpenFor}
+use Rattle.image_rules.specs.Nodes.{image_spot, image_list}
+use Rattle.image_rules.proofs.FreshLemmas.{fresh_is_sound}
+use Rattle.image_rules.proofs.WordLemmas.{image_spot-here}
+use Rattle.image_recovery_law.specs.Columns.{Columns, anchor_of, lines_of, layer_kept, NodesAreSound}
+use Rattle.image_recovery_law.specs.Rows.{image_leaves, image_columns}
+use Rattle.image_recovery_law.specs.SoundImages.{FreshHasSoundColumns}
+use Rattle.image_recovery_law.proofs.RowColumns.{start_has_columns}
+use Rattle.image_recovery_law.proofs.SoundColumns.{spots_are, sound_nodes}
+
+-- a list whose node 0 leads nowhere has node 0 alone
+only_zero : (now : ℕ → Spot) (list : List ListNode) (n : ℕ) → IsChain now 0 list → now 0 next_offset ≡ 0 → IsIn list n → n ≡ 0
+only_zero now list n chain end (inl e) = e
+only_zero now [] n chain end (inr is) = absurd is
+only_zero now (m ∷ behind) n chain end (inr is) = absurd (chain.1 (sym chain.0 ∙ end))
+
+fresh_key : (key node : ℕ) → fresh_layer key ≡ Some node → (key ≡ 0) × (node ≡ 0)
+fresh_key key node leads = elim (cases_eq key 0) [
+  | inl e ↦ (e, let first : Some 0 ≡ Some node = sym (ap (λ b. cond b (Some 0) None) (eq-eqb key 0 e)) ∙ leads in cc)
+  | inr ne ↦ absurd (let no_way : None ≡ Some node = sym (ap (λ b. cond b (Some 0) None) (ne_eqb key 0 ne)) ∙ leads in cc)
+]
+
+module _ (l : Layout) (is : IsLayout l) where
+  abbrev words : List ℕ
+  words = fresh_words l
+
+  abbrev i : Columns
+  i = image_columns l words
+
+  nodes : NodesAreSound l (image_list l words) i
+  nodes = sound_nodes l words (fresh_image l is) (fresh_is_sound l is).0
+
+  -- its leaves are those of a fresh row
+  leaves_are : leaves_in l (row_of l words) Cached ≡ image_leaves l words
+  leaves_are = ap (λ (c : Columns). c.leaf) (start_has_columns l words (fresh_image l is)).0
+
+  row : IsLayerRow (leaf_count l) l.nodes (image_leaves l words)
+  row = subst (λ (w : LayerWords). IsLayerRow (leaf_count l) l.nodes w) leaves_are (fresh_is_at_rest l is).0.row
+
+  few : HasFew l.nodes (layer_kept l i)
+  few = subst (λ (w : LayerWords). HasFew l.nodes (layer_in w (leaf_count l))) leaves_are (fresh_is_at_rest l is).1
+
+  layer_is : (key : ℕ) → layer_kept l i key ≡ fresh_layer key
+  layer_is key = subst (λ (w : LayerWords). layer_in w (leaf_count l) key ≡ fresh_layer key) leaves_are ((fresh_is_at_rest l is).2 key)
+
+  only_first : (n : ℕ) → IsIn (image_list l words) n → n ≡ 0
+  only_first n among =
+      let some = is.nodes.0 in
+      let end : image_spot l words 0 next_offset ≡ 0 = image_spot-here l words 0 next_offset (omega arith) (omega arith) (omega arith) ∙ fresh_at l (Node 0 next_offset) (omega arith, omega arith) in
+      only_zero i.spot (image_list l words) n nodes.makes.chain (ap (λ (s : ℕ → Spot). s 0 next_offset) (spots_are l words) ∙ end) among
+
+  covered : IsCovered (IsIn (image_list l words)) (anchor_of i) (layer_kept l i) (IsOpenFor (lines_of i))
+  covered key node bare = (
+    λ leads. let zeros = fresh_key key node (sym (layer_is key) ∙ leads) in (inl zeros.1, ap (anchor_of i) zeros.1 ∙ nodes.makes.lowest ∙ sym zeros.0),
+    λ has.
+        let first : node ≡ 0 = only_first node has.0 in
+        let zero_key : key ≡ 0 = sym has.1 ∙ ap (anchor_of i) first ∙ nodes.makes.lowest in
+        layer_is key ∙ ap (λ b. cond b (Some 0) None) (eq-eqb key 0 zero_key) ∙ ap Some (sym first),
+  )
+
+pub fresh_has_sound_columns : FreshHasSoundColumns
+fresh_has_sound_columns l is = record {
+  nodes = nodes l is;
+  layer = record { row = row l is; keys = λ key node leads. inl (fresh_key key node (sym (layer_is l is key) ∙ leads)).0; few = few l is; covered = covered l is };
+}

@@ -1,0 +1,225 @@
+-- How far a recovery is, its steps, and what it is sure of between them.
+use Rattle.std.specs.Prelude.{◌≡◌, ◌≢◌, ℕ, suc, ◌<◌, ◌≤◌, ◌⊎◌, ◌↔◌, List, [], ◌∷◌, Some, None}
+use Rattle.pm_words.specs.Codes.{empty_state}
+use Rattle.pm_words.specs.declared.layout.Layout.{Layout}
+use Rattle.pm_words.specs.Locations.{leaf_count}
+use Rattle.data_node.specs.Spots.{updated, bitmap_offset}
+use Rattle.data_node.specs.Lists.{ListNode, range_in, IsIn, StaysIn}
+use Rattle.search_layer.specs.Layers.{Layer, HasFew}
+use Rattle.search_layer.specs.Leaves.{LayerWords, layer_in, AreEven, IsLayerRow}
+use Rattle.search_layer.specs.ChangeStages.{Aim, Changing, Looks, Changed, SureChanging, LayerAt, made_of}
+use Rattle.updater_law.specs.Covers.{set_at}
+use Rattle.updater_row_law.specs.Columns.{line_count}
+use Rattle.updater_row_law.specs.RowStages.{start_sight}
+use Rattle.image_recovery_law.specs.Columns.{Columns, anchor_of, line_anchor, layer_kept, IsTrim, MendsNodes, MendsLayer}
+use Rattle.image_recovery_law.specs.Columns.{Mends}
+
+-- Columns with another generation, another bitmap of a node, a line EMPTY, other leaves.
+abbrev pub with_generation : Columns → ℕ → Columns
+with_generation i generation = record i { generation = generation }
+
+abbrev pub with_bits : Columns → ℕ → ℕ → Columns
+with_bits i n bits = record i { spot = set_at i.spot n (updated (i.spot n) bitmap_offset bits) }
+
+abbrev pub with_empty : Columns → ℕ → Columns
+with_empty i j = record i { line = set_at i.line j (updated (i.line j) 0 empty_state) }
+
+abbrev pub with_leaves : Columns → LayerWords → Columns
+with_leaves i leaf = record i { leaf = leaf }
+
+-- The nodes of the list in order, and whether a node is one of some.
+abbrev pub nodes_behind : List ListNode → List ℕ
+nodes_behind [] = []
+nodes_behind (m ∷ behind) = m.node ∷ nodes_behind behind
+
+abbrev pub nodes_of : List ListNode → List ℕ
+nodes_of list = 0 ∷ nodes_behind list
+
+abbrev pub IsOneOf : List ℕ → ℕ → Type 0
+IsOneOf [] n = ⊥
+IsOneOf (m ∷ others) n = (n ≡ m) ⊎ IsOneOf others n
+
+-- The change that leads the anchor of a line to this node word.
+abbrev pub aim_at : Columns → ℕ → ℕ → Aim
+aim_at i j word = record { key = i.line j 3 ∷ i.line j 4 ∷ i.line j 5 ∷ []; word = word }
+
+-- The list has a node with the line's anchor, or none.
+abbrev pub HasAnchor : List ListNode → Columns → ℕ → Type 0
+HasAnchor list i j = (n : ℕ) × IsIn list n × (anchor_of i n ≡ line_anchor i j)
+
+abbrev pub LacksAnchor : List ListNode → Columns → ℕ → Type 0
+LacksAnchor list i j = (n : ℕ) → IsIn list n → anchor_of i n ≢ line_anchor i j
+
+pub data Stage : Type 0 where
+  Begins : Stage
+  -- the next generation is stored
+  Raised : Stage
+  -- it is durable; names out of range are cleared but in these nodes
+  Trims : List ℕ → Stage
+  -- the bitmap of this node is stored; these nodes come after it
+  Trimmed : ℕ → List ℕ → Stage
+  -- anchors that the list doesn't have are taken out of the layer, but for those of the lines from this one on; then
+  -- the change that takes out that of this line is here
+  Unsets : ℕ → Stage
+  Unsetting : ℕ → Changing → Stage
+  -- those that the list has are set, but for those of the lines from this one on; then the change that sets that of
+  -- this line, to this node, is here
+  Sets : ℕ → Stage
+  Setting : ℕ → ℕ → Changing → Stage
+  -- lines below this one are EMPTY, and durable; then EMPTY of this one is stored
+  Empties : ℕ → Stage
+  Emptied : ℕ → Stage
+  -- all is done, and all words are durable
+  Wakes : Stage
+
+-- What a change of the layer knows of the leaves, cached (w) and durable (s), where it began on this layer; and a step
+-- of it, from these leaves to those.
+pub record ChangesTo (l : Layout) (aim : Aim) (before : Layer) (c : Changing) (w s : LayerWords) : Type 0 where
+  pub row : IsLayerRow (leaf_count l) l.nodes w
+  pub sure : SureChanging (leaf_count l) l.nodes aim before c w s
+  pub at : LayerAt aim before c (layer_in w (leaf_count l))
+
+abbrev pub ChangesOn : Layout → Aim → Changing → LayerWords → LayerWords → Changing → LayerWords → LayerWords → Type 0
+ChangesOn l aim c w s next w' s' =
+    (before : Layer) → HasFew l.nodes before → ChangesTo l aim before c w s → ChangesTo l aim before next w' s'
+
+-- The kinds of step, from the cached (now) and the durable (safe) columns: to a stage and to the columns afterwards.
+pub data Step (l : Layout) (list : List ListNode) (now safe : Columns) : Stage → Stage → Columns → Columns → Type 0
+  where
+    raises : Step l list now safe Begins Raised (with_generation now (suc now.generation)) safe
+    raised : safe.generation ≡ now.generation → Step l list now safe Raised (Trims (nodes_of list)) now safe
+    -- it comes to a node with no live slot out of range, and to another one
+    passes_node : (n : ℕ) (left : List ℕ) → StaysIn l.slots (range_in list n) (now.spot n) →
+        Step l list now safe (Trims (n ∷ left)) (Trims left) now safe
+    trims : (n : ℕ) (left : List ℕ) (bits : ℕ) → IsTrim l.slots (range_in list n) (now.spot n) bits →
+        StaysIn l.slots (range_in list n) (updated (now.spot n) bitmap_offset bits) →
+        Step l list now safe (Trims (n ∷ left)) (Trimmed n left) (with_bits now n bits) safe
+    trimmed : (n : ℕ) (left : List ℕ) → safe.spot n bitmap_offset ≡ now.spot n bitmap_offset →
+        Step l list now safe (Trimmed n left) (Trims left) now safe
+    all_trimmed : Step l list now safe (Trims []) (Unsets 0) now safe
+    -- it comes to a line whose anchor isn't to be taken out, and to one whose is; then the change goes on, and ends
+    passes_unset : (j : ℕ) → (now.line j 0 ≡ empty_state) ⊎ HasAnchor list now j →
+        Step l list now safe (Unsets j) (Unsets (suc j)) now safe
+    unsets : (j : ℕ) → now.line j 0 ≢ empty_state → LacksAnchor list now j →
+        Step l list now safe (Unsets j) (Unsetting j (Looks start_sight)) now safe
+    unsetting : (j : ℕ) (c next : Changing) (w s : LayerWords) →
+        ChangesOn l (aim_at now j 0) c now.leaf safe.leaf next w s →
+        Step l list now safe (Unsetting j c) (Unsetting j next) (with_leaves now w) (with_leaves safe s)
+    unset : (j : ℕ) → Step l list now safe (Unsetting j Changed) (Unsets (suc j)) now safe
+    all_unset : (j : ℕ) → line_count l ≤ j → Step l list now safe (Unsets j) (Sets 0) now safe
+    -- the same of anchors that are to be set
+    passes_set : (j : ℕ) → (now.line j 0 ≡ empty_state) ⊎ LacksAnchor list now j →
+        Step l list now safe (Sets j) (Sets (suc j)) now safe
+    sets : (j n : ℕ) → now.line j 0 ≢ empty_state → IsIn list n → anchor_of now n ≡ line_anchor now j →
+        Step l list now safe (Sets j) (Setting j n (Looks start_sight)) now safe
+    setting : (j n : ℕ) (c next : Changing) (w s : LayerWords) →
+        ChangesOn l (aim_at now j (suc n)) c now.leaf safe.leaf next w s →
+        Step l list now safe (Setting j n c) (Setting j n next) (with_leaves now w) (with_leaves safe s)
+    set : (j n : ℕ) → Step l list now safe (Setting j n Changed) (Sets (suc j)) now safe
+    all_set : (j : ℕ) → line_count l ≤ j → Step l list now safe (Sets j) (Empties 0) now safe
+    passes_empty : (j : ℕ) → now.line j 0 ≡ empty_state →
+        Step l list now safe (Empties j) (Empties (suc j)) now safe
+    empties : (j : ℕ) → Step l list now safe (Empties j) (Emptied j) (with_empty now j) safe
+    emptied : (j : ℕ) → safe.line j 0 ≡ now.line j 0 → Step l list now safe (Emptied j) (Empties (suc j)) now safe
+    all_empty : (j : ℕ) → line_count l ≤ j → Step l list now safe (Empties j) Wakes now safe
+
+-- The part of an image of which one word may not be durable yet.
+pub data Part : Type 0 where
+  Nothing : Part
+  Generation : Part
+  Bits : ℕ → Part
+  State : ℕ → Part
+
+-- all words but those of leaves are durable, but for that one
+pub record IsEvenBut (part : Part) (now safe : Columns) : Type 0 where
+  pub generation : part ≢ Generation → safe.generation ≡ now.generation
+  pub spare : (k : ℕ) → safe.spare k ≡ now.spare k
+  pub version : (n : ℕ) → safe.version n ≡ now.version n
+  pub spot : (n offset : ℕ) → (part ≡ Bits n → offset ≢ bitmap_offset) → safe.spot n offset ≡ now.spot n offset
+  pub line : (j offset : ℕ) → (part ≡ State j → offset ≢ 0) → safe.line j offset ≡ now.line j offset
+
+-- while the layer stands still
+pub record IsStill (l : Layout) (list : List ListNode) (o : Columns) (part : Part) (now safe : Columns) : Type 0 where
+  pub cached : Mends l list o now
+  pub durable : Mends l list o safe
+  pub even : IsEvenBut part now safe
+  pub leaves : AreEven now.leaf safe.leaf
+
+-- While it changes: as it was before the change, and as it is to be, it is in order.
+pub record IsChanging (l : Layout) (list : List ListNode) (o : Columns) (aim : Aim) (c : Changing)
+    (now safe : Columns) : Type 0 where
+  pub nodes : MendsNodes l list o now
+  pub states : (j : ℕ) → now.line j 0 ≡ o.line j 0
+  pub word : aim.word ≤ l.nodes
+  pub even : IsEvenBut Nothing now safe
+  pub before : Layer
+  pub leaves : ChangesTo l aim before c now.leaf safe.leaf
+  pub first : MendsLayer l o before
+  pub last : MendsLayer l o (made_of aim before)
+
+-- What is done so far.
+
+-- listed nodes have no live slot out of range, but for these nodes
+abbrev pub AreTrimmedBut : Layout → List ListNode → List ℕ → Columns → Type 0
+AreTrimmedBut l list left now =
+    (n : ℕ) → IsIn list n → IsOneOf left n ⊎ StaysIn l.slots (range_in list n) (now.spot n)
+
+-- the lines have their states still
+abbrev pub AreUntouched : Columns → Columns → Type 0
+AreUntouched o now = (j : ℕ) → now.line j 0 ≡ o.line j 0
+
+-- no anchor of a line below this one is in the layer that the list doesn't have
+abbrev pub AreUnset : List ListNode → Columns → ℕ → Layer → Type 0
+AreUnset list o j layer =
+    (i : ℕ) → i < j → o.line i 0 ≢ empty_state → LacksAnchor list o i → layer (line_anchor o i) ≡ None
+
+-- every key of the layer is the anchor of a listed node
+abbrev pub AreListed : List ListNode → Columns → Layer → Type 0
+AreListed list o layer = (key node : ℕ) → layer key ≡ Some node → (n : ℕ) × IsIn list n × (anchor_of o n ≡ key)
+
+-- each anchor of a line below this one that the list has leads to its node
+abbrev pub AreSet : List ListNode → Columns → ℕ → Layer → Type 0
+AreSet list o j layer = (i n : ℕ) → i < j → o.line i 0 ≢ empty_state → IsIn list n → anchor_of o n ≡ line_anchor o i →
+    layer (line_anchor o i) ≡ Some n
+
+-- the layer leads exactly the anchors of listed nodes, each to its node
+abbrev pub IsExact : List ListNode → Columns → Layer → Type 0
+IsExact list o layer = (key node : ℕ) → (layer key ≡ Some node) ↔ (IsIn list node × (anchor_of o node ≡ key))
+
+abbrev pub AreEmptyTo : ℕ → Columns → Type 0
+AreEmptyTo j now = (i : ℕ) → i < j → now.line i 0 ≡ empty_state
+
+-- What holds at each stage of a recovery of o.
+abbrev pub Sure : Layout → List ListNode → Columns → Stage → Columns → Columns → Type 0
+Sure l list o Begins now safe =
+    IsStill l list o Nothing now safe × AreUntouched o now × (now.generation ≡ o.generation)
+Sure l list o Raised now safe =
+    IsStill l list o Generation now safe × AreUntouched o now × (now.generation ≡ suc o.generation)
+Sure l list o (Trims left) now safe =
+    IsStill l list o Nothing now safe × AreUntouched o now × (now.generation ≡ suc o.generation) ×
+    AreTrimmedBut l list left now
+Sure l list o (Trimmed n left) now safe =
+    IsStill l list o (Bits n) now safe × AreUntouched o now × (now.generation ≡ suc o.generation) ×
+    AreTrimmedBut l list left now
+Sure l list o (Unsets j) now safe =
+    IsStill l list o Nothing now safe × AreUntouched o now × (now.generation ≡ suc o.generation) ×
+    AreTrimmedBut l list [] now × AreUnset list o j (layer_kept l now)
+Sure l list o (Unsetting j c) now safe =
+    (s : IsChanging l list o (aim_at now j 0) c now safe) × (now.generation ≡ suc o.generation) ×
+    AreTrimmedBut l list [] now × AreUnset list o j s.before × (o.line j 0 ≢ empty_state)
+Sure l list o (Sets j) now safe =
+    IsStill l list o Nothing now safe × AreUntouched o now × (now.generation ≡ suc o.generation) ×
+    AreTrimmedBut l list [] now × AreListed list o (layer_kept l now) × AreSet list o j (layer_kept l now)
+Sure l list o (Setting j n c) now safe =
+    (s : IsChanging l list o (aim_at now j (suc n)) c now safe) × (now.generation ≡ suc o.generation) ×
+    AreTrimmedBut l list [] now × AreListed list o s.before × AreSet list o j s.before ×
+    (o.line j 0 ≢ empty_state) × IsIn list n × (anchor_of o n ≡ line_anchor o j)
+Sure l list o (Empties j) now safe =
+    IsStill l list o Nothing now safe × (now.generation ≡ suc o.generation) × AreTrimmedBut l list [] now ×
+    IsExact list o (layer_kept l now) × AreEmptyTo j now
+Sure l list o (Emptied j) now safe =
+    IsStill l list o (State j) now safe × (now.generation ≡ suc o.generation) × AreTrimmedBut l list [] now ×
+    IsExact list o (layer_kept l now) × AreEmptyTo (suc j) now
+Sure l list o Wakes now safe =
+    IsStill l list o Nothing now safe × (now.generation ≡ suc o.generation) × AreTrimmedBut l list [] now ×
+    IsExact list o (layer_kept l now) × ((j : ℕ) → now.line j 0 ≡ empty_state)

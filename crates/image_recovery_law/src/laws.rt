@@ -1,0 +1,76 @@
+//! The laws. The functions do nothing: each names what is proved.
+
+ghost use Rattle.image_recovery_law.specs.Laws.{Starts, StepsKeep, EvictionsKeep, CrashMends, MendedIsSound, MendedWeighs};
+ghost use Rattle.image_recovery_law.specs.Rest.{EndsAtRest, RestIsLawful, BrokenIsSound, BrokenThenWhole};
+ghost use Rattle.image_recovery_law.specs.Moves.{PlanReaches, PlanEnds, PlannedBitsServe, PlannedNoneServes};
+ghost use Rattle.image_recovery_law.specs.Rows.{StartHasColumns, CrashHasColumns, GenerationStores, BitsStore, EmptyStores};
+ghost use Rattle.image_recovery_law.specs.Rows.{EvictionMixesColumns, DrainEvicts, VolatileLeaves, ChangesOnRows};
+ghost use Rattle.image_recovery_law.specs.RowMoves.{MoveStores, MoveEnds, RowEvicts, UnsetGoes, SetGoes};
+ghost use Rattle.image_recovery_law.specs.SoundImages.{ColumnsAreSound, ColumnsKeepMaps, FreshHasSoundColumns};
+
+/// With a sound image in both rows a recovery may begin, and its steps and words that become durable keep what it is
+/// sure of.
+pub fn steps_law()
+    ensures starts { Starts }
+    ensures steps { StepsKeep }
+    ensures evictions { EvictionsKeep }
+{}
+
+/// At every moment of a recovery, whichever words are durable, they are a sound image with the same list, the same map
+/// and the same weight.
+pub fn crash_law()
+    ensures mends { CrashMends }
+    ensures sound { MendedIsSound }
+    ensures weighs { MendedWeighs }
+{}
+
+/// A recovery that comes to its end leaves an index at rest, which is lawful for turns of the updater.
+pub fn rest_law()
+    ensures rests { EndsAtRest }
+    ensures lawful { RestIsLawful }
+{}
+
+/// After any number of broken recoveries the image is sound with the same list and map, and what a whole one leaves
+/// then has that map too.
+pub fn broken_law()
+    ensures sound { BrokenIsSound }
+    ensures whole { BrokenThenWhole }
+{}
+
+/// A recovery may be planned on the image with which it begins.
+pub fn plan_law()
+    ensures bits { PlannedBitsServe }
+    ensures none { PlannedNoneServes }
+    ensures reaches { PlanReaches }
+    ensures ends { PlanEnds }
+{}
+
+/// What a recovery's actions do to the columns of a row, and where these come from and go to.
+pub fn row_law()
+    ensures start { StartHasColumns }
+    ensures crash { CrashHasColumns }
+    ensures generation { GenerationStores }
+    ensures bits { BitsStore }
+    ensures empty { EmptyStores }
+    ensures evictions { EvictionMixesColumns }
+    ensures drains { DrainEvicts }
+    ensures volatile { VolatileLeaves }
+    ensures changes { ChangesOnRows }
+{}
+
+/// The moves of a recovery on a row of words, action by action, keep what it is sure of.
+pub fn move_law()
+    ensures stores { MoveStores }
+    ensures ends { MoveEnds }
+    ensures evictions { RowEvicts }
+    ensures unset { UnsetGoes }
+    ensures set { SetGoes }
+{}
+
+/// The columns of an image keep rules 1 to 9 exactly where the image does, and keep its map. A fresh image is sound by
+/// all rules: so the laws are not empty.
+pub fn image_law()
+    ensures sound { ColumnsAreSound }
+    ensures maps { ColumnsKeepMaps }
+    ensures fresh { FreshHasSoundColumns }
+{}

@@ -1,0 +1,138 @@
+-- The rules on the list: what a walk shows of them at the node that it came to.
+use Rattle.std.proofs.Common.{◌≡◌, ◌≢◌, ℕ, zero, suc, ◌+◌, ◌<◌, ◌≤◌, ◌⊎◌, ◌↔◌, List, Some, inl, inr, refl, sym, ap, ◌∙◌, subst, arith}
+use Rattle.std.specs.Prelude.{Bool, nat_lt, not, IsTrue}
+use Rattle.std.proofs.lemmas.Bool.{cases_lt, lt-ltb, le-ltb, false≢true}
+use Rattle.pm_words.specs.declared.layout.Layout.{Layout}
+use Rattle.pm_words.specs.Locations.{Word, Node, word_number}
+use Rattle.cat_key.specs.Names.{AreNameWords}
+use Rattle.data_node.specs.Spots.{Spot}
+use Rattle.data_node.specs.Lists.{next_offset, anchor_offset, anchor_in, anchor_words}
+use Rattle.image_rules.specs.Lowest.{IsLowest, IsNumberOf}
+use Rattle.image_rules.specs.Nodes.{image_spot, IsListedAt, LeadWithin, next_in}
+use Rattle.image_rules.specs.Rules.{LeadsOut, LeadsBack, IsMisplaced, BreaksAnchors, BreaksInNode}
+use Rattle.image_rules.specs.Sound.{leads_out, AreKept}
+use Rattle.image_rules.specs.declared.listed.NodeRule.{NodeRule}
+use Rattle.image_rules.specs.declared.node_set.NodeSet.{NodeSet}
+use Rattle.image_rules.specs.NodeSets.{HasNode}
+use Rattle.image_rules.proofs.WalkLemmas.{NoneBefore, IsOfList, one_word, same_node}
+
+-- each rule is broken at positions of the list alone
+pub out_listed : (l : Layout) (image : List ℕ) → IsOfList l image (LeadsOut l image)
+out_listed l image = record { listed = λ position w out. (out.node, out.listed) }
+
+pub back_listed : (l : Layout) (image : List ℕ) → IsOfList l image (LeadsBack l image)
+back_listed l image = record { listed = λ position w back. (back.node, back.listed) }
+
+anchor_listed : (l : Layout) (image : List ℕ) (position : ℕ) (w : Word) → BreaksAnchors l image position w → (n : ℕ) × IsListedAt l image position n
+anchor_listed l image zero w breaks = (0, refl)
+anchor_listed l image (suc position) w breaks = (breaks.node, breaks.listed)
+
+pub anchors_listed : (l : Layout) (image : List ℕ) → IsOfList l image (BreaksAnchors l image)
+anchors_listed l image = record { listed = anchor_listed l image }
+
+pub in_node_listed : (l : Layout) (image : List ℕ) (rule : NodeRule) → IsOfList l image (BreaksInNode l image rule)
+in_node_listed l image rule = record { listed = λ position w breaks. (breaks.node, breaks.listed) }
+
+module _ (l : Layout) (image : List ℕ) (position node : ℕ) (at : IsListedAt l image position node) where
+  -- a node that leads to one of the image's keeps rule 3, and one that leads on elsewhere breaks it
+  pub out_kept : (next_in l image node ≡ 0) ⊎ (next_in l image node < l.nodes) → (w : Word) → ¬ LeadsOut l image position w
+  out_kept kept w out =
+      let same = ap (next_in l image) (same_node l image position out.node node out.listed at) in
+      elim kept as (λ _. ⊥) [
+        | inl none ↦ out.leads (same ∙ none)
+        | inr inside ↦ let past = out.out in omega arith
+      ]
+
+  pub out_found : (number : ℕ) → number ≡ word_number l (Node node next_offset) → next_in l image node ≢ 0 → l.nodes ≤ next_in l image node
+      → IsLowest (IsNumberOf l (LeadsOut l image position)) (Some number)
+  out_found number is leads out = one_word l (LeadsOut l image position) (Node node next_offset) number is
+      (record { node = node; listed = at; here = refl; leads = leads; out = out })
+      (λ w other. other.here ∙ ap (λ n. Node n next_offset) (same_node l image position other.node node other.listed at))
+
+  -- likewise rule 4
+  pub back_kept : (next_in l image node ≡ 0) ⊎ ((earlier : ℕ) → earlier ≤ position → IsListedAt l image earlier (next_in l image node) → ⊥) → (w : Word) → ¬ LeadsBack l image position w
+  back_kept kept w back =
+      let same = ap (next_in l image) (same_node l image position back.node node back.listed at) in
+      elim kept as (λ _. ⊥) [
+        | inl none ↦ back.leads (same ∙ none)
+        | inr new ↦ new back.earlier back.before (subst (IsListedAt l image back.earlier) same back.again)
+      ]
+
+  pub back_found : (number earlier : ℕ) → number ≡ word_number l (Node node next_offset) → next_in l image node ≢ 0 → earlier ≤ position
+      → IsListedAt l image earlier (next_in l image node) → IsLowest (IsNumberOf l (LeadsBack l image position)) (Some number)
+  back_found number earlier is leads before again = one_word l (LeadsBack l image position) (Node node next_offset) number is
+      (record { node = node; listed = at; here = refl; leads = leads; earlier = earlier; before = before; again = again })
+      (λ w other. other.here ∙ ap (λ n. Node n next_offset) (same_node l image position other.node node other.listed at))
+
+  -- and rule 5 at the node behind it
+  pub anchor_kept : (next : ℕ) → IsListedAt l image (suc position) next
+      → ¬ ((¬ AreNameWords (anchor_words (image_spot l image next))) ⊎ (anchor_in (image_spot l image next) ≤ anchor_in (image_spot l image node)))
+      → (w : Word) → ¬ BreaksAnchors l image (position + 1) w
+  anchor_kept next behind right w wrong =
+      let is : IsMisplaced l image position w = subst (λ k. BreaksAnchors l image k w) (let e : position + 1 ≡ suc position = omega arith in e) wrong in
+      let before = same_node l image position is.before node is.listed_before at in
+      let here = same_node l image (suc position) is.node next is.listed behind in
+      right (subst (λ k. (¬ AreNameWords (anchor_words (image_spot l image next))) ⊎ (anchor_in (image_spot l image next) ≤ anchor_in (image_spot l image k))) before
+      (subst (λ k. (¬ AreNameWords (anchor_words (image_spot l image k))) ⊎ (anchor_in (image_spot l image k) ≤ anchor_in (image_spot l image is.before))) here is.wrong))
+
+  pub anchor_found : (next number : ℕ) → IsListedAt l image (suc position) next → number ≡ word_number l (Node next anchor_offset)
+      → ((¬ AreNameWords (anchor_words (image_spot l image next))) ⊎ (anchor_in (image_spot l image next) ≤ anchor_in (image_spot l image node)))
+      → IsLowest (IsNumberOf l (BreaksAnchors l image (suc position))) (Some number)
+  anchor_found next number behind is wrong = one_word l (IsMisplaced l image position) (Node next anchor_offset) number is
+      (record { before = node; node = next; listed_before = at; listed = behind; here = refl; wrong = wrong })
+      (λ w other. other.here ∙ ap (λ n. Node n anchor_offset) (same_node l image (suc position) other.node next other.listed behind))
+
+-- node 0's own anchor
+pub first_anchor_kept : (l : Layout) (image : List ℕ) → anchor_in (image_spot l image 0) ≡ 0 → (w : Word) → ¬ BreaksAnchors l image 0 w
+first_anchor_kept l image none w wrong = wrong.1 none
+
+pub first_anchor_found : (l : Layout) (image : List ℕ) (number : ℕ) → number ≡ word_number l (Node 0 anchor_offset) → anchor_in (image_spot l image 0) ≢ 0
+    → IsLowest (IsNumberOf l (BreaksAnchors l image 0)) (Some number)
+first_anchor_found l image number is wrong = one_word l (BreaksAnchors l image 0) (Node 0 anchor_offset) number is (refl, wrong) (λ w other. other.0)
+
+-- where rule 3 is kept, each node leads to one of the image's
+pub lead_within : (l : Layout) (image : List ℕ) (rule : ℕ) → 3 < rule → AreKept l image rule → LeadWithin l image
+lead_within l image rule behind kept position n at leads =
+    elim (cases_lt (next_in l image n) l.nodes) as (λ _. next_in l image n < l.nodes) [
+      | inl inside ↦ inside
+      | inr out ↦ absurd (kept 3 position (Node n next_offset) behind (leads_out (record { node = n; listed = at; here = refl; leads = leads; out = out })))
+    ]
+
+-- an anchor with a name's words is out of order where it isn't above the other
+pub misplaced_if : (s t : Spot) (below : Bool) → below ≡ nat_lt (anchor_in t) (anchor_in s) → AreNameWords (anchor_words s) →
+    IsTrue (not below) ↔ ((¬ AreNameWords (anchor_words s)) ⊎ (anchor_in s ≤ anchor_in t))
+misplaced_if s t below is named =
+    elim (cases_lt (anchor_in t) (anchor_in s)) as (λ _. IsTrue (not below) ↔ ((¬ AreNameWords (anchor_words s)) ⊎ (anchor_in s ≤ anchor_in t))) [
+      | inl above ↦ (
+        λ yes. absurd (false≢true (sym (ap not (is ∙ lt-ltb (anchor_in t) (anchor_in s) above)) ∙ yes)),
+        λ wrong. absurd (elim wrong as (λ _. ⊥) [ inl nameless ↦ nameless named | inr under ↦ omega arith ]),
+      )
+      | inr under ↦ (λ _. inr under, λ _. ap not (is ∙ le-ltb (anchor_in t) (anchor_in s) under))
+    ]
+
+-- A set has the nodes at the first so many positions, and no other.
+pub record HasReached (l : Layout) (image : List ℕ) (set : NodeSet) (count : ℕ) : Type 0 where
+  pub from : (n : ℕ) → HasNode set n → (position : ℕ) × (position < count) × IsListedAt l image position n
+  pub to : (position n : ℕ) → position < count → IsListedAt l image position n → HasNode set n
+
+pub reached_none : (l : Layout) (image : List ℕ) (set : NodeSet) → ((n : ℕ) → HasNode set n → ⊥) → HasReached l image set 0
+reached_none l image set empty = record { from = λ n has. absurd (empty n has); to = λ position n below at. omega (arith, below) }
+
+pub reached_more : (l : Layout) (image : List ℕ) (set more : NodeSet) (position node : ℕ) → IsListedAt l image position node
+    → ((other : ℕ) → HasNode more other ↔ ((other ≡ node) ⊎ HasNode set other)) → HasReached l image set position → HasReached l image more (position + 1)
+reached_more l image set more position node at with_node reached = record {
+  from = λ n has. elim ((with_node n).0 has) as (λ _. (k : ℕ) × (k < position + 1) × IsListedAt l image k n) [
+    | inl same ↦ (position, omega arith, subst (IsListedAt l image position) (sym same) at)
+    | inr before ↦ let there = reached.from n before in let below = there.1 in (there.0, omega arith, there.2)
+  ];
+  to = λ other n below there. elim (cases_lt other position) as (λ _. HasNode more n) [
+    | inl passed ↦ (with_node n).1 (inr (reached.to other n passed there))
+    | inr here ↦ let same : other ≡ position = omega arith in (with_node n).1 (inl (same_node l image position n node (subst (λ k. IsListedAt l image k n) same there) at))
+  ];
+}
+
+-- A walk that looks at the anchor behind each node came to this node, and no anchor is out of order up to it.
+pub record Ordered (l : Layout) (image : List ℕ) (position node : ℕ) : Type 0 where
+  pub at : IsListedAt l image position node
+  pub here : node < l.nodes
+  pub none : NoneBefore (BreaksAnchors l image) (position + 1)

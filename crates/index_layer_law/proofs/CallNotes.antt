@@ -1,0 +1,180 @@
+-- A step of a call on its log line is, for the law of turns, a step of another party, or none.
+use Rattle.std.proofs.Common.{◌≡◌, ◌≢◌, ℕ, ◌/◌, ◌%◌, ◌<◌, ◌≤◌, inr, ⊎_elim, Bool, true, false, List, slice_set, refl, sym, ap, ◌∙◌, subst, arith}
+use Rattle.std.proofs.lemmas.Bool.{cases_eq}
+use Rattle.pm_words.specs.declared.layout.Layout.{Layout}
+use Rattle.pm_words.specs.Locations.{Word, Location, Line, Leaf, Cached, Durable, Volatile, HasLocation, address_of}
+use Rattle.pm_words.specs.Rows.{IsRow}
+use Rattle.pm_words.proofs.Apart.{at-set_other}
+use Rattle.data_node.specs.Lists.{anchor_in}
+use Rattle.call_stages.specs.Stages.{IsAmong}
+use Rattle.call_stages.specs.Lines.{HeldLine, Marks, fills, opens, readies}
+use Rattle.index_law.specs.Facts.{Facts}
+use Rattle.index_law.specs.Lines.{line_in, safe_line, SureLine}
+use Rattle.search_layer.specs.Keys.{key_of}
+use Rattle.search_layer.proofs.LeafRows.{leaves_in-alike}
+use Rattle.updater_law.specs.Covers.{set_at, Lines}
+use Rattle.updater_law.specs.Facts.{TurnFacts}
+use Rattle.updater_law.specs.OtherSteps.{OtherStep, IsRipe}
+use Rattle.updater_law.specs.OtherSteps as others
+use Rattle.updater_law.proofs.Columns.{here, other}
+use Rattle.updater_row_law.specs.Columns.{line_field, line_count, line_word, lines_in, volatile_field}
+use Rattle.updater_row_law.proofs.RowColumns.{column-alike, column-same, column-set}
+use Rattle.index_layer_law.specs.Turnings.{line_number}
+use Rattle.index_layer_law.proofs.FactTies.{rest_in, known, lines_same}
+use Rattle.index_layer_law.proofs.CallMoves.{Moved, now_known}
+use Rattle.index_layer_law.proofs.CallLines.{line_tie, safe_tie, anchor_line_tie, anchor_safe_tie}
+
+-- the caller, the number and the offset that a location of a line's word names
+abbrev pub caller_in : Location → ℕ
+caller_in (Cached (Line c j o)) = c
+caller_in (Durable (Line c j o)) = c
+caller_in _ = 0
+
+abbrev pub number_in : Location → ℕ
+number_in (Cached (Line c j o)) = j
+number_in (Durable (Line c j o)) = j
+number_in _ = 0
+
+abbrev pub offset_in : Location → ℕ
+offset_in (Cached (Line c j o)) = o
+offset_in (Durable (Line c j o)) = o
+offset_in _ = 0
+
+-- one word of a line is another
+module _ (l : Layout) (words : List ℕ) (row : IsRow l words) (e : HeldLine) (sure : SureLine l words e) (offset y : ℕ) (small : offset < 8) where
+  abbrev pub number : ℕ
+  number = line_number e
+
+  pub number_within : number < line_count l
+  number_within = let caller = sure.here.0 in let index = sure.here.1 in omega arith
+
+  -- a line of this number and no other is this line
+  pub same_number : (j : ℕ) → j / 8 ≡ e.caller → j % 8 ≡ e.number → j ≡ number
+  same_number j caller index = let small_index = sure.here.1 in omega arith
+
+  pub own_place : (twin : Word → Location) → twin (line_word offset number) ≡ twin (Line e.caller e.number offset)
+  own_place twin =
+      let caller : number / 8 ≡ e.caller = let index = sure.here.1 in omega arith in
+      let index : number % 8 ≡ e.number = let index = sure.here.1 in omega arith in
+      λ k. twin (Line (caller k) (index k) offset)
+
+  -- in the cached row
+  abbrev p : Location
+  p = Cached (Line e.caller e.number offset)
+
+  has : HasLocation l p
+  has = (sure.here.0, sure.here.1, small)
+
+  abbrev pub stored : List ℕ
+  stored = slice_set words (address_of l p) y
+
+  pub field_else : (o : ℕ) → o < 8 → o ≢ offset → line_field l stored Cached o ≡ line_field l words Cached o
+  field_else o within apart = column-same l words stored (line_count l) (λ j. Cached (line_word o j)) (λ j there. at-set_other l words p (Cached (line_word o j)) y has (omega arith, omega arith, within) (λ same. apart (ap offset_in same)))
+
+  pub field_other : (o j : ℕ) → o < 8 → j ≢ number → line_field l stored Cached o j ≡ line_field l words Cached o j
+  field_other o j within apart = column-alike l words stored (line_count l) (λ i. Cached (line_word o i)) j (λ there. at-set_other l words p (Cached (line_word o j)) y has (omega arith, omega arith, within) (λ same. apart (same_number j (ap caller_in same) (ap number_in same))))
+
+  field_here : line_field l stored Cached offset ≡ set_at (line_field l words Cached offset) number y
+  field_here = column-set l words p y has (line_count l) (λ j. Cached (line_word offset j)) number row.whole number_within (own_place (λ w. Cached w)) (λ j there. (omega arith, omega arith, small))
+      (λ j there same. same_number j (ap caller_in same) (ap number_in same))
+
+  safe_same : (o : ℕ) → o < 8 → line_field l stored Durable o ≡ line_field l words Durable o
+  safe_same o within = column-same l words stored (line_count l) (λ j. Durable (line_word o j)) (λ j there. at-set_other l words p (Durable (line_word o j)) y has (omega arith, omega arith, within) (λ same. cc))
+
+  stamp_same : volatile_field l stored 2 ≡ volatile_field l words 2
+  stamp_same = column-same l words stored l.nodes (λ n. Volatile n 2) (λ n there. at-set_other l words p (Volatile n 2) y has (there, omega arith) (λ same. cc))
+
+  pub cached_leaves_same : (rest_in l stored).leaves ≡ (rest_in l words).leaves
+  cached_leaves_same = λ k n o. leaves_in-alike l words stored Cached n o (λ there within. at-set_other l words p (Cached (Leaf n o)) y has (there, within) (λ same. cc)) k
+
+  pub safe_leaves_same : (rest_in l stored).safe_leaves ≡ (rest_in l words).safe_leaves
+  safe_leaves_same = λ k n o. leaves_in-alike l words stored Durable n o (λ there within. at-set_other l words p (Durable (Leaf n o)) y has (there, within) (λ same. cc)) k
+
+  -- the rest, but for what the cached lines say
+  rest_path : (lines : Lines) → lines_in l stored Cached ≡ lines → rest_in l stored ≡ record (rest_in l words) { line = lines }
+  rest_path lines is =
+      λ k. record {
+        stamp = stamp_same k;
+        line = is k;
+        safe_line = lines_same l words stored Durable safe_same k;
+        leaves = cached_leaves_same k;
+        safe_leaves = safe_leaves_same k;
+      }
+
+  abbrev lines : Lines
+  lines = lines_in l words Cached
+
+  -- where none of the anchor's words is stored
+  plain_lines : (state kind node : ℕ → ℕ) → line_field l stored Cached 0 ≡ state → line_field l stored Cached 1 ≡ kind → line_field l stored Cached 2 ≡ node → offset < 3
+      → lines_in l stored Cached ≡ record { state = state; kind = kind; node = node; anchor = lines.anchor }
+  plain_lines state kind node is_state is_kind is_node low =
+      let l3 = field_else 3 (omega arith) (λ same. omega arith) in
+      let l4 = field_else 4 (omega arith) (λ same. omega arith) in
+      let l5 = field_else 5 (omega arith) (λ same. omega arith) in
+      λ k. record { state = is_state k; kind = is_kind k; node = is_node k; anchor = λ j. key_of (l3 k j) (l4 k j) (l5 k j) }
+
+  pub state_lines : offset ≡ 0 → lines_in l stored Cached ≡ record lines { state = set_at lines.state number y }
+  state_lines is = plain_lines (set_at lines.state number y) lines.kind lines.node (subst (λ o. line_field l stored Cached o ≡ set_at (line_field l words Cached o) number y) is field_here)
+      (field_else 1 (omega arith) (λ same. omega arith)) (field_else 2 (omega arith) (λ same. omega arith)) (omega arith)
+
+  kind_lines : offset ≡ 1 → lines_in l stored Cached ≡ record lines { kind = set_at lines.kind number y }
+  kind_lines is = plain_lines lines.state (set_at lines.kind number y) lines.node (field_else 0 (omega arith) (λ same. omega arith))
+      (subst (λ o. line_field l stored Cached o ≡ set_at (line_field l words Cached o) number y) is field_here) (field_else 2 (omega arith) (λ same. omega arith)) (omega arith)
+
+  node_lines : offset ≡ 2 → lines_in l stored Cached ≡ record lines { node = set_at lines.node number y }
+  node_lines is = plain_lines lines.state lines.kind (set_at lines.node number y) (field_else 0 (omega arith) (λ same. omega arith)) (field_else 1 (omega arith) (λ same. omega arith))
+      (subst (λ o. line_field l stored Cached o ≡ set_at (line_field l words Cached o) number y) is field_here) (omega arith)
+
+  anchor_lines : 3 ≤ offset → lines_in l stored Cached ≡ record lines { anchor = set_at lines.anchor number ((lines_in l stored Cached).anchor number) }
+  anchor_lines high =
+      let l0 = field_else 0 (omega arith) (λ same. omega arith) in
+      let l1 = field_else 1 (omega arith) (λ same. omega arith) in
+      let l2 = field_else 2 (omega arith) (λ same. omega arith) in
+      let anchor : (j : ℕ) → (lines_in l stored Cached).anchor j ≡ set_at lines.anchor number ((lines_in l stored Cached).anchor number) j = λ j. ⊎_elim
+      (λ (same : j ≡ number). ap (lines_in l stored Cached).anchor same ∙ sym (here lines.anchor number j ((lines_in l stored Cached).anchor number) same))
+      (λ (apart : j ≢ number).
+      (λ k. key_of (field_other 3 j (omega arith) apart k) (field_other 4 j (omega arith) apart k) (field_other 5 j (omega arith) apart k))
+      ∙ sym (other lines.anchor number j ((lines_in l stored Cached).anchor number) apart))
+      (cases_eq j number) in
+      λ k. record { state = l0 k; kind = l1 k; node = l2 k; anchor = λ j. anchor j k }
+
+  -- the store of a field, of an EMPTY line, or of a state
+  module _ (g : ℕ) (f : Facts) (holder : ℕ → ℕ) where
+    abbrev F : TurnFacts
+    F = now_known l g f (rest_in l words) holder
+
+    abbrev after : TurnFacts
+    after = known l g f holder (rest_in l stored)
+
+    path : (changed : Lines) → lines_in l stored Cached ≡ changed → after ≡ record F { line = changed }
+    path changed is = ap (known l g f holder) (rest_path changed is)
+
+    fills_moved : offset ≢ 0 → lines.state number ≡ 0 → Moved F after
+    fills_moved some_offset empty_state = ⊎_elim
+        (λ (one : offset ≡ 1). inr (subst (OtherStep F) (sym (path (record lines { kind = set_at lines.kind number y }) (kind_lines one))) (others.notes_kind number y empty_state)))
+        (λ (not_one : offset ≢ 1). ⊎_elim
+        (λ (two : offset ≡ 2). inr (subst (OtherStep F) (sym (path (record lines { node = set_at lines.node number y }) (node_lines two))) (others.notes_node number y empty_state)))
+        (λ (not_two : offset ≢ 2). inr (subst (OtherStep F) (sym (path (record lines { anchor = set_at lines.anchor number ((lines_in l stored Cached).anchor number) }) (anchor_lines (omega arith))))
+        (others.notes_anchor number ((lines_in l stored Cached).anchor number) empty_state)))
+        (cases_eq offset 2))
+        (cases_eq offset 1)
+
+    state_moved : offset ≡ 0 → OtherStep F (record F { line = record lines { state = set_at lines.state number y } }) → Moved F after
+    state_moved is step = inr (subst (OtherStep F) (sym (path (record lines { state = set_at lines.state number y }) (state_lines is))) step)
+
+-- A mark on a line is such a step. A line that becomes READY is of a merge only once that is ripe.
+pub marks_moved : (l : Layout) (words : List ℕ) (row : IsRow l words) (e : HeldLine) (sure : SureLine l words e) (offset y : ℕ) (small : offset < 8) (seen : List (ℕ × ℕ)) (ready : Bool) → Marks e offset y seen ready
+    → (g : ℕ) (f : Facts) (holder : ℕ → ℕ) → (ready ≡ true → (lines_in l words Cached).kind (line_number e) ≡ 2 → IsRipe (now_known l g f (rest_in l words) holder) (line_number e))
+    → Moved (now_known l g f (rest_in l words) holder) (known l g f holder (rest_in l (stored l words row e sure offset y small)))
+marks_moved l words row e sure offset y small seen ready (fills some_offset unready empty_state) g f holder ripe =
+    fills_moved l words row e sure offset y small g f holder some_offset (line_tie l words e sure.here 0 (omega arith) ∙ empty_state (line_in l words e.caller e.number) sure.seen)
+marks_moved l words row e sure offset y small seen ready (opens unready empty_state) g f holder ripe =
+    state_moved l words row e sure 0 1 small g f holder refl (others.opens (line_number e) (line_tie l words e sure.here 0 (omega arith) ∙ empty_state (line_in l words e.caller e.number) sure.seen))
+marks_moved l words row e sure offset y small seen ready (readies unready durable open_state blind) g f holder ripe =
+    let now = line_in l words e.caller e.number in
+    let safe = safe_line l words e.caller e.number in
+    let spared : (o : ℕ) → IsAmong e.dirty o → ⊥ = λ o among. subst (λ (dirty : List (ℕ × ℕ)). IsAmong dirty o) durable among in
+    let clean : safe ≡ now = λ k o. sure.clean o (spared o) (λ given. absurd (let no : true ≡ false = sym given.ready ∙ unready in cc)) k in
+    let safe_state : (lines_in l words Durable).state (line_number e) ≡ 1 = safe_tie l words e sure.here 0 (omega arith) ∙ (λ k. clean k 0) ∙ open_state now sure.seen in
+    state_moved l words row e sure 0 2 small g f holder refl (others.readies (line_number e) (line_tie l words e sure.here 0 (omega arith) ∙ open_state now sure.seen)
+    (λ none. let one = sym safe_state ∙ none in omega arith) (anchor_safe_tie l words e sure.here ∙ ap anchor_in clean ∙ sym (anchor_line_tie l words e sure.here)) (ripe refl))

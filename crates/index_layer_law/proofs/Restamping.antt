@@ -1,0 +1,154 @@
+-- A stamp that becomes another leaves the search layer where no turn is in flight: only whether a node has one matters.
+use Rattle.std.proofs.Common.{◌≡◌, ◌≢◌, ℕ, ◌<◌, inl, inr, List, slice_set, Option, sym, ap, ◌∙◌, subst, arith}
+use Rattle.std.proofs.lemmas.Bool.{cases_eq}
+use Rattle.pm_words.specs.declared.layout.Layout.{Layout}
+use Rattle.pm_words.specs.Locations.{Word, Location, Updater, Volatile, Cached, Durable, Leaf, HasLocation, leaf_count, address_of, at}
+use Rattle.pm_words.proofs.Apart.{at-set_other, at-set_same}
+use Rattle.data_node.specs.Lists.{anchor_in}
+use Rattle.call_stages.specs.Lines.{HeldLine}
+use Rattle.index_law.specs.Facts.{Facts}
+use Rattle.index_law.specs.Worlds.{World, facts}
+use Rattle.index_law.proofs.Rows.{facts-elsewhere}
+use Rattle.search_layer.specs.Leaves.{LayerWords, IsLayerRow, leaves_in}
+use Rattle.search_layer.proofs.LeafRows.{leaves_in-alike}
+use Rattle.updater_law.specs.Covers.{IsCover}
+use Rattle.updater_law.specs.Facts.{TurnTerms, TurnFacts}
+use Rattle.updater_law.specs.Lawful.{TurnLawful}
+use Rattle.updater_law.specs.TurnStages as turns
+use Rattle.updater_row_law.specs.Columns.{line_word, volatile_field}
+use Rattle.updater_row_law.specs.Columns as columns
+use Rattle.updater_row_law.specs.RowStages.{Resting, HasTarget}
+use Rattle.updater_row_law.specs.RowLaw.{RowLawful}
+use Rattle.updater_row_law.specs.Turnings.{Turning}
+use Rattle.updater_row_law.proofs.RowColumns.{column-here, column-alike, column-same}
+use Rattle.index_layer_law.specs.Turnings.{terms_of, ghosts_of, line_number, SureWatch}
+use Rattle.index_layer_law.specs.Layers.{Layered, CoversNode, turn_facts, IsLayered}
+use Rattle.index_layer_law.specs.Beginnings.{restamped, StampKeepsLayer}
+use Rattle.index_layer_law.proofs.FactTies.{known, facts_tie, lines_same}
+use Rattle.index_layer_law.proofs.Retired.{retiring_lines}
+use Rattle.index_layer_law.proofs.Switched.{unready_by, cover_same}
+
+-- for a turn that rests, stamps of which the same are 0
+with_stamps : (c : TurnTerms) (f : TurnFacts) (stamp : ℕ → ℕ) → ((n : ℕ) → f.stamp n ≡ 0 → stamp n ≡ 0) → ((n : ℕ) → stamp n ≡ 0 → f.stamp n ≡ 0) → TurnLawful c f turns.Resting → TurnLawful c (record f { stamp = stamp }) turns.Resting
+with_stamps c f stamp forth back is = record {
+  stamped_by = is.stamped_by;
+  durable = is.durable;
+  led = λ key node leads. let led = is.led key node leads in record { anchor = led.anchor; status = led.status; stamp = forth node led.stamp; not_freed = led.not_freed };
+  covered = is.covered;
+  apart = is.apart;
+  live = is.live;
+  marked = λ n some. is.marked n (λ none. some (forth n none));
+  owned = λ n gone bare. elim (is.owned n gone (back n bare)) [
+    | inl ready ↦ inl (record { line = ready.line; state = ready.state; kind = ready.kind; node = ready.node })
+    | inr other ↦ inr other
+  ];
+  ready = λ j state. let ready = is.ready j state in record { safe_state = ready.safe_state; safe_anchor = ready.safe_anchor; busy = ready.busy };
+  merges = λ j state kind. let merge = is.merges j state kind in record { gone = merge.gone; anchor = merge.anchor; stamp = elim merge.stamp [ inl none ↦ inl (forth (f.line.node j) none) | inr own ↦ inr own ]; alone = merge.alone };
+  sure = tt;
+}
+
+abbrev offset_of : Location → ℕ
+offset_of (Volatile n o) = o
+offset_of _ = 0
+
+abbrev node_of : Location → ℕ
+node_of (Volatile n o) = n
+node_of _ = 0
+
+module _ (z : Layered) (n y : ℕ) (is : IsLayered z) (here : n < z.whole.world.layout.nodes) where
+  abbrev w : World
+  w = z.whole.world
+
+  abbrev l : Layout
+  l = z.whole.world.layout
+
+  abbrev words' : List ℕ
+  words' = slice_set z.whole.world.words (address_of z.whole.world.layout (Volatile n 2)) y
+
+  abbrev w' : World
+  w' = record (z.whole.world) { words = slice_set z.whole.world.words (address_of z.whole.world.layout (Volatile n 2)) y }
+
+  has : HasLocation l (Volatile n 2)
+  has = (here, omega arith)
+
+  elsewhere : (p : Location) → HasLocation l p → p ≢ Volatile n 2 → at l words' p ≡ at l w.words p
+  elsewhere p there other = at-set_other l w.words (Volatile n 2) p y has there other
+
+  same_facts : facts w' ≡ facts w
+  same_facts = facts-elsewhere l w.words w.base w.history (Volatile n 2) y has (λ m o e. cc, λ m e. let no : 2 ≡ 0 = ap offset_of e in omega arith)
+
+  fields_same : (twin : Word → Location) → ((j o : ℕ) → j < columns.line_count l → o < 8 → at l words' (twin (line_word o j)) ≡ at l w.words (twin (line_word o j))) → columns.lines_in l words' twin ≡ columns.lines_in l w.words twin
+  fields_same twin same = lines_same l w.words words' twin (λ o small. column-same l w.words words' (columns.line_count l) (λ j. twin (line_word o j)) (λ j there. same j o there small))
+
+  lines_are : columns.lines_in l words' Cached ≡ columns.lines_in l w.words Cached
+  lines_are = fields_same Cached (λ j o there small. elsewhere (Cached (line_word o j)) (omega arith, omega arith, small) (λ e. cc))
+
+  safe_lines_are : columns.lines_in l words' Durable ≡ columns.lines_in l w.words Durable
+  safe_lines_are = fields_same Durable (λ j o there small. elsewhere (Durable (line_word o j)) (omega arith, omega arith, small) (λ e. cc))
+
+  leaves_are : leaves_in l words' Cached ≡ leaves_in l w.words Cached
+  leaves_are = λ k leaf o. leaves_in-alike l w.words words' Cached leaf o (λ there small. elsewhere (Cached (Leaf leaf o)) (there, small) (λ e. cc)) k
+
+  safe_leaves_are : leaves_in l words' Durable ≡ leaves_in l w.words Durable
+  safe_leaves_are = λ k leaf o. leaves_in-alike l w.words words' Durable leaf o (λ there small. elsewhere (Durable (Leaf leaf o)) (there, small) (λ e. cc)) k
+
+  covers_same : (own : Option HeldLine) (m : ℕ) → CoversNode w own m → CoversNode w' own m
+  covers_same own m = unready_by (IsCover (columns.lines_in l w.words Cached) (columns.lines_in l w.words Durable) (anchor_in ((facts w).now m)))
+      (IsCover (columns.lines_in l words' Cached) (columns.lines_in l words' Durable) (anchor_in ((facts w').now m))) own
+      (λ e is_own unready.
+      cover_same (columns.lines_in l w.words Cached) (columns.lines_in l words' Cached) (columns.lines_in l w.words Durable) (columns.lines_in l words' Durable) (anchor_in ((facts w).now m)) (anchor_in ((facts w').now m))
+      (line_number e) lines_are safe_lines_are (ap (λ (f : Facts). anchor_in (f.now m)) same_facts))
+
+  -- but for the stamps the law of turns knows the same
+  same_turn : (u : Turning) → turn_facts w' is.holder u ≡ record (turn_facts w is.holder u) { stamp = volatile_field l words' 2 }
+  same_turn u =
+      facts_tie w' is.holder u
+      ∙ (λ k. known l w.generation (same_facts k) is.holder (record { stamp = volatile_field l words' 2; line = lines_are k; safe_line = safe_lines_are k; leaves = leaves_are k; safe_leaves = safe_leaves_are k }))
+      ∙ sym (ap (λ (f : TurnFacts). record f { stamp = volatile_field l words' 2 }) (facts_tie w is.holder u))
+
+  stamp_else : (m : ℕ) → m ≢ n → volatile_field l words' 2 m ≡ volatile_field l w.words 2 m
+  stamp_else m other = column-alike l w.words words' l.nodes (λ k. Volatile k 2) m (λ there. elsewhere (Volatile m 2) (there, omega arith) (λ e. other (ap node_of e)))
+
+  module _ (has_some : at z.whole.world.layout z.whole.world.words (Volatile n 2) ≢ 0) (still : y ≢ 0) where
+    forth : (m : ℕ) → volatile_field l w.words 2 m ≡ 0 → volatile_field l words' 2 m ≡ 0
+    forth m none = elim (cases_eq m n) [
+      | inl e ↦ absurd (has_some (sym (column-here l w.words l.nodes (λ k. Volatile k 2) n here) ∙ ap (volatile_field l w.words 2) (sym e) ∙ none))
+      | inr other ↦ stamp_else m other ∙ none
+    ]
+
+    back : (m : ℕ) → volatile_field l words' 2 m ≡ 0 → volatile_field l w.words 2 m ≡ 0
+    back m none = elim (cases_eq m n) [
+      | inl e ↦ absurd (still (sym (at-set_same l w.words (Volatile n 2) y is.whole.joint.lawful.row.whole has) ∙ sym (column-here l words' l.nodes (λ k. Volatile k 2) n here) ∙ ap (volatile_field l words' 2) (sym e) ∙ none))
+      | inr other ↦ sym (stamp_else m other) ∙ none
+    ]
+
+    row_is : (u : Turning) → RowLawful (terms_of w u) (ghosts_of w is.holder) w.words Resting → RowLawful (terms_of w' u) (ghosts_of w' is.holder) words' Resting
+    row_is u row = record {
+      leaves = subst (λ (v : LayerWords). IsLayerRow (leaf_count l) l.nodes v) (sym leaves_are) row.leaves;
+      sure = λ leaf o. (λ k. safe_leaves_are k leaf o) ∙ row.sure leaf o ∙ sym (λ k. leaves_are k leaf o);
+      law = subst (λ (f : TurnFacts). TurnLawful (columns.terms_of (terms_of w u)) f turns.Resting) (sym (same_turn u))
+          (with_stamps (columns.terms_of (terms_of w u)) (turn_facts w is.holder u) (volatile_field l words' 2) forth back row.law);
+    }
+
+pub stamp_keeps_layer : StampKeepsLayer
+stamp_keeps_layer z n y is rests here has_some still whole tended =
+    let w : World = z.whole.world in
+    let w2 : World = (restamped z.whole n y).world in
+    record {
+      whole = whole;
+      tended = tended;
+      holder = is.holder;
+      holders = is.holders;
+      one = is.one;
+      active = is.active;
+      lock = λ free. is.lock (sym (elsewhere z n y is here Updater tt (λ e. cc)) ∙ free);
+      unlocked = λ all_rest. elsewhere z n y is here Updater tt (λ e. cc) ∙ is.unlocked all_rest;
+      rows = λ i u at_u others. subst (RowLawful (terms_of w2 u) (ghosts_of w2 is.holder) w2.words) (sym (rests i u at_u))
+          (row_is z n y is here has_some still u (subst (RowLawful (terms_of w u) (ghosts_of w is.holder) w.words) (rests i u at_u) (is.rows i u at_u others)));
+      stamps = is.stamps;
+      watches = λ i u at_u. subst (λ (f : Facts). SureWatch w.layout w.generation f u.watch) (sym (same_facts z n y is here)) (is.watches i u at_u);
+      shown = λ i u e target at_u has_target. absurd (let no : Resting ≡ HasTarget e target = sym (rests i u at_u) ∙ has_target in cc);
+      retiring = λ i p own u h left right at_p at_own stage. retiring_lines (turn_facts w is.holder u) (turn_facts w2 is.holder u) own right (ap (λ (f : TurnFacts). f.line) (same_turn z n y is here u))
+          (is.retiring i p own u h left right at_p at_own stage);
+      switched = λ i p m at_p is_switched. let covering = is.switched i p m at_p is_switched in (covering.0, covering.1, covers_same z n y is here covering.0 m covering.2);
+    }

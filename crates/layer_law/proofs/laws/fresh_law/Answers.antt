@@ -1,5 +1,0 @@
-use Rattle.layer_law.proofs.FreshLayer.{fresh_is_layered}
-use Rattle.layer_law.proofs.laws.fresh_law.Goals as goal
-
-pub returns : goal.returns
-returns c = fresh_is_layered

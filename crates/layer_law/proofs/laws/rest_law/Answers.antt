@@ -1,5 +1,0 @@
-use Rattle.layer_law.proofs.TurnRests.{rest_is_layered}
-use Rattle.layer_law.proofs.laws.rest_law.Goals as goal
-
-pub returns : goal.returns
-returns c = rest_is_layered

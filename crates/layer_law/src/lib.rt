@@ -1,5 +1,0 @@
-//! What an index keeps with its search layer: the steps of calls, and those of the updater's turn beside them, keep all
-//! that `index_law` and `turn_law` say, of one index.
-#![tactic(auto)]
-
-pub mod laws;

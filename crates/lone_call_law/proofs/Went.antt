@@ -1,0 +1,487 @@
+-- Where the machine of a lone call is after a turn.
+use Rattle.std.proofs.Common.{◌≡◌, ◌≢◌, ℕ, ◌+◌, ◌/◌, ◌<◌, ◌==◌, ◌⊎◌, nat_lt, true, false, cond, ltb, List, inl, inr, refl, sym, ◌∙◌, subst, arith}
+use Rattle.std.specs.Prelude.{Option, Some, None}
+use Rattle.pm_words.specs.declared.layout.Layout.{Layout}
+use Rattle.pm_words.specs.declared.again.Again.TheVariants as again
+use Rattle.pm_words.specs.declared.machine.Turn.{Turn}
+use Rattle.pm_words.specs.declared.machine.Turn.TheVariants.{Go, Done}
+use Rattle.pm_words.specs.declared.action.Action.TheVariants.{Load}
+use Rattle.pm_words.specs.Rows.{acted, got}
+use Rattle.data_node.specs.Bits.{lowest_clear}
+use Rattle.call_stages.specs.declared.once.Once.{Once}
+use Rattle.call_stages.specs.declared.once.Once.TheVariants as once
+use Rattle.call_stages.specs.declared.once.Placed.{Placed}
+use Rattle.call_stages.specs.Stages.{placed_in}
+use Rattle.node_ops.specs.declared.call.Call.{Call}
+use Rattle.node_ops.specs.declared.lookup.Hit.{Hit}
+use Rattle.node_ops.specs.declared.lookup.Found.{Found}
+use Rattle.node_ops.specs.declared.lookup.Looked.{Looked}
+use Rattle.node_ops.specs.declared.lookup.Looked.TheVariants as looked
+use Rattle.node_ops.specs.declared.lookup.Lookup.{Lookup}
+use Rattle.pm_words.specs.declared.fence.Fence.{Fence}
+use Rattle.node_ops.specs.declared.fill.Fill.{Fill}
+use Rattle.node_ops.specs.declared.fill.FillAt.{FillAt}
+use Rattle.node_ops.specs.declared.fill.FillAt.TheVariants as fill_at
+use Rattle.node_ops.specs.declared.finish.Finish.{Finish}
+use Rattle.node_ops.specs.declared.finish.FinishAt.{FinishAt}
+use Rattle.node_ops.specs.declared.finish.FinishAt.TheVariants as finish_at
+use Rattle.node_ops.specs.declared.get.Get.{Get}
+use Rattle.node_ops.specs.declared.put.Put.{Put}
+use Rattle.node_ops.specs.declared.put.Put.TheVariants as put
+use Rattle.node_ops.specs.declared.single_put.SinglePut.TheVariants as single_put
+use Rattle.node_ops.specs.declared.del.Del.{Del}
+use Rattle.node_ops.specs.declared.del.Del.TheVariants as del
+use Rattle.node_ops.specs.declared.single_del.SingleDel.TheVariants as single_del
+use Rattle.node_ops.specs.declared.part.Part.{Part}
+use Rattle.node_ops.specs.declared.part.Part.TheVariants as part
+use Rattle.node_ops.specs.declared.part.PartWords.{PartWords}
+use Rattle.node_ops.specs.declared.part.Reading.{Reading}
+use Rattle.node_ops.specs.declared.part.ReadingAt.{ReadingAt}
+use Rattle.node_ops.specs.declared.part.ReadingAt.TheVariants as reading_at
+use Rattle.data_list.specs.declared.target.Next.{Next}
+use Rattle.node_ops.specs.declared.running.Running.{Running}
+use Rattle.node_ops.specs.declared.running.Running.TheVariants.{Getting, Putting, Deleting, Parting}
+use Rattle.node_ops.specs.LookupSteps.{lookup_turned, lookup_asks}
+use Rattle.pm_words.specs.Fences.{fence_next}
+use Rattle.node_ops.specs.FinishSteps.{finish_turned, finish_at_turned, finish_fenced}
+use Rattle.node_ops.specs.FillSteps.{fill_turned, fill_at_turned, slot_fenced, print_fenced}
+use Rattle.node_ops.specs.GetSteps.{IsGet, get_call, get_asks, get_turned}
+use Rattle.node_ops.specs.PutSteps.{IsPut, put_call, put_asks, put_turned, put_looked, put_into, put_full, put_filled, put_finished, put_split, IsSplitting}
+use Rattle.node_ops.specs.DelSteps.{IsDel, IsTakeOf, names_left, del_call, del_asks, del_turned, del_looked, del_slot, del_hit, saw_next, del_taken, goes_on, merges_at, del_finished, del_merged}
+use Rattle.node_ops.specs.RunningSteps.{IsRunning, running_call, running_asks, running_turned, wrapped, wrapped_part}
+use Rattle.node_ops.specs.PartSteps.{IsPart, IsReading, part_words, reading_at_asks, part_call, part_asks, part_turned, part_looked, reading_turned, behind_of}
+use Rattle.node_ops.specs.CallStages.{stage_of, get_stage, put_stage, del_stage, has_place}
+use Rattle.node_ops.specs.Endings.{limit_in}
+use Rattle.node_ops.proofs.MergeFacts.{merging_stage, merge_placed, merge_limited}
+use Rattle.smo_log.specs.declared.take.Take.{Take}
+use Rattle.smo_log.specs.declared.take.TakeAt.TheVariants as take_at
+use Rattle.smo_log.specs.declared.take.Taken.{Taken}
+use Rattle.smo_log.specs.declared.take.Taken.TheVariants as taken
+use Rattle.smo_log.specs.Takes.{take_from, take_asks, take_turned}
+use Rattle.smo_log.specs.Laws.{HasLooked, TakeHeeds}
+use Rattle.smo_log.proofs.LineLaw.{takes_heed}
+use Rattle.split_merge.specs.declared.merging.Merge.{Merge}
+use Rattle.split_merge.specs.declared.merging.Merged.{Merged}
+use Rattle.split_merge.specs.Merges.{merge_turned}
+use Rattle.index_law.specs.Lines.{line_in}
+use Rattle.lone_call_law.specs.There.{CanWalk, IsAtNode, IsUnmoved, HasCome, EndsEarly, LookedStands}
+use Rattle.lone_call_law.specs.Splitting.{HasLine, HasFree, IsLacking, SplitStands, SplitWent, IsReadyToSplit, HoldsAlone}
+use Rattle.lone_call_law.proofs.Splitting.{splits_come_there, take_unmoved, take_told}
+use Rattle.index_law.specs.Facts.{version_in, list_in}
+use Rattle.data_node.specs.Lists.{IsIn, key_of, next_offset}
+use Rattle.data_node.proofs.ListLemmas.{target_in}
+use Rattle.call_stages.specs.Kinds.{Told}
+use Rattle.call_stages.specs.declared.view.View.{View}
+use Rattle.split_merge.specs.declared.splitting.Split.{Split}
+use Rattle.split_merge.specs.declared.splitting.SplitDone.{SplitDone}
+use Rattle.split_merge.specs.declared.splitting.SplitDone.TheVariants as done
+use Rattle.split_merge.specs.Splits.{split_asks, split_turned}
+use Rattle.pm_words.specs.declared.again.Again.{Again}
+use Rattle.node_ops.specs.declared.lookup.Hold.{Hold}
+use Rattle.node_ops.specs.Calls.{name_in, call_address}
+use Rattle.lone_call_law.specs.LoneCalls.{GetIsThere, PutIsThere, HasFoundLine, DelIsThere, PartIsThere, IsThere}
+use Rattle.lone_call_law.proofs.There.{looks_come_there, loaded_unmoved, stored_unmoved}
+use Rattle.node_ops.specs.declared.get.Get.TheVariants as get
+use Rattle.node_ops.specs.GetSteps.{get_looked}
+use Rattle.std.proofs.Common.{get_or}
+use Rattle.std.proofs.Common.{ap}
+use Rattle.std.specs.Prelude.{IsSome}
+use Rattle.std.proofs.lemmas.Bool.{eq-eqb}
+use Rattle.std.proofs.lemmas.List.{set-get_or}
+use Rattle.index_law.proofs.Rows.{version_in-here}
+use Rattle.call_stages.specs.Kinds.{version_address}
+use Rattle.data_node.specs.Spots.{slot_offset}
+
+-- a write that has come there holds the lock
+came_locked : (l : Layout) (words0 words : List ℕ) (call : Call) (word : ℕ) (limit : Option ℕ) → IsSome limit → HasCome limit l words0 words call word → IsAtNode l words0 call × IsUnmoved l words0 words call.node
+came_locked l words0 words call word None some here = absurd (let no : false ≡ true = some in cc)
+came_locked l words0 words call word (Some most) some here = here
+
+-- where a get is after a turn
+abbrev pub GetWent : Layout → ℕ → List ℕ → List ℕ → Call → Option ℕ → Turn Get (Once Placed) → Type 0
+GetWent l g words0 words call limit (Go next) = GetIsThere l words0 words next
+GetWent l g words0 words call limit (Done (once.Done placed)) = IsAtNode l words0 call × (placed.hops ≡ call.hops) × (limit ≡ call.limit)
+GetWent l g words0 words call limit (Done (once.Worn node word)) = EndsEarly l g words0 call (once.Worn node word)
+GetWent l g words0 words call limit (Done (once.Spent clock)) = EndsEarly l g words0 call (once.Spent clock)
+GetWent l g words0 words call limit (Done (once.Again why)) = ⊥
+
+early_went : (l : Layout) (g : ℕ) (words0 words : List ℕ) (call : Call) (limit : Option ℕ) (answer : Once Placed) → EndsEarly l g words0 call answer → GetWent l g words0 words call limit (Done answer)
+early_went l g words0 words call limit (once.Done placed) is = absurd is
+early_went l g words0 words call limit (once.Worn node word) is = is
+early_went l g words0 words call limit (once.Spent clock) is = is
+early_went l g words0 words call limit (once.Again why) is = absurd is
+
+-- a read is told the version word again that it saw
+reads_again : (call : Call) (words0 words : List ℕ) (x word : ℕ) → call.node < call.view.layout.nodes → HasCome None call.view.layout words0 words call word
+    → x ≡ got call.view.layout words (Load (version_address call.view.layout call.node)) → x ≡ word
+reads_again call words0 words x word within here told =
+    told ∙ ap (λ (ws : List ℕ). get_or ws (version_address call.view.layout call.node) 0) here.1 ∙ sym (version_in-here call.view.layout words0 call.node within) ∙ sym here.2
+
+pub get_went : (machine : Get) (words0 words : List ℕ) (x : ℕ) → IsGet machine
+    → CanWalk (get_call machine).view.layout (get_call machine).view.generation words0
+    → GetIsThere (get_call machine).view.layout words0 words machine → x ≡ got (get_call machine).view.layout words (get_asks machine)
+    → GetWent (get_call machine).view.layout (get_call machine).view.generation words0 (acted (get_call machine).view.layout words (get_asks machine)) (get_call machine) (limit_in (get_stage machine)) (get_turned machine x)
+get_went (get.Looking lookup) words0 words x sound still stands told = at (lookup_turned lookup x) (looks_come_there lookup words0 words x sound.0 still stands told)
+  where
+    at : (turn : Turn Lookup Looked) → LookedStands lookup.call.view.layout lookup.call.view.generation words0 (acted lookup.call.view.layout words (lookup_asks lookup)) lookup.call turn
+        → GetWent lookup.call.view.layout lookup.call.view.generation words0 (acted lookup.call.view.layout words (lookup_asks lookup)) lookup.call (limit_in (get_stage (get.Looking lookup))) (get_looked lookup.call turn)
+    at (Go next) is = is
+    at (Done (looked.Early answer)) is = early_went lookup.call.view.layout lookup.call.view.generation words0 (acted lookup.call.view.layout words (lookup_asks lookup)) lookup.call (limit_in (get_stage (get.Looking lookup))) answer is
+    at (Done (looked.Found found)) is = subst (λ (o : Option ℕ). HasCome o lookup.call.view.layout words0 (acted lookup.call.view.layout words (lookup_asks lookup)) lookup.call found.hold.locked) sound.1 is
+get_went (get.Checking call hold old) words0 words x sound still stands told =
+    let same : x ≡ hold.locked = reads_again call words0 words x hold.locked sound.0.node stands told in
+    subst (λ b. GetWent call.view.layout call.view.generation words0 (acted call.view.layout words (get_asks (get.Checking call hold old))) call (limit_in (get_stage (get.Checking call hold old)))
+    (Done (cond b (once.Done (record { old = old; place = hold.clock; hops = call.hops })) (once.Again (again.Moved call.node hold.locked x))))) (sym (eq-eqb x hold.locked same))
+    (stands.0, refl, refl)
+
+-- An answer of a machine: one that wrote had a place, and one that is turned back may be so.
+abbrev pub HasEnded : Layout → ℕ → List ℕ → List ℕ → Call → (Option ℕ → Type 0) → (Again → Type 0) → Option ℕ → Option ℕ → Once Placed → Type 0
+HasEnded l g words0 words call P R place limit (once.Done placed) = IsAtNode l words0 call × (placed.hops ≡ call.hops) × P place × (limit ≡ call.limit)
+HasEnded l g words0 words call P R place limit (once.Worn node word) = EndsEarly l g words0 call (once.Worn node word)
+HasEnded l g words0 words call P R place limit (once.Spent clock) = EndsEarly l g words0 call (once.Spent clock)
+HasEnded l g words0 words call P R place limit (once.Again (again.NeedsSplit node)) = IsAtNode l words0 call × R (again.NeedsSplit node) × HasLine l words0 call.view.caller × HasFree l g words0
+HasEnded l g words0 words call P R place limit (once.Again why) = IsAtNode l words0 call × R why × IsLacking l g words0 call.view.caller why × IsUnmoved l words0 words call.node
+
+early : (l : Layout) (g : ℕ) (words0 words : List ℕ) (call : Call) (P : Option ℕ → Type 0) (R : Again → Type 0) (place limit : Option ℕ) (answer : Once Placed) → EndsEarly l g words0 call answer → HasEnded l g words0 words call P R place limit answer
+early l g words0 words call P R place limit (once.Done placed) is = absurd is
+early l g words0 words call P R place limit (once.Worn node word) is = is
+early l g words0 words call P R place limit (once.Spent clock) is = is
+early l g words0 words call P R place limit (once.Again why) is = absurd is
+
+-- one that lacks a line or a node is turned back
+turned_back : (l : Layout) (g : ℕ) (words0 words : List ℕ) (call : Call) (P : Option ℕ → Type 0) (R : Again → Type 0) (place limit : Option ℕ) (why : Again) → IsAtNode l words0 call → ((why : Again) → R why)
+    → IsUnmoved l words0 words call.node × IsLacking l g words0 call.view.caller why → HasEnded l g words0 words call P R place limit (once.Again why)
+turned_back l g words0 words call P R place limit again.LogFull at may lacks = (at, may again.LogFull, lacks.1, lacks.0)
+turned_back l g words0 words call P R place limit again.NoFree at may lacks = (at, may again.NoFree, lacks.1, lacks.0)
+turned_back l g words0 words call P R place limit (again.Locked n word) at may lacks = absurd lacks.1
+turned_back l g words0 words call P R place limit (again.Moved n first second) at may lacks = absurd lacks.1
+turned_back l g words0 words call P R place limit (again.Hops count) at may lacks = absurd lacks.1
+turned_back l g words0 words call P R place limit (again.NeedsSplit n) at may lacks = absurd lacks.1
+turned_back l g words0 words call P R place limit (again.Held word) at may lacks = absurd lacks.1
+turned_back l g words0 words call P R place limit (again.Epoch first second) at may lacks = absurd lacks.1
+
+-- it has a place
+abbrev pub IsGiven : Option ℕ → Type 0
+IsGiven place = place ≢ None
+
+module _ (l : Layout) (g : ℕ) (words0 words : List ℕ) (R : Again → Type 0) where
+  abbrev PutWent : Call → Option ℕ → Option ℕ → Turn Put (Once Placed) → Type 0
+  PutWent call place limit (Go next) = PutIsThere l words0 words next
+  PutWent call place limit (Done answer) = HasEnded l g words0 words call IsGiven R place limit answer
+
+  abbrev DelWent : Call → Option ℕ → Option ℕ → Turn Del (Once Placed) → Type 0
+  DelWent call place limit (Go next) = DelIsThere l words0 words next
+  DelWent call place limit (Done answer) = HasEnded l g words0 words call IsGiven R place limit answer
+
+  -- the end of a write keeps what is so of its call
+  abbrev FinishWent : (Call → Type 0) → Call → Option ℕ → Option ℕ → Turn Finish (Once Placed) → Type 0
+  FinishWent Q call place limit (Go next) = Q next.call
+  FinishWent Q call place limit (Done answer) = HasEnded l g words0 words call IsGiven R place limit answer
+
+  finish_went : (Q : Call → Type 0) (finish : Finish) (x : ℕ) → Q finish.call → IsAtNode l words0 finish.call
+      → FinishWent Q finish.call (placed_in (put_stage (put.Single (single_put.Finishing finish)))) (limit_in (put_stage (put.Single (single_put.Finishing finish)))) (finish_turned finish x)
+  finish_went Q finish x holds stands = at finish.at
+    where
+      fenced : (line : ℕ) (o : Option Fence) (place limit : Option ℕ) → FinishWent Q finish.call place limit (finish_fenced finish line o)
+      fenced line (Some fence) place limit = holds
+      fenced line None place limit = holds
+
+      at : (at : FinishAt) → FinishWent Q finish.call (placed_in (put_stage (put.Single (single_put.Finishing (record finish { at = at }))))) (limit_in (put_stage (put.Single (single_put.Finishing (record finish { at = at }))))) (finish_at_turned finish at x)
+      at (finish_at.Fence line fence) = fenced line (fence_next fence x) None finish.call.limit
+      at finish_at.Add = holds
+      at (finish_at.Unlock place) = (stands, refl, (λ e. cc), refl)
+
+  abbrev FillWent : Turn Fill Finish → Type 0
+  FillWent (Go next) = IsAtNode l words0 next.call
+  FillWent (Done finish) = IsAtNode l words0 finish.call
+
+  fill_went : (fill : Fill) (x : ℕ) → IsAtNode l words0 fill.call → FillWent (fill_turned fill x)
+  fill_went fill x stands = at fill.at
+    where
+      slot_on : (o : Option Fence) → FillWent (slot_fenced fill o)
+      slot_on (Some fence) = stands
+      slot_on None = stands
+
+      print_on : (o : Option Fence) → FillWent (print_fenced fill o)
+      print_on (Some fence) = stands
+      print_on None = stands
+
+      at : (at : FillAt) → FillWent (fill_at_turned fill at x)
+      at (fill_at.Word k) = elim (ltb (k + 1) 4) as (λ b. FillWent (cond b (Go (record fill { at = fill_at.Word (k + 1) })) (Go (record fill { at = fill_at.Print })))) [ true ↦ stands | false ↦ stands ]
+      at fill_at.Print = stands
+      at (fill_at.FenceSlot fence) = slot_on (fence_next fence x)
+      at (fill_at.FencePrint fence) = print_on (fence_next fence x)
+      at fill_at.Bitmap = stands
+
+  full_stands : (call : Call) (found : Found) (hit : Option Hit) (value : ℕ) → IsAtNode l words0 call × IsUnmoved l words0 words call.node
+      → PutIsThere l words0 words (put_full call found.hold found.directory.bitmap hit value)
+  full_stands call found (Some hit) value stands = stands.0
+  full_stands call found None value stands = stands
+
+  into_stands : (call : Call) (found : Found) (value : ℕ) (clear : Option ℕ) → IsAtNode l words0 call × IsUnmoved l words0 words call.node
+      → PutIsThere l words0 words (put_into call found value clear)
+  into_stands call found value (Some slot) stands = stands.0
+  into_stands call found value None stands = full_stands call found found.hit value stands
+
+  put_looked_went : (call : Call) (value : ℕ) (place limit : Option ℕ) → IsSome call.limit → (turn : Turn Lookup Looked) → LookedStands l g words0 words call turn → PutWent call place limit (put_looked call value turn)
+  put_looked_went call value place limit some (Go next) is = is
+  put_looked_went call value place limit some (Done (looked.Early answer)) is = early l g words0 words call IsGiven R place limit answer is
+  put_looked_went call value place limit some (Done (looked.Found found)) is = into_stands call found value (lowest_clear found.directory.bitmap call.view.layout.slots) (came_locked l words0 words call found.hold.locked call.limit some is)
+
+  slot_stands : (call : Call) (hold : Hold) (bitmap : ℕ) (hit : Hit) → IsAtNode l words0 call × IsUnmoved l words0 words call.node → DelIsThere l words0 words (del_slot call hold bitmap hit)
+  slot_stands call hold bitmap hit stands = elim (nat_lt (call.view.layout.slots / 2) (names_left call bitmap hit)) as (λ b. DelIsThere l words0 words (cond b (del.Single (single_del.Clearing call hold bitmap hit None)) (del.Single (single_del.Next call hold bitmap hit)))) [
+    | true ↦ (stands.0, tt)
+    | false ↦ stands
+  ]
+
+  hit_stands : (call : Call) (found : Found) (hit : Option Hit) → IsAtNode l words0 call × IsUnmoved l words0 words call.node → DelIsThere l words0 words (del_hit call found.hold found.directory.bitmap hit)
+  hit_stands call found (Some hit) stands = slot_stands call found.hold found.directory.bitmap hit stands
+  hit_stands call found None stands = (stands.0, tt)
+
+  del_looked_went : (call : Call) (place limit : Option ℕ) → IsSome call.limit → (turn : Turn Lookup Looked) → LookedStands l g words0 words call turn → DelWent call place limit (del_looked call turn)
+  del_looked_went call place limit some (Go next) is = is
+  del_looked_went call place limit some (Done (looked.Early answer)) is = early l g words0 words call IsGiven R place limit answer is
+  del_looked_went call place limit some (Done (looked.Found found)) is = hit_stands call found found.hit (came_locked l words0 words call found.hold.locked call.limit some is)
+
+  -- a look for a line begins
+  next_went : (call : Call) (hold : Hold) (bitmap : ℕ) (hit : Hit) (place limit : Option ℕ) (next : ℕ) → IsAtNode l words0 call × IsUnmoved l words0 words call.node
+      → DelWent call place limit (Go (saw_next call hold bitmap hit next))
+  next_went call hold bitmap hit place limit next stands =
+      elim (next == 0) as (λ b. DelIsThere l words0 words (cond b (del.Single (single_del.Clearing call hold bitmap hit None)) (del.Single (single_del.Taking call hold bitmap hit (take_from call.view.layout call.view.caller))))) [
+        | true ↦ (stands.0, tt)
+        | false ↦ (stands.0, stands.1, λ index lt. absurd (let no : index < 0 = lt in omega arith))
+      ]
+
+  -- and it finds one, or each is in use
+  del_taken_went : (call : Call) (hold : Hold) (bitmap : ℕ) (hit : Hit) (place limit : Option ℕ) (index : ℕ) → IsAtNode l words0 call → IsUnmoved l words0 words call.node → (turn : Turn Take Taken)
+      → TakeHeeds call.view.caller (λ number. line_in l words0 call.view.caller number 0) index turn → DelWent call place limit (del_taken call hold bitmap hit turn)
+  del_taken_went call hold bitmap hit place limit index there unmoved (Go take) heeds = (there, unmoved, heeds)
+  del_taken_went call hold bitmap hit place limit index there unmoved (Done (taken.Line line)) heeds = (there, record { number = index; within = heeds.1; empty = heeds.2 })
+  del_taken_went call hold bitmap hit place limit index there unmoved (Done taken.Full) heeds = (there, unmoved, heeds)
+
+  -- the end of a write, which may go on with a merge
+  goes_on_there : (finish : Finish) (line : Option ℕ) → IsAtNode l words0 finish.call × HasFoundLine l words0 finish.call line → DelIsThere l words0 words (goes_on finish line)
+  goes_on_there finish None stands = stands
+  goes_on_there finish (Some number) stands = at finish.at
+    where
+      at : (at : FinishAt) → DelIsThere l words0 words (merges_at finish number at)
+      at (finish_at.Fence first fence) = stands
+      at finish_at.Add = stands
+      at (finish_at.Unlock place) = stands
+
+  put_filled_went : (call : Call) (place limit : Option ℕ) (turn : Turn Fill Finish) → FillWent turn → PutWent call place limit (put_filled turn)
+  put_filled_went call place limit (Go next) is = is
+  put_filled_went call place limit (Done finish) is = is
+
+  put_finished_went : (call : Call) (place limit : Option ℕ) (turn : Turn Finish (Once Placed)) → FinishWent (IsAtNode l words0) call place limit turn → PutWent call place limit (put_finished turn)
+  put_finished_went call place limit (Go next) is = is
+  put_finished_went call place limit (Done answer) is = is
+
+  -- a call with its line
+  abbrev WithLine : Option ℕ → Call → Type 0
+  WithLine line call = IsAtNode l words0 call × HasFoundLine l words0 call line
+
+  del_finished_went : (line : Option ℕ) (call : Call) (place limit : Option ℕ) (turn : Turn Finish (Once Placed)) → FinishWent (WithLine line) call place limit turn → DelWent call place limit (del_finished line turn)
+  del_finished_went line call place limit (Go next) is = goes_on_there next line is
+  del_finished_went line call place limit (Done answer) is = is
+
+  -- a merge, at whose end it is answered
+  del_merged_went : (call : Call) (hold : Hold) (old place limit : Option ℕ) (number : ℕ) → IsAtNode l words0 call → HasLine l words0 call.view.caller → place ≢ None → limit ≡ call.limit → (turn : Turn Merge Merged)
+      → DelWent call place limit (del_merged call hold old number turn)
+  del_merged_went call hold old place limit number stands has given below (Go merge) = (stands, has)
+  del_merged_went call hold old place limit number stands has given below (Done merged) = (stands, refl, given, below)
+
+-- a get and a part need no place
+abbrev pub NeedsPlace : Running → Option ℕ → Type 0
+NeedsPlace (Getting machine) place = Unit {0}
+NeedsPlace (Putting machine) place = IsGiven place
+NeedsPlace (Deleting machine) place = IsGiven place
+NeedsPlace (Parting machine) place = Unit {0}
+
+-- only a put that splits may find no room
+abbrev pub IsSplittingPut : Put → Type 0
+IsSplittingPut (put.Splitting call hold bitmap value split) = Unit {0}
+IsSplittingPut _ = ⊥
+
+abbrev pub MayLackRoom : Running → Type 0
+MayLackRoom (Getting machine) = ⊥
+MayLackRoom (Putting machine) = IsSplittingPut machine
+MayLackRoom (Deleting machine) = ⊥
+MayLackRoom (Parting machine) = ⊥
+
+-- A delete that looked for a line gives its node back.
+pub record IsRefusing (machine : Running) : Type 0 where
+  pub call : Call
+  pub hold : Hold
+  pub bitmap : ℕ
+  pub hit : Hit
+  pub is : machine ≡ Deleting (del.Single (single_del.Refusing call hold bitmap hit))
+
+-- such a delete may find no line, and so may a put that splits
+abbrev pub MayLack : Running → Again → Type 0
+MayLack machine why = MayLackRoom machine ⊎ ((why ≡ again.LogFull) × IsRefusing machine)
+
+abbrev pub Went : Layout → ℕ → List ℕ → List ℕ → Running → Turn Running (Once Placed) → Type 0
+Went l g words0 words machine (Go next) = IsThere l words0 words next
+Went l g words0 words machine (Done answer) = HasEnded l g words0 words (running_call machine) (NeedsPlace machine) (MayLack machine) (placed_in (stage_of machine)) (limit_in (stage_of machine)) answer
+
+-- the version word of a node that is held alone while it is to be split is its own
+abbrev pub KnowsOwn : Layout → List ℕ → Running → Type 0
+KnowsOwn l words (Putting (put.Splitting call hold bitmap value split)) = HoldsAlone split.at → version_in l words call.node ≡ hold.locked
+KnowsOwn l words _ = Unit {0}
+
+-- the words as they were are ready for a split of a listed node
+ready_to_split : (l : Layout) (g : ℕ) (words0 : List ℕ) (call : Call) → CanWalk l g words0 → IsAtNode l words0 call → IsReadyToSplit l g words0 call.node
+ready_to_split l g words0 call still at = record {
+  live = still.quiet.quiet.live call.node (subst (IsIn (list_in l words0)) (sym at.node) (target_in 0 (list_in l words0) (key_of (name_in call))));
+  first = still.quiet.quiet.live 0 (inl refl);
+  free = still.quiet.quiet.free;
+}
+
+split_went : (call : Call) (hold : Hold) (bitmap value : ℕ) (split : Split) (words0 words : List ℕ) (x : ℕ) → IsSplitting call hold bitmap split
+    → CanWalk call.view.layout call.view.generation words0
+    → IsAtNode call.view.layout words0 call → SplitStands call.view.layout call.view.generation words0 words call.node hold.locked call.view.caller split.at
+    → Told call.view.layout call.view.generation (split_asks split) x → (HoldsAlone split.at → version_in call.view.layout words call.node ≡ hold.locked)
+    → x ≡ got call.view.layout words (split_asks split)
+    → SplitWent call.view.layout call.view.generation words0 (acted call.view.layout words (split_asks split)) call.node hold.locked call.view.caller (split_turned split x)
+split_went call hold bitmap value split words0 words x sound still at stands tells mine told =
+    let all : Path (View × (ℕ × ℕ)) (split.view, (split.node, split.word)) (call.view, (call.node, hold.locked)) = λ k. (sound.view k, (sound.node k, sound.word k)) in
+    let back = sym all in
+    subst (λ (q : View × (ℕ × ℕ)). SplitWent q.0.layout q.0.generation words0 (acted q.0.layout words (split_asks split)) q.1.0 q.1.1 q.0.caller (split_turned split x)) all
+    (splits_come_there split words0 words x sound.here
+    (subst (λ (q : View × (ℕ × ℕ)). IsReadyToSplit q.0.layout q.0.generation words0 q.1.0) back (ready_to_split call.view.layout call.view.generation words0 call still at))
+    (subst (λ (q : View × (ℕ × ℕ)). SplitStands q.0.layout q.0.generation words0 words q.1.0 q.1.1 q.0.caller split.at) back stands)
+    (subst (λ (q : View × (ℕ × ℕ)). Told q.0.layout q.0.generation (split_asks split) x) back tells)
+    (subst (λ (q : View × (ℕ × ℕ)). HoldsAlone split.at → version_in q.0.layout words q.1.0 ≡ q.1.1) back mine)
+    (subst (λ (q : View × (ℕ × ℕ)). x ≡ got q.0.layout words (split_asks split)) back told))
+
+put_went : (machine : Put) (words0 words : List ℕ) (x : ℕ) → IsPut machine
+    → CanWalk (put_call machine).view.layout (put_call machine).view.generation words0
+    → Told (put_call machine).view.layout (put_call machine).view.generation (put_asks machine) x
+    → KnowsOwn (put_call machine).view.layout words (Putting machine)
+    → PutIsThere (put_call machine).view.layout words0 words machine → x ≡ got (put_call machine).view.layout words (put_asks machine)
+    → PutWent (put_call machine).view.layout (put_call machine).view.generation words0 (acted (put_call machine).view.layout words (put_asks machine)) (MayLack (Putting machine)) (put_call machine) (placed_in (put_stage machine)) (limit_in (put_stage machine)) (put_turned machine x)
+put_went (put.Single (single_put.Looking lookup value)) words0 words x sound still tells mine stands told =
+    put_looked_went _ _ words0 _ (MayLack (Putting (put.Single (single_put.Looking lookup value)))) lookup.call value (placed_in (put_stage (put.Single (single_put.Looking lookup value)))) (limit_in (put_stage (put.Single (single_put.Looking lookup value)))) sound.2 (lookup_turned lookup x) (looks_come_there lookup words0 words x sound.0 still stands told)
+put_went (put.Single (single_put.Filling fill)) words0 words x sound still tells mine stands told =
+    put_filled_went _ _ words0 _ (MayLack (Putting (put.Single (single_put.Filling fill)))) fill.call None fill.call.limit (fill_turned fill x) (fill_went _ fill.call.view.generation words0 words (MayLack (Putting (put.Single (single_put.Filling fill)))) fill x stands)
+put_went (put.Single (single_put.Replacing call hold bitmap hit value)) words0 words x sound still tells mine stands told = stands
+put_went (put.Single (single_put.Finishing finish)) words0 words x sound still tells mine stands told =
+    put_finished_went _ _ words0 _ (MayLack (Putting (put.Single (single_put.Finishing finish)))) finish.call (placed_in (put_stage (put.Single (single_put.Finishing finish)))) (limit_in (put_stage (put.Single (single_put.Finishing finish)))) (finish_turned finish x)
+    (finish_went _ _ words0 (acted finish.call.view.layout words (put_asks (put.Single (single_put.Finishing finish)))) (MayLack (Putting (put.Single (single_put.Finishing finish)))) (IsAtNode finish.call.view.layout words0) finish x stands stands)
+put_went (put.Splitting call hold bitmap value split) words0 words x sound still tells mine stands told =
+    on (split_turned split x) (split_went call hold bitmap value split words0 words x sound still stands.0 stands.1 tells mine told)
+  where
+    on : (turn : Turn Split SplitDone) → SplitWent call.view.layout call.view.generation words0 (acted call.view.layout words (split_asks split)) call.node hold.locked call.view.caller turn
+        → PutWent call.view.layout call.view.generation words0 (acted call.view.layout words (split_asks split)) (MayLack (Putting (put.Splitting call hold bitmap value split))) call (placed_in (put_stage (put.Splitting call hold bitmap value split)))
+        (limit_in (put_stage (put.Splitting call hold bitmap value split))) (put_split call hold bitmap value turn)
+    on (Go next) went = (stands.0, went)
+    on (Done (done.Done fresh)) went = (stands.0, inl tt, went.0, went.1)
+    on (Done (done.Again why)) went = turned_back call.view.layout call.view.generation words0 (acted call.view.layout words (split_asks split)) call IsGiven (MayLack (Putting (put.Splitting call hold bitmap value split)))
+        (placed_in (put_stage (put.Splitting call hold bitmap value split))) (limit_in (put_stage (put.Splitting call hold bitmap value split))) why stands.0 (λ y. inl tt) went
+
+-- a look for a line of a delete
+del_take_went : (call : Call) (hold : Hold) (bitmap : ℕ) (hit : Hit) (take : Take) (words0 words : List ℕ) (x : ℕ) (place limit : Option ℕ) (R : Again → Type 0) → IsTakeOf call.view take
+    → IsAtNode call.view.layout words0 call → IsUnmoved call.view.layout words0 words call.node → HasLooked (λ number. line_in call.view.layout words0 call.view.caller number 0) take.index take.at
+    → x ≡ got call.view.layout words (take_asks take)
+    → DelWent call.view.layout call.view.generation words0 (acted call.view.layout words (take_asks take)) R call place limit (del_taken call hold bitmap hit (take_turned take x))
+del_take_went call hold bitmap hit take words0 words x place limit R is there still looked told =
+    let same = is.layout_is in
+    let unmoved = subst (λ (k : Layout). IsUnmoved k words0 words call.node) (sym same) still in
+    let own_told : x ≡ got take.layout words (take_asks take) = subst (λ (k : Layout). x ≡ got k words (take_asks take)) (sym same) told in
+    let now = subst (λ (k : Layout). IsUnmoved k words0 (acted k words (take_asks take)) call.node) same (take_unmoved take is.here words0 words call.node unmoved) in
+    let states : take.at ≡ take_at.State → x ≡ line_in call.view.layout words0 call.view.caller take.index 0 =
+    λ state. subst (λ (q : Layout × ℕ). x ≡ line_in q.0 words0 q.1 take.index 0) (λ k. (same k, is.caller_is k)) (take_told take is.here words0 words call.node unmoved x own_told state) in
+    del_taken_went call.view.layout call.view.generation words0 (acted call.view.layout words (take_asks take)) R call hold bitmap hit place limit take.index there now (take_turned take x)
+    (subst (λ (c : ℕ). TakeHeeds c (λ number. line_in call.view.layout words0 call.view.caller number 0) take.index (take_turned take x)) is.caller_is
+    (takes_heed take (λ number. line_in call.view.layout words0 call.view.caller number 0) x is.here states looked))
+
+del_went : (machine : Del) (words0 words : List ℕ) (x : ℕ) → IsDel machine
+    → CanWalk (del_call machine).view.layout (del_call machine).view.generation words0
+    → Told (del_call machine).view.layout (del_call machine).view.generation (del_asks machine) x
+    → DelIsThere (del_call machine).view.layout words0 words machine → x ≡ got (del_call machine).view.layout words (del_asks machine)
+    → DelWent (del_call machine).view.layout (del_call machine).view.generation words0 (acted (del_call machine).view.layout words (del_asks machine)) (MayLack (Deleting machine)) (del_call machine) (placed_in (del_stage machine)) (limit_in (del_stage machine)) (del_turned machine x)
+del_went (del.Single (single_del.Looking lookup)) words0 words x sound still tells stands told =
+    del_looked_went _ _ words0 _ (MayLack (Deleting (del.Single (single_del.Looking lookup)))) lookup.call (placed_in (del_stage (del.Single (single_del.Looking lookup)))) (limit_in (del_stage (del.Single (single_del.Looking lookup)))) sound.1 (lookup_turned lookup x) (looks_come_there lookup words0 words x sound.0 still stands told)
+del_went (del.Single (single_del.Next call hold bitmap hit)) words0 words x sound still tells stands told =
+    next_went call.view.layout call.view.generation words0 (acted call.view.layout words (Load (call_address call next_offset))) (MayLack (Deleting (del.Single (single_del.Next call hold bitmap hit)))) call hold bitmap hit None call.limit x
+    (stands.0, loaded_unmoved call.view.layout words0 words call.node (call_address call next_offset) stands.1)
+del_went (del.Single (single_del.Taking call hold bitmap hit take)) words0 words x sound still tells stands told =
+    del_take_went call hold bitmap hit take words0 words x None call.limit (MayLack (Deleting (del.Single (single_del.Taking call hold bitmap hit take)))) sound.2 stands.0 stands.1 stands.2 told
+del_went (del.Single (single_del.Refusing call hold bitmap hit)) words0 words x sound still tells stands told =
+    (stands.0, inr (refl, record { call = call; hold = hold; bitmap = bitmap; hit = hit; is = refl }), stands.2, stored_unmoved call.view.layout words0 words call.node (hold.locked + 1) sound.call.node stands.1)
+del_went (del.Single (single_del.Clearing call hold bitmap hit line)) words0 words x sound still tells stands told = stands
+del_went (del.Single (single_del.Finishing finish line)) words0 words x sound still tells stands told =
+    del_finished_went _ _ words0 _ (MayLack (Deleting (del.Single (single_del.Finishing finish line)))) line finish.call (placed_in (put_stage (put.Single (single_put.Finishing finish)))) (limit_in (put_stage (put.Single (single_put.Finishing finish)))) (finish_turned finish x)
+    (finish_went _ _ words0 (acted finish.call.view.layout words (del_asks (del.Single (single_del.Finishing finish line)))) (MayLack (Deleting (del.Single (single_del.Finishing finish line)))) (WithLine finish.call.view.layout finish.call.view.generation words0 (acted finish.call.view.layout words (del_asks (del.Single (single_del.Finishing finish line)))) (MayLack (Deleting (del.Single (single_del.Finishing finish line)))) line) finish x stands stands.0)
+del_went (del.Merging call hold old place merge) words0 words x sound still tells stands told =
+    let stage = del_stage (del.Merging call hold old place merge) in
+    let of = merging_stage call old place merge in
+    let placed : placed_in stage ≡ Some place = merge_placed (has_place call old place) stage of in
+    del_merged_went _ _ words0 _ (MayLack (Deleting (del.Merging call hold old place merge))) call hold old (placed_in stage) (limit_in stage) place stands.0 stands.1 (λ none. let no : Some place ≡ None = sym placed ∙ none in cc)
+    (merge_limited (has_place call old place) stage of) (merge_turned merge x)
+
+-- where a part is after a turn
+abbrev PartWent : Layout → ℕ → List ℕ → List ℕ → Part → Turn Part (Once PartWords) → Type 0
+PartWent l g words0 words machine turn = Went l g words0 words (Parting machine) (wrapped_part turn)
+
+part_looked_went : (l : Layout) (g : ℕ) (words0 words : List ℕ) (lookup : Lookup) (count : ℕ) (before behind : Option Next) (turn : Turn Lookup Looked) → lookup.call.limit ≡ None → LookedStands l g words0 words lookup.call turn
+    → PartWent l g words0 words (part.Looking lookup count before) (part_looked lookup.call count behind turn)
+part_looked_went l g words0 words lookup count before behind (Go next) read is = is
+part_looked_went l g words0 words lookup count before behind (Done (looked.Early (once.Done placed))) read is = absurd is
+part_looked_went l g words0 words lookup count before behind (Done (looked.Early (once.Worn node word))) read is = is
+part_looked_went l g words0 words lookup count before behind (Done (looked.Early (once.Spent clock))) read is = is
+part_looked_went l g words0 words lookup count before behind (Done (looked.Early (once.Again why))) read is = absurd is
+part_looked_went l g words0 words lookup count before behind (Done (looked.Found found)) read is = subst (λ (o : Option ℕ). HasCome o l words0 words lookup.call found.hold.locked) read is
+
+reading_went : (words0 words : List ℕ) (reading : Reading) (x : ℕ) → IsReading reading → HasCome None reading.call.view.layout words0 words reading.call reading.hold.locked → (at : ReadingAt)
+    → x ≡ got reading.call.view.layout words (reading_at_asks reading.call at)
+    → PartWent reading.call.view.layout reading.call.view.generation words0 (acted reading.call.view.layout words (reading_at_asks reading.call at)) (part.Reading (record reading { at = at })) (reading_turned (record reading { at = at }) at x)
+reading_went words0 words reading x sound stands (reading_at.Load slot word) told = (stands.0, set-get_or words (call_address reading.call (slot_offset slot word)) 0 ∙ stands.1, stands.2)
+reading_went words0 words reading x sound stands reading_at.Check told =
+    let same : x ≡ reading.hold.locked = reads_again reading.call words0 words x reading.hold.locked sound.call.node stands told in
+    let whole = record reading { at = reading_at.Check } in
+    subst (λ b. PartWent reading.call.view.layout reading.call.view.generation words0 (acted reading.call.view.layout words (reading_at_asks reading.call reading_at.Check)) (part.Reading whole)
+    (Done (cond b (once.Done (part_words whole)) (once.Again (again.Moved reading.call.node reading.hold.locked x))))) (sym (eq-eqb x reading.hold.locked same))
+    (stands.0, refl, tt, refl)
+
+part_went : (machine : Part) (words0 words : List ℕ) (x : ℕ) → IsPart machine
+    → CanWalk (part_call machine).view.layout (part_call machine).view.generation words0
+    → PartIsThere (part_call machine).view.layout words0 words machine → x ≡ got (part_call machine).view.layout words (part_asks machine)
+    → PartWent (part_call machine).view.layout (part_call machine).view.generation words0 (acted (part_call machine).view.layout words (part_asks machine)) machine (part_turned machine x)
+part_went (part.Looking lookup count behind) words0 words x sound still stands told =
+    part_looked_went _ _ words0 _ lookup count behind (behind_of lookup.at behind) (lookup_turned lookup x) sound.1 (looks_come_there lookup words0 words x sound.0 still stands told)
+part_went (part.Reading reading) words0 words x sound still stands told = reading_went words0 words reading x sound stands reading.at told
+
+pub machine_went : (machine : Running) (words0 words : List ℕ) (x : ℕ) → IsRunning machine
+    → CanWalk (running_call machine).view.layout (running_call machine).view.generation words0
+    → Told (running_call machine).view.layout (running_call machine).view.generation (running_asks machine) x
+    → KnowsOwn (running_call machine).view.layout words machine
+    → IsThere (running_call machine).view.layout words0 words machine → x ≡ got (running_call machine).view.layout words (running_asks machine)
+    → Went (running_call machine).view.layout (running_call machine).view.generation words0 (acted (running_call machine).view.layout words (running_asks machine)) machine (running_turned machine x)
+machine_went (Getting machine) words0 words x sound still tells mine stands told = at (get_turned machine x) (get_went machine words0 words x sound still stands told)
+  where
+    ended : (answer : Once Placed) → GetWent (get_call machine).view.layout (get_call machine).view.generation words0 (acted (get_call machine).view.layout words (get_asks machine)) (get_call machine) (limit_in (get_stage machine)) (Done answer)
+        → HasEnded (get_call machine).view.layout (get_call machine).view.generation words0 (acted (get_call machine).view.layout words (get_asks machine)) (get_call machine) (λ place. Unit {0}) (MayLack (Getting machine)) (placed_in (stage_of (Getting machine))) (limit_in (stage_of (Getting machine))) answer
+    ended (once.Done placed) is = (is.0, is.1, tt, is.2)
+    ended (once.Worn node word) is = is
+    ended (once.Spent clock) is = is
+    ended (once.Again why) is = absurd is
+
+    at : (turn : Turn Get (Once Placed)) → GetWent (get_call machine).view.layout (get_call machine).view.generation words0 (acted (get_call machine).view.layout words (get_asks machine)) (get_call machine) (limit_in (get_stage machine)) turn
+        → Went (get_call machine).view.layout (get_call machine).view.generation words0 (acted (get_call machine).view.layout words (get_asks machine)) (Getting machine) (wrapped Getting turn)
+    at (Go next) is = is
+    at (Done answer) is = ended answer is
+machine_went (Putting machine) words0 words x sound still tells mine stands told = at (put_turned machine x) (put_went machine words0 words x sound still tells mine stands told)
+  where
+    at : (turn : Turn Put (Once Placed)) → PutWent (put_call machine).view.layout (put_call machine).view.generation words0 (acted (put_call machine).view.layout words (put_asks machine)) (MayLack (Putting machine)) (put_call machine) (placed_in (put_stage machine)) (limit_in (put_stage machine)) turn
+        → Went (put_call machine).view.layout (put_call machine).view.generation words0 (acted (put_call machine).view.layout words (put_asks machine)) (Putting machine) (wrapped Putting turn)
+    at (Go next) is = is
+    at (Done answer) is = is
+machine_went (Deleting machine) words0 words x sound still tells mine stands told = at (del_turned machine x) (del_went machine words0 words x sound still tells stands told)
+  where
+    at : (turn : Turn Del (Once Placed)) → DelWent (del_call machine).view.layout (del_call machine).view.generation words0 (acted (del_call machine).view.layout words (del_asks machine)) (MayLack (Deleting machine)) (del_call machine) (placed_in (del_stage machine)) (limit_in (del_stage machine)) turn
+        → Went (del_call machine).view.layout (del_call machine).view.generation words0 (acted (del_call machine).view.layout words (del_asks machine)) (Deleting machine) (wrapped Deleting turn)
+    at (Go next) is = is
+    at (Done answer) is = is
+machine_went (Parting machine) words0 words x sound still tells mine stands told = part_went machine words0 words x sound still stands told

@@ -1,0 +1,223 @@
+-- What the actions of a turn give in an index: it may be told that, and of a READY line a node and an anchor.
+use Rattle.std.proofs.Common.{◌≡◌, ◌≢◌, ℕ, ◌/◌, ◌%◌, ◌^◌, ◌<◌, ◌≤◌, List, [], ◌∷◌, slice_index, inl, inr, refl, sym, subst, ap, ◌∙◌, arith}
+use Rattle.std.proofs.lemmas.Bool.{cases_eq}
+use Rattle.std.proofs.lemmas.List.Elements.{All-head}
+use Rattle.pm_words.specs.declared.layout.Layout.{Layout}
+use Rattle.pm_words.specs.declared.action.Action.{Action}
+use Rattle.pm_words.specs.declared.action.Action.TheVariants.{Load, Store, Exchange, Add, Drain}
+use Rattle.pm_words.specs.declared.fence.FenceAt.{FenceAt}
+use Rattle.pm_words.specs.declared.fence.FenceAt.TheVariants as fence_at
+use Rattle.pm_words.specs.Fences.{fence_at_asks}
+use Rattle.pm_words.specs.Locations.{Location, Leaf, Line, Node, Volatile, Cached, HasLocation, address_of, at, leaf_count}
+use Rattle.pm_words.specs.Rows.{got, given, action_address}
+use Rattle.pm_words.proofs.Apart.{addresses_apart}
+use Rattle.cat_key.specs.Names.{IsName, IsNameByte, words_of}
+use Rattle.std.specs.Int.{w64, to_be_bytes}
+use Rattle.cat_key.proofs.Digits.{to_be_bytes-word_of}
+use Rattle.cat_key.proofs.Packing.{name_bytes}
+use Rattle.version_lock.specs.Versions.{generation_of}
+use Rattle.data_node.specs.Lists.{next_offset, anchor_in}
+use Rattle.data_node.proofs.KeyLemmas.{zero_anchor}
+use Rattle.call_stages.specs.Kinds.{HasWordAt, Told}
+use Rattle.call_stages.specs.Lines.{IsEntry}
+use Rattle.data_list.specs.Walks.{walk_asks}
+use Rattle.index_law.specs.Facts.{Facts}
+use Rattle.index_law.specs.Lines.{line_in, AreFit}
+use Rattle.index_law.specs.Worlds.{World, facts}
+use Rattle.index_law.specs.Lawful.{Lawful}
+use Rattle.index_law.proofs.Noting.{line-here}
+use Rattle.index_law.proofs.Rows.{version_in-here, status_in-here, spot_in-here}
+use Rattle.pm_alloc.specs.declared.gone.ReleaseAt.{ReleaseAt}
+use Rattle.pm_alloc.specs.declared.gone.ReleaseAt.TheVariants as release_at
+use Rattle.pm_alloc.specs.Gone.{release_at_asks}
+use Rattle.search_layer.specs.declared.change.Change.{Change}
+use Rattle.search_layer.specs.declared.change.ChangeAt.{ChangeAt}
+use Rattle.search_layer.specs.declared.change.ChangeAt.TheVariants as change_at
+use Rattle.search_layer.specs.declared.reader.Reader.{Reader}
+use Rattle.search_layer.specs.declared.reader.ReaderAt.{ReaderAt}
+use Rattle.search_layer.specs.declared.reader.ReaderAt.TheVariants as reader_at
+use Rattle.search_layer.specs.ChangeSteps.{change_at_asks, IsChangeAt}
+use Rattle.search_layer.specs.Leaves.{leaf_place}
+use Rattle.search_layer.specs.Reading.{IsReader, offset_read, reader_asks}
+use Rattle.smo_log.specs.declared.read.ReadLine.{ReadLine}
+use Rattle.smo_log.specs.LogLines.{numbered_address, caller_of, index_of}
+use Rattle.updater_row_law.specs.Columns.{line_count, line_word, line_field}
+use Rattle.updater_row_law.proofs.RowColumns.{column-here}
+use Rattle.updater.specs.declared.terms.Terms.{Terms}
+use Rattle.updater.specs.declared.terms.Tally.{Tally}
+use Rattle.updater.specs.declared.work.WorkAt.{WorkAt}
+use Rattle.updater.specs.declared.work.WorkAt.TheVariants as at
+use Rattle.updater.specs.Works.{work_at_asks, IsTerms, IsWorkAt, ToldOfLine}
+use Rattle.updater.proofs.WalkLoads.{IsApart, LoadsApart, walk_place}
+use Rattle.updater.proofs.WatchLaw.{none_of_line}
+
+given_fits : (a : Action) (word : ℕ) → word < 2 ^ 64 → given a word < 2 ^ 64
+given_fits (Load place) word small = small
+given_fits (Store place value) word small = omega arith
+given_fits (Exchange place old new) word small = small
+given_fits (Add place) word small = small
+given_fits (Drain place value) word small = omega arith
+
+-- an action of any kind gives what may be told
+pub told_any : (w : World) (a : Action) → Lawful w → Told w.layout w.generation a (got w.layout w.words a)
+told_any w a lawful =
+    let l : Layout = w.layout in
+    let words : List ℕ = w.words in
+    let f : Facts = facts w in
+    let some : 0 < l.nodes = lawful.row.layout.nodes.0 in
+    let lit = lawful.live.live 0 (inl refl) in
+    record {
+      fits = given_fits a (slice_index words (action_address l a)) (lawful.row.fits (action_address l a));
+      known = λ n here is. subst (λ (b : Action). generation_of (got l words b) ≤ w.generation) (sym is) (subst (λ v. generation_of v ≤ w.generation) (version_in-here l words n here) (lawful.versions n here));
+      first_live = λ is. subst (λ (b : Action). got l words b ≡ 1) (sym is) (sym (status_in-here l words 0 some) ∙ lit);
+      first_anchor = λ offset least most is.
+          let has : HasWordAt l 0 offset = (some, omega arith) in
+          subst (λ (b : Action). got l words b ≡ 0) (sym is) (sym (spot_in-here l words 0 offset has (omega arith)) ∙ anchor_word f offset lawful.list.lowest least most);
+      first_next = λ is leads.
+          let has : HasWordAt l 0 next_offset = (some, omega arith) in
+          subst (λ (b : Action). got l words b < l.nodes) (sym is) (subst (λ n. n < l.nodes) (spot_in-here l words 0 next_offset has (omega arith)) (lawful.live.leads 0 some lit));
+    }
+  where
+    anchor_word : (f : Facts) (offset : ℕ) → anchor_in (f.now 0) ≡ 0 → 3 ≤ offset → offset ≤ 5 → f.now 0 offset ≡ 0
+    anchor_word f offset lowest least most =
+        let zeros = zero_anchor (f.now 0) lowest in
+        elim (cases_eq offset 3) [
+          | inl e ↦ ap (f.now 0) e ∙ ap (λ ws. slice_index ws 0) zeros
+          | inr not_third ↦ elim (cases_eq offset 4) [
+            | inl e ↦ ap (f.now 0) e ∙ ap (λ ws. slice_index ws 1) zeros
+            | inr not_fourth ↦ let last : offset ≡ 5 = omega (arith, not_third, not_fourth) in ap (f.now 0) last ∙ ap (λ ws. slice_index ws 2) zeros
+          ]
+        ]
+
+-- the first word of a name isn't 0
+name_first : (name : List ℕ) → IsName name → slice_index (words_of name) 0 ≢ 0
+unfolding words_of
+name_first [] is none = let some : 1 ≤ 0 = is.some in omega arith
+name_first (byte ∷ text) is none =
+    let first : 33 ≤ byte = (All-head IsNameByte byte text is.bytes).0 in
+    let zero_byte : 0 ≡ byte = ap (λ bytes. slice_index bytes 0) (ap (to_be_bytes w64) (sym none) ∙ to_be_bytes-word_of (byte ∷ text) (name_bytes (byte ∷ text) is)) in
+    omega arith
+
+-- a word of a line, by the line's number
+word_of_line : (l : Layout) (words : List ℕ) (line offset : ℕ) → line < line_count l → offset < 8 → at l words (Cached (line_word offset line)) ≡ line_in l words (line / 8) (line % 8) offset
+word_of_line l words line offset within small = sym (line-here l words (line / 8) (line % 8) offset (omega arith, omega arith, small))
+
+-- a READY line says a node of the layout and an anchor
+ready_entry : (l : Layout) (words : List ℕ) (line : ℕ) → AreFit l words → line < line_count l → line_field l words Cached 0 line ≡ 2 → IsEntry l (line_in l words (line / 8) (line % 8))
+ready_entry l words line fit within ready =
+    let state : line_in l words (line / 8) (line % 8) 0 ≡ 2 =
+    sym (word_of_line l words line 0 within (omega arith)) ∙ sym (column-here l words (line_count l) (λ k. Cached (line_word 0 k)) line within) ∙ ready in
+    elim (fit (line / 8) (line % 8) (line_in l words (line / 8) (line % 8)) (λ offset. inr refl)) [
+      | inl empty ↦ absurd (let no : 0 ≡ 2 = sym empty ∙ state in omega arith)
+      | inr entry ↦ entry
+    ]
+
+abbrev caller_at : Location → ℕ
+caller_at (Cached (Line c j o)) = c
+caller_at _ = 0
+
+abbrev index_at : Location → ℕ
+index_at (Cached (Line c j o)) = j
+index_at _ = 0
+
+abbrev offset_at : Location → ℕ
+offset_at (Cached (Line c j o)) = o
+offset_at _ = 0
+
+abbrev place_of : Action → ℕ
+place_of (Load place) = place
+place_of _ = 0
+
+module _ (l : Layout) (words : List ℕ) where
+  -- a load of a line, which is READY if that isn't its state
+  line_told : (line offset : ℕ) → AreFit l words → line < line_count l → offset < 8 → (0 < offset → line_field l words Cached 0 line ≡ 2)
+      → ToldOfLine l (Load (numbered_address l line offset)) (got l words (Load (numbered_address l line offset)))
+  line_told line offset fit within small ready = record {
+    node = λ other here is.
+        let same = same_as other 2 here (omega arith) is in
+        let entry = ready_entry l words line fit within (ready (omega (arith, same.1))) in
+        subst (λ x. x < l.nodes) (sym (loaded 2 same.1 (omega arith))) entry.node.1;
+    named = λ other here is none.
+        let same = same_as other 3 here (omega arith) is in
+        let entry = ready_entry l words line fit within (ready (omega (arith, same.1))) in
+        name_first entry.name entry.is_name (ap (λ ws. slice_index ws 0) (sym entry.anchor) ∙ sym (loaded 3 same.1 (omega arith)) ∙ none);
+  }
+    where
+      same_as : (other o : ℕ) → other < line_count l → o < 8 → Load (numbered_address l line offset) ≡ Load (numbered_address l other o) → (line ≡ other) × (offset ≡ o)
+      same_as other o here small' is =
+          let place : Cached (Line (caller_of line) (index_of line) offset) ≡ Cached (Line (caller_of other) (index_of other) o) =
+          addresses_apart l (Cached (Line (caller_of line) (index_of line) offset)) (Cached (Line (caller_of other) (index_of other) o)) (omega arith, omega arith, small) (omega arith, omega arith, small') (ap place_of is) in
+          let caller : line / 8 ≡ other / 8 = ap caller_at place in
+          let index : line % 8 ≡ other % 8 = ap index_at place in
+          (omega arith, ap offset_at place)
+
+      loaded : (o : ℕ) → offset ≡ o → o < 8 → got l words (Load (numbered_address l line offset)) ≡ line_in l words (line / 8) (line % 8) o
+      loaded o same small' = ap (λ k. got l words (Load (numbered_address l line k))) same ∙ word_of_line l words line o within small'
+
+module _ (l : Layout) where
+  apart : (p : Location) → HasLocation l p → IsApart p → (x : ℕ) → ToldOfLine l (Load (address_of l p)) x
+  apart p has beside x = none_of_line l (Load (address_of l p)) x (record { location = p; has = has; apart = beside; loads = refl })
+
+  -- an action that loads nothing
+  no_load : (a : Action) (x : ℕ) → ((place : ℕ) → a ≡ Load place → ⊥) → ToldOfLine l a x
+  no_load a x none = record { node = λ line here is. absurd (none _ is); named = λ line here is. absurd (none _ is) }
+
+  leaf_told : (leaf offset x : ℕ) → leaf < leaf_count l → offset < 8 → ToldOfLine l (Load (leaf_place l leaf offset)) x
+  leaf_told leaf offset x within small = apart (Cached (Leaf leaf offset)) (within, small) (λ c j o is. cc) x
+
+  reader_told : (reader : Reader) (x : ℕ) → IsReader l reader → ToldOfLine l (reader_asks l reader) x
+  reader_told reader x is = leaf_told reader.leaf (offset_read reader.at) x is.leaf (small reader.at)
+    where
+      small : (at : ReaderAt) → offset_read at < 8
+      small reader_at.Node = omega arith
+      small (reader_at.First node) = omega arith
+      small (reader_at.Second node first) = omega arith
+      small (reader_at.Third node first second) = omega arith
+
+  fence_told : (leaf word x : ℕ) (at : FenceAt) → leaf < leaf_count l → word < 8 → ToldOfLine l (fence_at_asks (leaf_place l leaf word) at) x
+  fence_told leaf word x fence_at.Load within small = leaf_told leaf word x within small
+  fence_told leaf word x (fence_at.Drain value) within small = no_load (Drain (leaf_place l leaf word) value) x (λ place is. cc)
+
+  release_told : (k : Layout) (node : ℕ) (at : ReleaseAt) (x : ℕ) → ToldOfLine l (release_at_asks k node at) x
+  release_told k node release_at.Stamp x = no_load (release_at_asks k node release_at.Stamp) x (λ place is. cc)
+  release_told k node release_at.Status x = no_load (release_at_asks k node release_at.Status) x (λ place is. cc)
+
+-- what a change of the search layer loads
+change_told : (change : Change) (at : ChangeAt) (x : ℕ) → IsChangeAt change.layout at → ToldOfLine change.layout (change_at_asks change at) x
+change_told change (change_at.Looking unused reader) x is = reader_told change.layout reader x is.0
+change_told change (change_at.Filling leaf word) x is = no_load change.layout _ x (λ place is. cc)
+change_told change (change_at.DrainingLeaf leaf fence) x is = fence_told change.layout leaf fence.word x fence.at is.0 is.1.word
+change_told change (change_at.Switching leaf) x is = no_load change.layout _ x (λ place is. cc)
+change_told change (change_at.DrainingSwitch leaf fence) x is = fence_told change.layout leaf fence.word x fence.at is.0 is.1.word
+
+-- the line that it reads is READY
+abbrev pub ReadsReady : Layout → List ℕ → WorkAt → Type 0
+ReadsReady l words state = (read : ReadLine) → state ≡ at.Reading read → line_field l words Cached 0 read.line ≡ 2
+
+pub told_of_line : (terms : Terms) (tally : Tally) (at : WorkAt) (words : List ℕ) → IsTerms terms → IsWorkAt terms tally at → AreFit terms.layout words → ReadsReady terms.layout words at
+    → ToldOfLine terms.layout (work_at_asks terms at) (got terms.layout words (work_at_asks terms at))
+told_of_line terms tally (at.State line) words is here fit ready = line_told terms.layout words line 0 fit here.within (omega arith) (λ no. absurd (omega arith))
+told_of_line terms tally (at.Reading read) words is here fit ready =
+    subst (λ (k : Layout). ToldOfLine terms.layout (Load (numbered_address k read.line read.offset)) (got terms.layout words (Load (numbered_address k read.line read.offset)))) (sym here.1.layout)
+    (line_told terms.layout words read.line read.offset fit here.0.within (let small : read.offset < 7 = here.1.sound.offset in omega arith) (λ some. ready read refl))
+told_of_line terms tally (at.Landing line entry floor) words is here fit ready =
+    let l : Layout = terms.layout in
+    subst (λ (k : Layout). ToldOfLine l (reader_asks k floor.reader) (got l words (reader_asks k floor.reader))) (sym here.3)
+    (reader_told l floor.reader _ (subst (λ (k : Layout). IsReader k floor.reader) here.3 here.2.reader))
+told_of_line terms tally (at.Walking line entry walk) words is here fit ready =
+    none_of_line terms.layout _ _ (subst (λ (k : Layout). LoadsApart k (walk_asks walk)) here.2.layout (walk_place walk here.2.sound))
+told_of_line terms tally (at.Seeing line entry found) words is here fit ready = apart terms.layout (Cached (Node found.node 0)) (here.2, omega arith) (λ c j o is. cc) _
+told_of_line terms tally (at.Setting line entry set) words is here fit ready =
+    let asks : Action = change_at_asks set.change set.change.at in
+    subst (λ (k : Layout). ToldOfLine k asks (got terms.layout words asks)) here.3 (change_told set.change set.change.at (got terms.layout words asks) here.2.change.here)
+told_of_line terms tally (at.Unsetting line entry unset) words is here fit ready =
+    let asks : Action = change_at_asks unset.change unset.change.at in
+    subst (λ (k : Layout). ToldOfLine k asks (got terms.layout words asks)) here.3 (change_told unset.change unset.change.at (got terms.layout words asks) here.2.change.here)
+told_of_line terms tally (at.Stamping line entry) words is here fit ready = no_load terms.layout _ _ (λ place is. cc)
+told_of_line terms tally (at.Clearing clear) words is here fit ready = no_load terms.layout _ _ (λ place is. cc)
+told_of_line terms tally (at.Status node) words is here fit ready = apart terms.layout (Volatile node 0) (here.within, omega arith) (λ c j o is. cc) _
+told_of_line terms tally (at.Stamp node) words is here fit ready = apart terms.layout (Volatile node 2) (here.within, omega arith) (λ c j o is. cc) _
+told_of_line terms tally (at.Version node) words is here fit ready = apart terms.layout (Cached (Node node 0)) (here.within, omega arith) (λ c j o is. cc) _
+told_of_line terms tally (at.Releasing release) words is here fit ready = release_told terms.layout release.layout release.node release.at _
+told_of_line terms tally (at.Counting node none) words is here fit ready = apart terms.layout (Volatile node 0) (here.0, omega arith) (λ c j o is. cc) _
+told_of_line terms tally (at.Leaving none) words is here fit ready = no_load terms.layout _ _ (λ place is. cc)

@@ -1,7 +1,0 @@
-use Rattle.opening_law.proofs.Opened.{opening_is_at_rest}
-use Rattle.opening_law.proofs.Footing.{opening_is_footed}
-use Rattle.opening_law.proofs.Layering.{opening_is_layered}
-use Rattle.opening_law.proofs.laws.opening_law.Goals as goal
-
-pub returns : goal.returns
-returns c = record { rest = opening_is_at_rest; footed = opening_is_footed; layered = opening_is_layered }

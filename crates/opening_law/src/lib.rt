@@ -1,5 +1,0 @@
-//! What opens an index: over the words that a whole recovery leaves, once its volatile words tell the list, an index with
-//! no call and no turn in flight keeps all that `index_law` and `layer_law` say.
-#![tactic(auto)]
-
-pub mod laws;

@@ -1,5 +1,0 @@
-use Rattle.recovery_law.proofs.Rest.{broken_is_sound, broken_then_whole}
-use Rattle.recovery_law.proofs.laws.broken_law.Goals as goal
-
-pub returns : goal.returns
-returns c = record { sound = broken_is_sound; whole = broken_then_whole }

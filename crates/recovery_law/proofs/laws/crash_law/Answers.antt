@@ -1,7 +1,0 @@
-use Rattle.recovery_law.proofs.Mixes.{crash_mends}
-use Rattle.recovery_law.proofs.Mended.{mended_is_sound}
-use Rattle.recovery_law.proofs.Weighs.{mended_weighs}
-use Rattle.recovery_law.proofs.laws.crash_law.Goals as goal
-
-pub returns : goal.returns
-returns c = record { mends = crash_mends; sound = mended_is_sound; weighs = mended_weighs }

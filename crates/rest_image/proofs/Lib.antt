@@ -1,4 +1,0 @@
-pub mod CachedWords
-pub mod RestRules
-pub mod RestLayer
-pub mod RestLaw

@@ -1,6 +1,0 @@
-use Rattle.sound_image.specs.Sound.{AreKept}
-use Rattle.sound_image.proofs.broken.first_broken.Given as goal
-
--- no rule before this one is broken
-abbrev pub invariant-loop-rule : goal.invariant-loop-rule
-invariant-loop-rule l = AreKept l.image.layout l.image.words l.rule

@@ -1,5 +1,0 @@
-use Rattle.sound_image.proofs.MapLemmas.{sound_has_map, has_one_map}
-use Rattle.sound_image.proofs.laws.map_law.Goals as goal
-
-pub returns : goal.returns
-returns c = record { some = sound_has_map; one = has_one_map }

@@ -1,5 +1,0 @@
-use Rattle.sound_image.proofs.TidyLemmas.{sound_keeps, keeps_sound}
-use Rattle.sound_image.proofs.laws.rules_law.Goals as goal
-
-pub returns : goal.returns
-returns c = record { keeps = sound_keeps; sound = keeps_sound }

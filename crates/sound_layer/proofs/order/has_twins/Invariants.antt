@@ -1,9 +1,0 @@
-use Rattle.std.proofs.Common.{◌≡◌, ◌+◌, ℕ, ◌<◌, slice_index}
-use Rattle.sound_layer.specs.Leaves.{image_leaves, key_words}
-use Rattle.sound_layer.proofs.order.has_twins.Given as goal
-
--- no leaf that the loop has passed has the key of the one behind it
-abbrev pub invariant-loop-k : goal.invariant-loop-k
-invariant-loop-k l =
-    let key = key_words (image_leaves l.image.layout l.image.words) in
-    (i : ℕ) → i + 1 < l.k → ¬ (key (slice_index l.leaves i) ≡ key (slice_index l.leaves (i + 1)))

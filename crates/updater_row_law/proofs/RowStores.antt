@@ -1,0 +1,206 @@
+-- What the stores of a turn make of the facts.
+use Rattle.std.proofs.Common.{◌≡◌, ◌≢◌, ℕ, ◌/◌, ◌%◌, ◌<◌, not, List, length, slice_set, refl, ap, ◌∙◌, arith}
+use Rattle.pm_words.specs.declared.layout.Layout.{Layout}
+use Rattle.pm_words.specs.Locations.{Word, Location, Node, Line, Leaf, Cached, Durable, Volatile, Updater, HasLocation, address_of, leaf_count, row_words}
+use Rattle.pm_words.proofs.Apart.{at-set_other}
+use Rattle.version_lock.specs.Versions.{is_free_word, is_worn_word}
+use Rattle.search_layer.specs.Keys.{key_of}
+use Rattle.search_layer.specs.Leaves.{leaves_in, layer_in, KeepsOthers}
+use Rattle.search_layer.proofs.LeafRows.{leaves_in-alike}
+use Rattle.updater_law.specs.Covers.{set_at}
+use Rattle.updater_law.specs.Facts.{TurnFacts}
+use Rattle.updater_law.specs.TurnSteps.{emptied}
+use Rattle.updater_row_law.specs.Columns.{RowTerms, Ghosts, line_count, line_word, line_field, node_field, volatile_field, facts_in}
+use Rattle.updater_row_law.proofs.RowColumns.{column-same, column-set}
+
+-- the words of the row but for statuses, stamps, states of lines, and the leaves
+pub record SameRest (l : Layout) (words words' : List ℕ) : Type 0 where
+  pub node : (o : ℕ) → o < 16 → node_field l words' o ≡ node_field l words o
+  pub line : (o : ℕ) → 0 < o → o < 8 → line_field l words' Cached o ≡ line_field l words Cached o
+  pub safe : (o : ℕ) → o < 8 → line_field l words' Durable o ≡ line_field l words Durable o
+
+-- the facts, but for what these words say
+pub facts_path : (r : RowTerms) (ghosts : Ghosts) (words words' : List ℕ) (status stamp state : ℕ → ℕ) → SameRest r.layout words words' → volatile_field r.layout words' 0 ≡ status → volatile_field r.layout words' 2 ≡ stamp
+    → line_field r.layout words' Cached 0 ≡ state
+    → facts_in r ghosts words' ≡ record (facts_in r ghosts words) {
+      status = status;
+      stamp = stamp;
+      line = record ((facts_in r ghosts words).line) { state = state };
+      layer = layer_in (leaves_in r.layout words' Cached) (leaf_count r.layout);
+      safe_layer = layer_in (leaves_in r.layout words' Durable) (leaf_count r.layout);
+    }
+facts_path r ghosts words words' status stamp state rest is_status is_stamp is_state =
+    let n0 = rest.node 0 (omega arith) in
+    let n3 = rest.node 3 (omega arith) in
+    let n4 = rest.node 4 (omega arith) in
+    let n5 = rest.node 5 (omega arith) in
+    let l1 = rest.line 1 (omega arith) (omega arith) in
+    let l2 = rest.line 2 (omega arith) (omega arith) in
+    let l3 = rest.line 3 (omega arith) (omega arith) in
+    let l4 = rest.line 4 (omega arith) (omega arith) in
+    let l5 = rest.line 5 (omega arith) (omega arith) in
+    let s0 = rest.safe 0 (omega arith) in
+    let s1 = rest.safe 1 (omega arith) in
+    let s2 = rest.safe 2 (omega arith) in
+    let s3 = rest.safe 3 (omega arith) in
+    let s4 = rest.safe 4 (omega arith) in
+    let s5 = rest.safe 5 (omega arith) in
+    λ i. record {
+      listed = ghosts.listed;
+      anchor = λ n. key_of (n3 i n) (n4 i n) (n5 i n);
+      status = is_status i;
+      stamp = is_stamp i;
+      held = λ n. not (is_free_word (n0 i n) r.generation);
+      holder = ghosts.holder;
+      worn = λ n. is_worn_word (n0 i n) r.generation;
+      line = record { state = is_state i; kind = l1 i; node = l2 i; anchor = λ j. key_of (l3 i j) (l4 i j) (l5 i j) };
+      safe_line = record { state = s0 i; kind = s1 i; node = s2 i; anchor = λ j. key_of (s3 i j) (s4 i j) (s5 i j) };
+      layer = layer_in (leaves_in r.layout words' Cached) (leaf_count r.layout);
+      safe_layer = layer_in (leaves_in r.layout words' Durable) (leaf_count r.layout);
+    }
+
+-- no word but the leaves' is another
+module _ (l : Layout) (words words' : List ℕ) (same : KeepsOthers l words words') where
+  node_stays : (o : ℕ) → o < 16 → node_field l words' o ≡ node_field l words o
+  node_stays o small = column-same l words words' l.nodes (λ n. Cached (Node n o)) (λ n lt. same (Cached (Node n o)) (lt, omega arith) (λ leaf offset. (λ e. cc, λ e. cc)))
+
+  pub volatile_stays : (o : ℕ) → o < 16 → volatile_field l words' o ≡ volatile_field l words o
+  volatile_stays o small = column-same l words words' l.nodes (λ n. Volatile n o) (λ n lt. same (Volatile n o) (lt, small) (λ leaf offset. (λ e. cc, λ e. cc)))
+
+  pub line_stays : (o : ℕ) → o < 8 → line_field l words' Cached o ≡ line_field l words Cached o
+  line_stays o small = column-same l words words' (line_count l) (λ j. Cached (line_word o j)) (λ j lt. same (Cached (line_word o j)) (omega arith, omega arith, small) (λ leaf offset. (λ e. cc, λ e. cc)))
+
+  safe_stays : (o : ℕ) → o < 8 → line_field l words' Durable o ≡ line_field l words Durable o
+  safe_stays o small = column-same l words words' (line_count l) (λ j. Durable (line_word o j)) (λ j lt. same (Durable (line_word o j)) (omega arith, omega arith, small) (λ leaf offset. (λ e. cc, λ e. cc)))
+
+  pub rest_stays : SameRest l words words'
+  rest_stays = record { node = node_stays; line = λ o some. line_stays o; safe = safe_stays }
+
+pub leaf_facts : (r : RowTerms) (ghosts : Ghosts) (words words' : List ℕ) → KeepsOthers r.layout words words'
+    → facts_in r ghosts words' ≡ record (facts_in r ghosts words) {
+      layer = layer_in (leaves_in r.layout words' Cached) (leaf_count r.layout);
+      safe_layer = layer_in (leaves_in r.layout words' Durable) (leaf_count r.layout);
+    }
+leaf_facts r ghosts words words' same =
+    let l : Layout = r.layout in
+    facts_path r ghosts words words' (volatile_field l words 0) (volatile_field l words 2) (line_field l words Cached 0) (rest_stays l words words' same)
+    (volatile_stays l words words' same 0 (omega arith)) (volatile_stays l words words' same 2 (omega arith)) (line_stays l words words' same 0 (omega arith))
+
+-- the node and the offset that a location of a volatile word names
+abbrev node_at : Location → ℕ
+node_at (Volatile n o) = n
+node_at _ = 0
+
+abbrev volatile_at : Location → ℕ
+volatile_at (Volatile n o) = o
+volatile_at _ = 0
+
+-- and of a line's word
+abbrev caller_at : Location → ℕ
+caller_at (Cached (Line c j o)) = c
+caller_at _ = 0
+
+abbrev index_at : Location → ℕ
+index_at (Cached (Line c j o)) = j
+index_at _ = 0
+
+abbrev offset_at : Location → ℕ
+offset_at (Cached (Line c j o)) = o
+offset_at _ = 0
+
+-- One store beside the leaves, at a location p.
+module _ (l : Layout) (words : List ℕ) (p : Location) (y : ℕ) (has : HasLocation l p) where
+  abbrev written : List ℕ
+  written = slice_set words (address_of l p) y
+
+  leaves_stay : (twin : Word → Location) → ((leaf o : ℕ) → leaf < leaf_count l → o < 8 → HasLocation l (twin (Leaf leaf o))) → ((leaf o : ℕ) → twin (Leaf leaf o) ≢ p) → leaves_in l written twin ≡ leaves_in l words twin
+  leaves_stay twin there apart =
+      let same : (leaf o : ℕ) → leaves_in l written twin leaf o ≡ leaves_in l words twin leaf o =
+      λ leaf o. leaves_in-alike l words written twin leaf o (λ lt small. at-set_other l words p (twin (Leaf leaf o)) y has (there leaf o lt small) (apart leaf o)) in
+      λ k leaf o. same leaf o k
+
+  pub cached_leaves : ((leaf o : ℕ) → Cached (Leaf leaf o) ≢ p) → leaves_in l written Cached ≡ leaves_in l words Cached
+  cached_leaves apart = leaves_stay (λ w. Cached w) (λ leaf o lt small. (lt, small)) apart
+
+  pub durable_leaves : ((leaf o : ℕ) → Durable (Leaf leaf o) ≢ p) → leaves_in l written Durable ≡ leaves_in l words Durable
+  durable_leaves apart = leaves_stay (λ w. Durable w) (λ leaf o lt small. (lt, small)) apart
+
+  pub volatile_kept : (o : ℕ) → o < 16 → ((n : ℕ) → Volatile n o ≢ p) → volatile_field l written o ≡ volatile_field l words o
+  volatile_kept o small apart = column-same l words written l.nodes (λ n. Volatile n o) (λ n lt. at-set_other l words p (Volatile n o) y has (lt, small) (apart n))
+
+  pub state_kept : ((j : ℕ) → Cached (line_word 0 j) ≢ p) → line_field l written Cached 0 ≡ line_field l words Cached 0
+  state_kept apart = column-same l words written (line_count l) (λ j. Cached (line_word 0 j)) (λ j lt. at-set_other l words p (Cached (line_word 0 j)) y has (omega arith, omega arith, omega arith) (apart j))
+
+  pub rest_kept : ((n o : ℕ) → Cached (Node n o) ≢ p) → ((j o : ℕ) → 0 < o → Cached (line_word o j) ≢ p) → ((j o : ℕ) → Durable (line_word o j) ≢ p) → SameRest l words written
+  rest_kept no_node no_line no_safe = record {
+    node = λ o small. column-same l words written l.nodes (λ n. Cached (Node n o)) (λ n lt. at-set_other l words p (Cached (Node n o)) y has (lt, omega arith) (no_node n o));
+    line = λ o some small. column-same l words written (line_count l) (λ j. Cached (line_word o j)) (λ j lt. at-set_other l words p (Cached (line_word o j)) y has (omega arith, omega arith, small) (no_line j o some));
+    safe = λ o small. column-same l words written (line_count l) (λ j. Durable (line_word o j)) (λ j lt. at-set_other l words p (Durable (line_word o j)) y has (omega arith, omega arith, small) (no_safe j o));
+  }
+
+-- a store that leaves the leaves, and the facts afterwards but for the layer, which they keep
+pub record Beside (r : RowTerms) (ghosts : Ghosts) (words words' : List ℕ) (after : TurnFacts) : Type 0 where
+  pub cached : leaves_in r.layout words' Cached ≡ leaves_in r.layout words Cached
+  pub durable : leaves_in r.layout words' Durable ≡ leaves_in r.layout words Durable
+  pub facts : facts_in r ghosts words' ≡ after
+
+-- the layers are those of before
+beside : (r : RowTerms) (ghosts : Ghosts) (words words' : List ℕ) (status stamp state : ℕ → ℕ) → leaves_in r.layout words' Cached ≡ leaves_in r.layout words Cached → leaves_in r.layout words' Durable ≡ leaves_in r.layout words Durable
+    → SameRest r.layout words words' → volatile_field r.layout words' 0 ≡ status → volatile_field r.layout words' 2 ≡ stamp → line_field r.layout words' Cached 0 ≡ state
+    → Beside r ghosts words words' (record (facts_in r ghosts words) { status = status; stamp = stamp; line = record ((facts_in r ghosts words).line) { state = state } })
+beside r ghosts words words' status stamp state cached durable rest is_status is_stamp is_state =
+    let f : TurnFacts = facts_in r ghosts words in
+    let count : ℕ = leaf_count r.layout in
+    let layers : record f { status = status; stamp = stamp; line = record (f.line) { state = state }; layer = layer_in (leaves_in r.layout words' Cached) count; safe_layer = layer_in (leaves_in r.layout words' Durable) count }
+    ≡ record f { status = status; stamp = stamp; line = record (f.line) { state = state } } =
+    λ i. record f { status = status; stamp = stamp; line = record (f.line) { state = state }; layer = layer_in (cached i) count; safe_layer = layer_in (durable i) count } in
+    record { cached = cached; durable = durable; facts = facts_path r ghosts words words' status stamp state rest is_status is_stamp is_state ∙ layers }
+
+module _ (r : RowTerms) (ghosts : Ghosts) (words : List ℕ) where
+  abbrev l : Layout
+  l = r.layout
+
+  abbrev f : TurnFacts
+  f = facts_in r ghosts words
+
+  abbrev stored : Location → ℕ → List ℕ
+  stored p y = slice_set words (address_of l p) y
+
+  pub lock_stored : (y : ℕ) → Beside r ghosts words (stored Updater y) f
+  lock_stored y = beside r ghosts words (stored Updater y) f.status f.stamp f.line.state
+      (cached_leaves l words Updater y tt (λ leaf o e. cc)) (durable_leaves l words Updater y tt (λ leaf o e. cc))
+      (rest_kept l words Updater y tt (λ n o e. cc) (λ j o some e. cc) (λ j o e. cc))
+      (volatile_kept l words Updater y tt 0 (omega arith) (λ n e. cc)) (volatile_kept l words Updater y tt 2 (omega arith) (λ n e. cc)) (state_kept l words Updater y tt (λ j e. cc))
+
+  pub stamp_stored : (n y : ℕ) → length words ≡ row_words l → n < l.nodes → Beside r ghosts words (stored (Volatile n 2) y) (record f { stamp = set_at f.stamp n y })
+  stamp_stored n y whole lt =
+      let p : Location = Volatile n 2 in
+      let has : HasLocation l p = (lt, omega arith) in
+      beside r ghosts words (stored p y) f.status (set_at f.stamp n y) f.line.state
+      (cached_leaves l words p y has (λ leaf o e. cc)) (durable_leaves l words p y has (λ leaf o e. cc))
+      (rest_kept l words p y has (λ m o e. cc) (λ j o some e. cc) (λ j o e. cc))
+      (volatile_kept l words p y has 0 (omega arith) (λ m e. let no_way = ap volatile_at e in omega arith))
+      (column-set l words p y has l.nodes (λ m. Volatile m 2) n whole lt refl (λ m lt. (lt, omega arith)) (λ m lt e. ap node_at e))
+      (state_kept l words p y has (λ j e. cc))
+
+  pub status_stored : (n y : ℕ) → length words ≡ row_words l → n < l.nodes → Beside r ghosts words (stored (Volatile n 0) y) (record f { status = set_at f.status n y })
+  status_stored n y whole lt =
+      let p : Location = Volatile n 0 in
+      let has : HasLocation l p = (lt, omega arith) in
+      beside r ghosts words (stored p y) (set_at f.status n y) f.stamp f.line.state
+      (cached_leaves l words p y has (λ leaf o e. cc)) (durable_leaves l words p y has (λ leaf o e. cc))
+      (rest_kept l words p y has (λ m o e. cc) (λ j o some e. cc) (λ j o e. cc))
+      (column-set l words p y has l.nodes (λ m. Volatile m 0) n whole lt refl (λ m lt. (lt, omega arith)) (λ m lt e. ap node_at e))
+      (volatile_kept l words p y has 2 (omega arith) (λ m e. let no_way = ap volatile_at e in omega arith))
+      (state_kept l words p y has (λ j e. cc))
+
+  pub line_emptied : (j : ℕ) → length words ≡ row_words l → j < line_count l → Beside r ghosts words (stored (Cached (line_word 0 j)) 0) (emptied f j)
+  line_emptied j whole lt =
+      let p : Location = Cached (line_word 0 j) in
+      let has : HasLocation l p = (omega arith, omega arith, omega arith) in
+      beside r ghosts words (stored p 0) f.status f.stamp (set_at f.line.state j 0)
+      (cached_leaves l words p 0 has (λ leaf o e. cc)) (durable_leaves l words p 0 has (λ leaf o e. cc))
+      (rest_kept l words p 0 has (λ m o e. cc) (λ i o some e. let same : o ≡ 0 = ap offset_at e in omega arith) (λ i o e. cc))
+      (volatile_kept l words p 0 has 0 (omega arith) (λ m e. cc)) (volatile_kept l words p 0 has 2 (omega arith) (λ m e. cc))
+      (column-set l words p 0 has (line_count l) (λ i. Cached (line_word 0 i)) j whole lt refl (λ i lt'. (omega arith, omega arith, omega arith))
+      (λ i lt' e. let a : i / 8 ≡ j / 8 = ap caller_at e in let b : i % 8 ≡ j % 8 = ap index_at e in omega arith))
