@@ -6,8 +6,10 @@ use Rattle.pm_words.specs.declared.layout.Layout.{Layout}
 use Rattle.pm_words.specs.Locations.{Line, Leaf, Cached, Durable, leaf_count, word_at, at}
 use Rattle.pm_words.specs.Rows.{durable_row, row_of}
 use Rattle.pm_words.proofs.Made.{durable_row-at, row_of-at}
+use Rattle.search_layer.specs.Keys.{key_of}
 use Rattle.search_layer.specs.Leaves.{leaves_in}
-use Rattle.image_layer_rules.specs.Leaves.{image_leaves, line_word}
+use Rattle.image_rules.specs.Rules.{line_spot}
+use Rattle.image_layer_rules.specs.Leaves.{image_leaves, image_lines, line_word}
 use Rattle.image_layer_rules.specs.Laws.{CrashKeepsLeaves, StartCachesLeaves, CrashKeepsLines, StartCachesLines}
 
 pub image_leaves-here : (l : Layout) (image : List ℕ) (leaf offset : ℕ) → leaf < leaf_count l → offset < 8 → image_leaves l image leaf offset ≡ word_at l image (Leaf leaf offset)
@@ -33,6 +35,10 @@ line_word-here l image line offset here small = rw (lt-ltb line (8 * l.callers) 
 pub line_word-outside : (l : Layout) (image : List ℕ) (line offset : ℕ) → 8 * l.callers ≤ line → line_word l image line offset ≡ 0
 unfolding line_word
 line_word-outside l image line offset out = rw (le-ltb line (8 * l.callers) out) refl
+
+-- the key of a line is that of the words that stand there
+pub line_key-here : (l : Layout) (image : List ℕ) (line : ℕ) → line < 8 * l.callers → (image_lines l image).anchor line ≡ key_of (line_spot l image line 3) (line_spot l image line 4) (line_spot l image line 5)
+line_key-here l image line here = λ k. key_of (line_word-here l image line 3 here (omega arith) k) (line_word-here l image line 4 here (omega arith) k) (line_word-here l image line 5 here (omega arith) k)
 
 pub crash_keeps_leaves : CrashKeepsLeaves
 unfolding image_leaves leaves_in

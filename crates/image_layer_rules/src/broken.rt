@@ -9,9 +9,9 @@ ghost use Rattle.image_layer_rules.specs.Sound.{IsSoundByAll, IsFirstOfAll};
 use crate::cover::is_uncovered;
 use crate::leaf::{used_count, wrong_leaf};
 use crate::order::share_a_key;
+use image_rules::{Broken, first_broken};
 use pm_words::offsets::root;
 use pm_words::{Image, LINE_WORDS};
-use image_rules::{Broken, first_broken};
 
 /// The numbers of the rules on the layer: on its leaves, on their count, and on where they lead.
 const LEAVES_RULE: u64 = 10;

@@ -10,8 +10,9 @@ ghost use Rattle.image_layer_rules.specs.Rules.{BreaksLayer};
 use crate::key::is_same;
 use crate::leaf::{key_of, leaf_count, node_word_of};
 use crate::line::is_open_for;
-use crate::list::{anchor_of, listed_nodes};
+use crate::list::listed_nodes;
 use crate::marks::Marks;
+use image_rules::read::anchor_of;
 use pm_words::Image;
 
 /// Whether a leaf leads its key to a node that has it as its anchor.

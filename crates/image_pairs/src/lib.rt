@@ -5,7 +5,6 @@
 #![tactic(auto)]
 
 mod names;
-mod node;
 mod pairs;
 
 pub use pairs::image_pairs;

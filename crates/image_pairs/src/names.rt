@@ -9,10 +9,10 @@ ghost use Rattle.data_node.specs.Weights.{has_name_in};
 ghost use Rattle.image_rules.specs.Nodes.{image_spot, image_list, image_range, next_in, IsListedNode};
 ghost use Rattle.image_rules.specs.Sound.{IsSound, with_slots};
 
-use crate::node::{anchor_of, is_live_in, slots_of, value_in, words_in};
 use cat_history::NoMemory;
 use cat_key::{Name, WORDS};
 use data_node::is_below;
+use image_rules::read::{self, anchor_of, is_live_in, slot_count, value_in};
 use pm_words::Image;
 use std::alloc::Global;
 use std::collections::BTreeMap;
@@ -42,7 +42,7 @@ fn name_in(image: &Image, node: u64, next: u64, slot: u64) -> Option<Name>
     if !is_live_in(image, node, slot) {
         return None;
     }
-    let words = words_in(image, node, slot);
+    let words = read::name_in(image, node, slot);
     if !has_in_range(image, node, next, &words) {
         return None;
     }
@@ -65,7 +65,7 @@ pub(crate) fn names_of(
         (image_spot image.now.layout image.now.words node) empty image.now.layout.slots)) }
 {
     let mut names = BTreeMap::new(alloc);
-    for slot in 0..slots_of(image) {
+    for slot in 0..slot_count(image) {
         if let Some(name) = name_in(image, node, next, slot) {
             names.insert(name, value_in(image, node, slot))?;
         }

@@ -7,9 +7,9 @@ ghost use Rattle.cat_history.specs.Replays.{pairs_of};
 ghost use Rattle.image_rules.specs.Sound.{IsSound, image_map};
 
 use crate::names::names_of;
-use crate::node::next_of;
 use cat_history::{Items, NoMemory, Pairs};
 use cat_key::{Name, Pair};
+use image_rules::read::next_of;
 use pm_words::Image;
 use std::alloc::Global;
 use std::collections::BTreeMap;

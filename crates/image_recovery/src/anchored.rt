@@ -8,8 +8,9 @@ ghost use Rattle.updater_row_law.specs.Columns.{line_count};
 ghost use Rattle.image_recovery_law.specs.Stages.{LacksAnchor};
 ghost use Rattle.image_recovery.specs.Plans.{columns, list_of, HasAnchorOf};
 
-use crate::words::{anchor_of, line_anchor, next_of};
+use crate::lines::line_anchor;
 use cat_key::WORDS;
+use image_rules::read::{anchor_of, next_of};
 use pm_words::Image;
 
 /// Whether they are one key.

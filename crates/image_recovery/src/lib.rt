@@ -8,6 +8,7 @@
 
 mod anchored;
 pub mod laws;
+mod lines;
 mod making;
 mod moves;
 mod planning;
@@ -15,7 +16,6 @@ mod recovering;
 mod stepping;
 mod storing;
 mod trim;
-mod words;
 
 pub use making::Making;
 pub use moves::Move;

@@ -8,9 +8,10 @@ ghost use Rattle.image_recovery_law.specs.Stages.{Unsets, Sets, Empties};
 ghost use Rattle.image_recovery.specs.Plans.{PlansTo, TrimsOne, IsPlanOf, IsRaised};
 
 use crate::anchored::anchored_node;
+use crate::lines::is_used;
 use crate::moves::Move;
 use crate::trim::trimmed;
-use crate::words::{bitmap_of, is_used, line_count, next_of};
+use image_rules::read::{bitmap_of, line_count, next_of};
 use pm_words::{Image, NoMemory};
 use std::alloc::Global;
 

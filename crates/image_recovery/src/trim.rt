@@ -7,9 +7,9 @@ ghost use Rattle.image_rules.specs.Sound.{IsSound};
 ghost use Rattle.image_recovery_law.specs.Moves.{TrimsNode};
 ghost use Rattle.image_recovery.specs.Plans.{columns, list_of, IsKept};
 
-use crate::words::{anchor_of, bitmap_of, name_in, next_of, slot_count};
 use cat_key::WORDS;
 use data_node::{is_below, is_live, with_live};
+use image_rules::read::{anchor_of, bitmap_of, name_in, next_of, slot_count};
 use pm_words::Image;
 
 /// Whether a key isn't below a node's anchor, and is below that of the next node.

@@ -13,6 +13,7 @@ mod log_line;
 mod map;
 mod node;
 mod node_set;
+pub mod read;
 
 pub use broken::{Broken, first_broken};
 pub use map::{is_found, number_in};

@@ -7,8 +7,9 @@ ghost use Rattle.image_rules.specs.Lowest.{IsFirst};
 ghost use Rattle.image_rules.specs.Nodes.{image_spot, LeadWithin};
 ghost use Rattle.image_rules.specs.Rules.{LeadsOut, LeadsBack, BreaksAnchors};
 
-use crate::node::{anchor_of, next_of, number_of};
+use crate::node::number_of;
 use crate::node_set::NodeSet;
+use crate::read::{anchor_of, next_of};
 use cat_key::{Name, WORDS};
 use data_node::is_below;
 use pm_words::Image;

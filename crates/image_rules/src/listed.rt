@@ -7,9 +7,10 @@ ghost use Rattle.image_rules.specs.Nodes.{image_spot, LeadWithin};
 ghost use Rattle.image_rules.specs.Rules.{BreaksNames, BreaksPrints, BreaksApart, BreaksBy, BreaksInNode};
 
 use crate::node::{
-    bitmap_of, has_bits_past, misprinted_slot, nameless_slot, next_of, number_of, print_start,
-    repeated_slot, slot_start, slots_of,
+    has_bits_past, misprinted_slot, nameless_slot, number_of, print_start, repeated_slot,
+    slot_start,
 };
+use crate::read::{bitmap_of, next_of, slot_count};
 use pm_words::Image;
 use pm_words::offsets::node;
 
@@ -31,7 +32,7 @@ fn misnamed_offset(image: &Image, node: u64) -> Option<u64>
         result }
     ensures within { IfSome result (λ offset. offset < node_words image.now.layout) }
 {
-    if has_bits_past(bitmap_of(image, node), slots_of(image)) {
+    if has_bits_past(bitmap_of(image, node), slot_count(image)) {
         return Some(node::BITMAP);
     }
     let slot = nameless_slot(image, node)?;

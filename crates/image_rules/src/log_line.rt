@@ -7,6 +7,7 @@ ghost use Rattle.data_node.specs.Lines.{IsEntry, IsFitLine};
 ghost use Rattle.image_rules.specs.Lowest.{IsLowest, IsNumberOf};
 ghost use Rattle.image_rules.specs.Rules.{line_spot, IsUnfit, BreaksLines};
 
+use crate::read::{line_anchor, line_count, line_word};
 use cat_key::Name;
 use pm_words::codes::kind::{MERGE, SPLIT};
 use pm_words::codes::state::{EMPTY, READY};
@@ -27,27 +28,13 @@ fn number_of(image: &Image, line: u64, offset: u64) -> u64
         .line_word(line / LOG_LINES, line % LOG_LINES, offset)
 }
 
-/// A word of a line.
-fn word_of(image: &Image, line: u64, offset: u64) -> u64
-    requires line { line < 8 * image.now.layout.callers }
-    requires offset { offset < 8 }
-    ensures { result ≡ line_spot image.now.layout image.now.words line offset }
-{
-    image.word(number_of(image, line, offset))
-}
-
 /// Whether a name stands in a line as an anchor.
 fn has_anchor(image: &Image, line: u64) -> bool
     requires { line < 8 * image.now.layout.callers }
     ensures { IsTrue result ↔ AreNameWords (line_spot image.now.layout image.now.words line 3
         ∷ line_spot image.now.layout image.now.words line 4 ∷ line_spot image.now.layout image.now.words line 5 ∷ []) }
 {
-    Name::of_words([
-        word_of(image, line, line::ANCHOR),
-        word_of(image, line, line::ANCHOR + 1),
-        word_of(image, line, line::ANCHOR + 2),
-    ])
-    .is_some()
+    Name::of_words(line_anchor(image, line)).is_some()
 }
 
 /// Whether a line is OPEN or READY, if it isn't EMPTY, and holds a split or a merge of the image's nodes.
@@ -56,14 +43,14 @@ fn is_entry(image: &Image, line: u64) -> bool
     ensures { IsTrue result ↔ IsEntry image.now.layout.nodes (line_spot image.now.layout image.now.words line) }
 {
     let nodes = image.layout().nodes();
-    let kind = word_of(image, line, line::KIND);
-    let node = word_of(image, line, line::NODE);
-    word_of(image, line, line::STATE) <= READY
+    let kind = line_word(image, line, line::KIND);
+    let node = line_word(image, line, line::NODE);
+    line_word(image, line, line::STATE) <= READY
         && (kind == SPLIT || kind == MERGE)
         && (1 <= node && node < nodes)
         && has_anchor(image, line)
-        && word_of(image, line, line::LEFT) < nodes
-        && word_of(image, line, LAST) == 0
+        && line_word(image, line, line::LEFT) < nodes
+        && line_word(image, line, LAST) == 0
 }
 
 /// Whether a line is in order.
@@ -71,14 +58,14 @@ fn is_fit(image: &Image, line: u64) -> bool
     requires { line < 8 * image.now.layout.callers }
     ensures { IsTrue result ↔ IsFitLine image.now.layout.nodes (line_spot image.now.layout image.now.words line) }
 {
-    word_of(image, line, line::STATE) == EMPTY || is_entry(image, line)
+    line_word(image, line, line::STATE) == EMPTY || is_entry(image, line)
 }
 
 /// The lowest line that isn't in order.
 fn unfit_line(image: &Image) -> Option<u64>
     ensures { IsLowest (IsUnfit image.now.layout image.now.words) result }
 {
-    for line in 0..LOG_LINES * image.layout().callers() {
+    for line in 0..line_count(image) {
         if !is_fit(image, line) {
             return Some(line);
         }

@@ -6,7 +6,8 @@ ghost use Rattle.cat_history.specs.CrashEnds.{IsFound};
 ghost use Rattle.image_rules.specs.Nodes.{target_in};
 ghost use Rattle.image_rules.specs.Sound.{IsMapOf};
 
-use crate::node::{anchor_of, next_of, slot_with, value_in};
+use crate::node::slot_with;
+use crate::read::{anchor_of, next_of, value_in};
 use cat_history::Change;
 use cat_key::Name;
 use data_node::is_below;

@@ -1,4 +1,4 @@
-//! The words of one node of an image, and the slots that break a rule.
+//! The slots of a node that break a rule.
 
 ghost use Rattle.std.specs.Prelude.{◌≡◌, ℕ, ◌<◌, ◌≤◌, ◌^◌, ◌↔◌, IsTrue, IfSome};
 ghost use Rattle.pm_words.specs.Layouts.{IsLayout};
@@ -10,32 +10,14 @@ ghost use Rattle.image_rules.specs.Lowest.{IsLowest};
 ghost use Rattle.image_rules.specs.Nodes.{image_spot, next_in, HasWords};
 ghost use Rattle.image_rules.specs.Rules.{IsNameless, IsMisprinted, IsRepeated};
 
+use crate::read::{is_live_in, name_in, node_word, slot_count};
 use cat_key::{Name, WORDS};
-use data_node::{MAX_SLOTS, is_live, print_at};
+use data_node::{MAX_SLOTS, print_at};
 use pm_words::offsets::node;
 use pm_words::{Image, SLOT_WORDS};
 
 /// How many slots have their fingerprints in one word.
 const PRINTS_PER_WORD: u64 = 8;
-
-/// How many slots each node has.
-pub(crate) fn slots_of(image: &Image) -> u64
-    ensures slots { result ≡ image.now.layout.slots }
-    ensures bound { result ≤ 64 }
-{
-    image.layout().slots()
-}
-
-/// A word of a node by its offset, other than the version word.
-fn word_in(image: &Image, node: u64, offset: u64) -> u64
-    requires node { node < image.now.layout.nodes }
-    requires behind { 0 < offset }
-    requires within { offset < node_words image.now.layout }
-    ensures word { result ≡ image_spot image.now.layout image.now.words node offset }
-    ensures layout { IsLayout image.now.layout }
-{
-    image.word(image.layout().node_word(node, offset))
-}
 
 /// The number of a node's word in the image.
 pub(crate) fn number_of(image: &Image, node: u64, offset: u64) -> u64
@@ -46,64 +28,12 @@ pub(crate) fn number_of(image: &Image, node: u64, offset: u64) -> u64
     image.layout().node_word(node, offset)
 }
 
-/// The node to which a node leads; 0 is none.
-pub(crate) fn next_of(image: &Image, node: u64) -> u64
-    requires { node < image.now.layout.nodes }
-    ensures { result ≡ next_in image.now.layout image.now.words node }
-{
-    word_in(image, node, node::NEXT)
-}
-
-/// The words of a node's anchor.
-pub(crate) fn anchor_of(image: &Image, node: u64) -> [u64; WORDS]
-    requires { node < image.now.layout.nodes }
-    ensures { result ≡ anchor_words (image_spot image.now.layout image.now.words node) }
-{
-    [
-        word_in(image, node, node::ANCHOR),
-        word_in(image, node, node::ANCHOR + 1),
-        word_in(image, node, node::ANCHOR + 2),
-    ]
-}
-
-/// The bitmap of a node. It has a bit for each slot.
-pub(crate) fn bitmap_of(image: &Image, node: u64) -> u64
-    requires { node < image.now.layout.nodes }
-    ensures bitmap { result ≡ image_spot image.now.layout image.now.words node bitmap_offset }
-    ensures limit { image.now.layout.slots ≤ 64 }
-{
-    word_in(image, node, node::BITMAP)
-}
-
 /// The offset of a slot's first word.
 pub(crate) fn slot_start(slot: u64) -> u64
     requires { slot < 64 }
     ensures { result ≡ slot_offset slot 0 }
 {
     node::SLOTS + SLOT_WORDS * slot
-}
-
-/// Word k of a slot.
-fn slot_word(image: &Image, node: u64, slot: u64, k: u64) -> u64
-    requires node { node < image.now.layout.nodes }
-    requires slot { slot < image.now.layout.slots }
-    requires word { k < 4 }
-    ensures { result ≡ image_spot image.now.layout image.now.words node (slot_offset slot k) }
-{
-    image.word(image.layout().node_word(node, slot_start(slot) + k))
-}
-
-/// The words of the name in a slot.
-fn name_in(image: &Image, node: u64, slot: u64) -> [u64; WORDS]
-    requires node { node < image.now.layout.nodes }
-    requires slot { slot < image.now.layout.slots }
-    ensures { result ≡ name_words (image_spot image.now.layout image.now.words node) slot }
-{
-    [
-        slot_word(image, node, slot, 0),
-        slot_word(image, node, slot, 1),
-        slot_word(image, node, slot, 2),
-    ]
 }
 
 /// The offset of the word with a slot's fingerprint.
@@ -119,16 +49,7 @@ fn print_of(image: &Image, node: u64, slot: u64) -> u8
     requires slot { slot < image.now.layout.slots }
     ensures { result ≡ print_in_spot (image_spot image.now.layout image.now.words node) slot }
 {
-    print_at(word_in(image, node, print_start(slot)), slot)
-}
-
-/// Whether a slot is live.
-fn is_live_in(image: &Image, node: u64, slot: u64) -> bool
-    requires node { node < image.now.layout.nodes }
-    requires slot { slot < image.now.layout.slots }
-    ensures { IsTrue result ↔ IsLiveIn (image_spot image.now.layout image.now.words node) slot }
-{
-    is_live(bitmap_of(image, node), slot)
+    print_at(node_word(image, node, print_start(slot)), slot)
 }
 
 /// Whether a bitmap has a bit from so many slots on.
@@ -195,16 +116,7 @@ pub(crate) fn slot_with(image: &Image, node: u64, words: [u64; WORDS]) -> Option
     ensures lowest { IsLowest (HasWords image.now.layout.slots (image_spot image.now.layout image.now.words node)
         words) result }
 {
-    (0..slots_of(image)).find(|slot| has_words(image, node, *slot, words))
-}
-
-/// The value in a slot.
-pub(crate) fn value_in(image: &Image, node: u64, slot: u64) -> u64
-    requires node { node < image.now.layout.nodes }
-    requires slot { slot < image.now.layout.slots }
-    ensures { result ≡ value_in (image_spot image.now.layout image.now.words node) slot }
-{
-    slot_word(image, node, slot, WORDS as u64)
+    (0..slot_count(image)).find(|slot| has_words(image, node, *slot, words))
 }
 
 /// Whether a slot is live, and a lower live slot has its name.
@@ -228,7 +140,7 @@ pub(crate) fn nameless_slot(image: &Image, node: u64) -> Option<u64>
         result }
     ensures bound { IfSome result (λ slot. slot < 64) }
 {
-    (0..slots_of(image)).find(|slot| is_nameless(image, node, *slot))
+    (0..slot_count(image)).find(|slot| is_nameless(image, node, *slot))
 }
 
 /// The lowest live slot with another fingerprint than that of its name.
@@ -238,7 +150,7 @@ pub(crate) fn misprinted_slot(image: &Image, node: u64) -> Option<u64>
         result }
     ensures bound { IfSome result (λ slot. slot < 64) }
 {
-    (0..slots_of(image)).find(|slot| is_misprinted(image, node, *slot))
+    (0..slot_count(image)).find(|slot| is_misprinted(image, node, *slot))
 }
 
 /// The lowest live slot whose name a lower live slot has.
@@ -248,5 +160,5 @@ pub(crate) fn repeated_slot(image: &Image, node: u64) -> Option<u64>
         result }
     ensures bound { IfSome result (λ slot. slot < 64) }
 {
-    (0..slots_of(image)).find(|slot| is_repeated(image, node, *slot))
+    (0..slot_count(image)).find(|slot| is_repeated(image, node, *slot))
 }

@@ -12,7 +12,7 @@ returns-then-node-eq0 c =
     let nodes : c.nodes-position-end.result ≡ l.nodes = c.nodes-position-end.ensures ∙ ap (λ (k : Layout). k.nodes) c.layout.ensures.layout in
     let at = c.loop-position.invariant.walks.at (omega arith) in
     passed_all l image c.set.new.self (c.loop-position._position + 1) (passed_more l image c.loop-position.listed c.set.new.self c.loop-position._position c.loop-position.node at c.set.ensures c.loop-position.invariant.passed)
-    (ends_here l image c.loop-position._position c.loop-position.node at (sym c.node_word-node.ensures ∙ c.if-node-eq0.true))
+    (ends_here l image c.loop-position._position c.loop-position.node at (sym c.next_of-node.ensures ∙ c.if-node-eq0.true))
 
 pub loop-position-preserved : goal.loop-position-preserved
 loop-position-preserved c =
@@ -21,10 +21,10 @@ loop-position-preserved c =
     let nodes : c.nodes-position-end.result ≡ l.nodes = c.nodes-position-end.ensures ∙ ap (λ (k : Layout). k.nodes) c.layout.ensures.layout in
     let walks = c.loop-position.invariant.walks in
     let at = walks.at (omega arith) in
-    let next = c.node_word-node.ensures in
+    let next = c.next_of-node.ensures in
     let inside : next_in l image c.loop-position.node < l.nodes = c.requires c.loop-position._position c.loop-position.node at (λ none. c.if-node-eq0.false (next ∙ none)) in
     record {
-      walks = walk_on l image (λ _ _. ⊥) c.loop-position._position c.loop-position.node c.node_word-node.result walks (omega arith) next c.if-node-eq0.false (omega arith) (λ w none. none);
+      walks = walk_on l image (λ _ _. ⊥) c.loop-position._position c.loop-position.node c.next_of-node.result walks (omega arith) next c.if-node-eq0.false (omega arith) (λ w none. none);
       passed = passed_more l image c.loop-position.listed c.set.new.self c.loop-position._position c.loop-position.node at c.set.ensures c.loop-position.invariant.passed;
     }
 

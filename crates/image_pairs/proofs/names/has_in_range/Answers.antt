@@ -3,12 +3,8 @@ use Rattle.std.proofs.lemmas.Bool.{eq-eqb, ltb-true, ltb-false}
 use Rattle.data_node.specs.Lists.{number_of}
 use Rattle.data_node.proofs.KeyLemmas.{anchor-number}
 use Rattle.image_rules.specs.Nodes.{image_spot}
-use Rattle.image_pairs.proofs.PairWalks.{next_within, out_below, in_last, in_by_next}
+use Rattle.image_pairs.proofs.PairWalks.{out_below, in_last, in_by_next}
 use Rattle.image_pairs.proofs.names.has_in_range.Goals as goal
-
-pub anchor_of-requires-else-next-eq0 : goal.anchor_of-requires-else-next-eq0
-anchor_of-requires-else-next-eq0 c =
-    next_within c.args.image.now.layout c.args.image.now.words c.requires.sound c.args.node c.args.next c.requires.listed c.requires.next c.if-next-eq0.false
 
 pub returns-then-next-eq0 : goal.returns-then-next-eq0
 returns-then-next-eq0 c =

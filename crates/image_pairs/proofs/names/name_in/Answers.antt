@@ -25,7 +25,7 @@ returns-then-not-has_in_range c =
     let text = bytes_of (name_words s c.args.slot) in
     let live = c.is_live_in.ensures.0 c.if-not-is_live_in.false in
     let told = sym (range_of_words l image c.requires.sound c.args.node c.args.slot c.requires.listed c.requires.slot live)
-    ∙ ap (λ (words : List ℕ). target_from 0 (image_list l image) (number_of words) == c.args.node) (sym c.words_in-words.ensures) ∙ sym c.has_in_range.ensures in
+    ∙ ap (λ (words : List ℕ). target_from 0 (image_list l image) (number_of words) == c.args.node) (sym c.name_in-words.ensures) ∙ sym c.has_in_range.ensures in
     let found : Bool → Option (List ℕ) = λ b. cond b (Some text) None in
     sym (ap found (and_right (bit_at (s bitmap_offset) c.args.slot == 1) _ (told ∙ c.if-not-has_in_range.true)))
 
@@ -37,9 +37,9 @@ returns c =
     let words = name_words s c.args.slot in
     let live = c.is_live_in.ensures.0 c.if-not-is_live_in.false in
     let told = sym (range_of_words l image c.requires.sound c.args.node c.args.slot c.requires.listed c.requires.slot live)
-    ∙ ap (λ (words : List ℕ). target_from 0 (image_list l image) (number_of words) == c.args.node) (sym c.words_in-words.ensures) ∙ sym c.has_in_range.ensures in
-    let named = subst AreNameWords (sym c.words_in-words.ensures) (live_named l image c.requires.sound c.args.node c.args.slot c.requires.listed c.requires.slot live) in
+    ∙ ap (λ (words : List ℕ). target_from 0 (image_list l image) (number_of words) == c.args.node) (sym c.name_in-words.ensures) ∙ sym c.has_in_range.ensures in
+    let named = subst AreNameWords (sym c.name_in-words.ensures) (live_named l image c.requires.sound c.args.node c.args.slot c.requires.listed c.requires.slot live) in
     let found : Bool → Option (List ℕ) = λ b. cond b (Some (bytes_of words)) None in
-    found_name c.words_in-words.result c.of_words.result (c.of_words.ensures.some.1 named) c.of_words.ensures.name c.of_words.ensures.words
-    ∙ ap (λ (words : List ℕ). Some (bytes_of words)) c.words_in-words.ensures
+    found_name c.name_in-words.result c.of_words.result (c.of_words.ensures.some.1 named) c.of_words.ensures.name c.of_words.ensures.words
+    ∙ ap (λ (words : List ℕ). Some (bytes_of words)) c.name_in-words.ensures
     ∙ sym (ap found (and_from _ _ (eq-eqb (bit_at (s bitmap_offset) c.args.slot) 1 live) (told ∙ c.if-not-has_in_range.false)))

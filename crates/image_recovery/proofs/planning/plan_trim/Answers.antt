@@ -6,7 +6,7 @@ use Rattle.image_recovery.proofs.planning.plan_trim.Goals as goal
 
 pub returns-then-bitmap-bitmap_of : goal.returns-then-bitmap-bitmap_of
 returns-then-bitmap-bitmap_of c =
-    no_trim c.args.image.now c.args.node c.requires.listed c.args.moves.now.items c.trimmed-bitmap.result c.trimmed-bitmap.ensures (c.if-bitmap-bitmap_of.true ∙ c.bitmap_of.ensures)
+    no_trim c.args.image.now c.args.node c.requires.listed c.args.moves.now.items c.trimmed-bitmap.result c.trimmed-bitmap.ensures (c.if-bitmap-bitmap_of.true ∙ c.bitmap_of.ensures.bitmap)
 
 pub returns : goal.returns
 returns c =

@@ -1,5 +1,4 @@
-use Rattle.std.proofs.Common.{refl, sym, subst}
-use Rattle.image_recovery.specs.declared.making.Making.{Making}
+use Rattle.std.proofs.Common.{sym, subst}
 use Rattle.image_recovery.specs.Makings.{IsMaking}
 use Rattle.image_recovery.specs.Recoveries.{IsMakingOne}
 use Rattle.image_recovery.proofs.RecoveringLemmas.{begins_move}

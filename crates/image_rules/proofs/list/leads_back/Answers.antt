@@ -17,9 +17,6 @@ loop-position-init c =
 pub insert-requires : goal.insert-requires
 insert-requires c = let nodes = c.layout.ensures.image.layout.nodes in let here = c.loop-position.invariant.walks.here in omega arith
 
-pub next_of-next-requires : goal.next_of-next-requires
-next_of-next-requires c = c.loop-position.invariant.walks.here
-
 pub returns-then-next-eq0 : goal.returns-then-next-eq0
 returns-then-next-eq0 c =
     let l = c.args.image.now.layout in

@@ -12,9 +12,6 @@ loop-position-init c =
     let nodes = c.layout.ensures.image.layout.nodes in
     walk_begins l image (LeadsOut l image) (omega arith)
 
-pub next_of-next-requires : goal.next_of-next-requires
-next_of-next-requires c = c.loop-position.invariant.here
-
 pub returns-then-next-eq0 : goal.returns-then-next-eq0
 returns-then-next-eq0 c =
     let l = c.args.image.now.layout in

@@ -29,9 +29,6 @@ loop-position-init c =
       none = none_more (BreaksAnchors l image) 0 (λ before w below holds. omega (arith, below)) (first_anchor_kept l image (anchor_zero (image_spot l image 0) zeros));
     }
 
-pub next_of-next-requires : goal.next_of-next-requires
-next_of-next-requires c = c.loop-position.invariant.here
-
 pub returns-then-next-eq0 : goal.returns-then-next-eq0
 returns-then-next-eq0 c =
     let l = c.args.image.now.layout in

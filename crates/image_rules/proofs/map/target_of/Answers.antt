@@ -13,9 +13,6 @@ loop-position-init c =
     let nodes = c.layout.ensures.image.layout.nodes in
     record { here = omega arith; left = c.args.image.now.layout.nodes; count = omega arith; target = refl }
 
-pub next_of-next-requires : goal.next_of-next-requires
-next_of-next-requires c = c.loop-position.invariant.here
-
 -- a node that the image doesn't have has the lowest anchor, and leads to none
 pub returns-then-nodes-next-clause-none : goal.returns-then-nodes-next-clause-none
 returns-then-nodes-next-clause-none c = λ _.

@@ -10,5 +10,5 @@ pub returns-clause-lowest : goal.returns-clause-lowest
 returns-clause-lowest c =
     let slots = c.args.image.now.layout.slots in
     let s = image_spot c.args.image.now.layout c.args.image.now.words c.args.node in
-    lowest_from_range (IsRepeated slots s) c.slots_of.result c.find.result (λ k is. subst (λ n. k < n) (sym c.slots_of.ensures.slots) is.within)
+    lowest_from_range (IsRepeated slots s) c.slot_count.result c.find.result (λ k is. subst (λ n. k < n) (sym c.slot_count.ensures.count) is.within)
     (first_from_Range _ _ _ c.find.result (IsRepeated slots s) (λ k. ¬ IsRepeated slots s k) c.find.ensures.ran (λ x q k. search (rules, tests)) (λ x q k. search (rules, tests)))

@@ -11,6 +11,6 @@ returns c =
     let s = image_spot c.args.image.now.layout c.args.image.now.words c.args.node in
     record {
       lowest =
-          lowest_from_range (HasWords slots s c.args.words) c.slots_of.result c.find.result (λ k is. subst (λ n. k < n) (sym c.slots_of.ensures.slots) is.within)
+          lowest_from_range (HasWords slots s c.args.words) c.slot_count.result c.find.result (λ k is. subst (λ n. k < n) (sym c.slot_count.ensures.count) is.within)
           (first_from_Range _ _ _ c.find.result (HasWords slots s c.args.words) (λ k. ¬ HasWords slots s c.args.words k) c.find.ensures.ran (λ x q k. search (rules, tests)) (λ x q k. search (rules, tests)));
     }

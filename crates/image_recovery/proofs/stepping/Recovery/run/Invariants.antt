@@ -1,4 +1,4 @@
-use Rattle.std.proofs.Common.{◌≡◌, ◌+◌, ◌-◌, length, is_some, if◌then◌else◌}
+use Rattle.std.proofs.Common.{◌+◌, ◌-◌, length, is_some, if◌then◌else◌}
 use Rattle.pm_words.specs.Images.{Row}
 use Rattle.image_recovery.specs.Recovered.{IsRecoverable}
 use Rattle.image_recovery.specs.Recoveries.{IsRecovering}

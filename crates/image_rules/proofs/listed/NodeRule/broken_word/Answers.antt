@@ -26,9 +26,6 @@ returns-in-Some c =
     walk_found l (BreaksInNode l image c.args.self) c.loop-position._position c.number_of.result walks.none
     (in_node_found l image c.args.self c.loop-position._position c.loop-position.node c.in-Some.offset c.number_of.result (walks.at (omega arith)) c.number_of.ensures c.in-Some.ensures.lowest)
 
-pub next_of-node-requires : goal.next_of-node-requires
-next_of-node-requires c = c.loop-position.invariant.here
-
 pub returns-then-node-eq0 : goal.returns-then-node-eq0
 returns-then-node-eq0 c =
     let l = c.args.image.now.layout in

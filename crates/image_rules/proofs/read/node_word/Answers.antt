@@ -2,17 +2,17 @@ use Rattle.std.proofs.Common.{◌∙◌, ap, sym, slice_index, arith}
 use Rattle.pm_words.specs.declared.layout.Layout.{Layout}
 use Rattle.pm_words.specs.Locations.{Node, word_number}
 use Rattle.image_rules.proofs.WordLemmas.{image_spot-here, image_spot-outside}
-use Rattle.image_layer_rules.proofs.list.node_word.Goals as goal
+use Rattle.image_rules.proofs.read.node_word.Goals as goal
 
-pub returns-then-nodes-node : goal.returns-then-nodes-node
-returns-then-nodes-node c =
+pub returns-then-nodes-node-clause-word : goal.returns-then-nodes-node-clause-word
+returns-then-nodes-node-clause-word c =
     let image = c.args.image.now in
     let told = ap (λ (k : Layout). k.nodes) c.layout.ensures.layout in
     let nodes = c.nodes.ensures in
     sym (image_spot-outside image.layout image.words c.args.node c.args.offset (omega arith))
 
-pub returns : goal.returns
-returns c =
+pub returns-clause-word : goal.returns-clause-word
+returns-clause-word c =
     let image = c.args.image.now in
     let told = ap (λ (k : Layout). k.nodes) c.layout.ensures.layout in
     let nodes = c.nodes.ensures in
