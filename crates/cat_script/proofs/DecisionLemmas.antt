@@ -13,8 +13,8 @@ use Rattle.cat_script.specs.Numbers.{IsSomeUpTo}
 use Rattle.cat_script.specs.Reasons.{word_at, verb_of, HasCount, IsCallVerb, HasNumbers, HasReason}
 use Rattle.cat_script.specs.declared.line.Reason.{Reason}
 use Rattle.cat_script.specs.declared.line.Reason.TheVariants as reason
-use Rattle.cat_script.specs.declared.verb.Verb.{Verb}
-use Rattle.cat_script.specs.declared.verb.Verb.TheVariants as verb
+use Rattle.cat_script.specs.Reasons.{Verb}
+use Rattle.cat_script.specs.Reasons as verb
 
 -- It holds, or it doesn't.
 abbrev pub IsDecided : Type 0 → Type 0

@@ -9,22 +9,20 @@ use Rattle.cat_script.specs.declared.fault.ScriptFault.{ScriptFault}
 use Rattle.cat_script.specs.declared.fault.ScriptFault.TheVariants as fault
 use Rattle.cat_script.specs.declared.line.Reason.{Reason}
 use Rattle.cat_script.specs.declared.line.Reason.TheVariants as reason
-use Rattle.cat_script.specs.declared.script.Form.{Form}
-use Rattle.cat_script.specs.declared.script.Form.TheVariants.{Call, Join, Crash, Updater, Limit}
+use Rattle.cat_script.specs.declared.script.Need.{Need}
+use Rattle.cat_script.specs.declared.script.Need.TheVariants.{Caller, Budgets, Nothing}
 use Rattle.cat_script.specs.declared.script.ScriptLine.{ScriptLine}
 use Rattle.cat_script.proofs.CrashLemmas.{among}
 use Rattle.cat_script.proofs.ScriptLaws.{longer, alike}
 
 -- a line has one reason not to fit
-why_one : (callers : ℕ) (form : Form) (a b : Reason) → IsUnfit callers form a → IsUnfit callers form b → a ≡ b
-why_one callers (Call caller verb) a b is is' = is.0 ∙ sym is'.0
-why_one callers Join a b is is' = absurd is
-why_one callers (Crash budgets) a b is is' = is.0 ∙ sym is'.0
-why_one callers Updater a b is is' = absurd is
-why_one callers Limit a b is is' = absurd is
+why_one : (callers : ℕ) (need : Need) (a b : Reason) → IsUnfit callers need a → IsUnfit callers need b → a ≡ b
+why_one callers (Caller number) a b is is' = is.0 ∙ sym is'.0
+why_one callers (Budgets count) a b is is' = is.0 ∙ sym is'.0
+why_one callers Nothing a b is is' = absurd is
 
 unfit_within : (callers : ℕ) (before : List ScriptLine) (line : ScriptLine) (after all : List ScriptLine) (why : Reason) → all ≡ before ++ line ∷ after → All (FitsCallers callers) all →
-    IsUnfit callers line.form why → ⊥
+    IsUnfit callers line.need why → ⊥
 unfit_within callers before line after all why is fitting unfit = among (FitsCallers callers) all before line after is fitting why unfit
 
 not_sooner : (callers : ℕ) (lines : List ScriptLine) (m n : ℕ) (why why' : Reason) (a : IsFirstUnfit callers lines m why) (b : IsFirstUnfit callers lines n why') → length a.before < length b.before → ⊥
@@ -38,7 +36,7 @@ one_unfit callers lines m n why why' a b =
     let same : length a.before ≡ length b.before = omega (arith, not_sooner callers lines m n why why' a b, not_sooner callers lines n m why' why b a) in
     let cut = alike a.before b.before a.line b.line a.after b.after (sym a.cut ∙ b.cut) same in
     let numbers = a.number_is ∙ ap (λ (l : ScriptLine). l.number) cut.1 ∙ sym b.number_is in
-    let whys = why_one callers b.line.form why why' (subst (λ (l : ScriptLine). IsUnfit callers l.form why) cut.1 a.unfit) b.unfit in
+    let whys = why_one callers b.line.need why why' (subst (λ (l : ScriptLine). IsUnfit callers l.need why) cut.1 a.unfit) b.unfit in
     (numbers, whys)
 
 unfit_one : (callers : ℕ) (lines : List ScriptLine) (m n : ℕ) (why why' : Reason) → IsFirstUnfit callers lines m why → IsFirstUnfit callers lines n why' → fault.Line m why ≡ fault.Line n why'
@@ -48,18 +46,16 @@ pub unfit_fits_not : UnfitFitsNot
 unfit_fits_not callers lines number why first fits = unfit_within callers first.before first.line first.after lines why first.cut fits first.unfit
 
 -- a line fits, or there is why it doesn't
-form_fits : (callers : ℕ) (form : Form) → ((why : Reason) → ¬ IsUnfit callers form why) ⊎ ((why : Reason) × IsUnfit callers form why)
-form_fits callers (Call caller verb) = go (cases_lt caller callers) where
-  go : (caller < callers) ⊎ (callers ≤ caller) → ((why : Reason) → ¬ IsUnfit callers (Call caller verb) why) ⊎ ((why : Reason) × IsUnfit callers (Call caller verb) why)
+need_fits : (callers : ℕ) (need : Need) → ((why : Reason) → ¬ IsUnfit callers need why) ⊎ ((why : Reason) × IsUnfit callers need why)
+need_fits callers (Caller number) = go (cases_lt number callers) where
+  go : (number < callers) ⊎ (callers ≤ number) → ((why : Reason) → ¬ IsUnfit callers (Caller number) why) ⊎ ((why : Reason) × IsUnfit callers (Caller number) why)
   go (inl within) = inl (λ why unfit. omega (arith, within, unfit.1))
   go (inr past) = inr (reason.Caller, (refl, past))
-form_fits callers Join = inl (λ why unfit. unfit)
-form_fits callers (Crash budgets) = go (cases_eq budgets callers) where
-  go : (budgets ≡ callers) ⊎ (budgets ≡ callers → ⊥) → ((why : Reason) → ¬ IsUnfit callers (Crash budgets) why) ⊎ ((why : Reason) × IsUnfit callers (Crash budgets) why)
+need_fits callers (Budgets count) = go (cases_eq count callers) where
+  go : (count ≡ callers) ⊎ (count ≡ callers → ⊥) → ((why : Reason) → ¬ IsUnfit callers (Budgets count) why) ⊎ ((why : Reason) × IsUnfit callers (Budgets count) why)
   go (inl same) = inl (λ why unfit. unfit.1 same)
   go (inr other) = inr (reason.Words, (refl, other))
-form_fits callers Updater = inl (λ why unfit. unfit)
-form_fits callers Limit = inl (λ why unfit. unfit)
+need_fits callers Nothing = inl (λ why unfit. unfit)
 
 -- one line more before those
 unfit_behind : (callers : ℕ) (line : ScriptLine) (lines : List ScriptLine) (number : ℕ) (why : Reason) → FitsCallers callers line → IsFirstUnfit callers lines number why → IsFirstUnfit callers (line ∷ lines) number why
@@ -75,8 +71,8 @@ unfit_behind callers line lines number why fits first = record {
 
 pub fits_or_unfit : FitsOrIsUnfit
 fits_or_unfit callers [] = inl (All-nil (FitsCallers callers))
-fits_or_unfit callers (line ∷ lines) = go (form_fits callers line.form) (fits_or_unfit callers lines) where
-  go : (FitsCallers callers line) ⊎ ((why : Reason) × IsUnfit callers line.form why) → All (FitsCallers callers) lines ⊎ ((number : ℕ) × (why : Reason) × IsFirstUnfit callers lines number why) →
+fits_or_unfit callers (line ∷ lines) = go (need_fits callers line.need) (fits_or_unfit callers lines) where
+  go : (FitsCallers callers line) ⊎ ((why : Reason) × IsUnfit callers line.need why) → All (FitsCallers callers) lines ⊎ ((number : ℕ) × (why : Reason) × IsFirstUnfit callers lines number why) →
       All (FitsCallers callers) (line ∷ lines) ⊎ ((number : ℕ) × (why : Reason) × IsFirstUnfit callers (line ∷ lines) number why)
   go (inl here) (inl behind) = inl (All-cons (FitsCallers callers) line lines here behind)
   go (inl here) (inr first) = inr (first.0, first.1, unfit_behind callers line lines first.0 first.1 here first.2)

@@ -19,8 +19,8 @@ use Rattle.cat_script.specs.declared.line.Line.{Line}
 use Rattle.cat_script.specs.declared.line.Line.TheVariants.{Blank, Call, Join, Crash, Updater, Limit}
 use Rattle.cat_script.specs.declared.line.Reason.{Reason}
 use Rattle.cat_script.specs.declared.line.Reason.TheVariants as reason
-use Rattle.cat_script.specs.declared.verb.Verb.{Verb}
-use Rattle.cat_script.specs.declared.verb.Verb.TheVariants as verb
+use Rattle.cat_script.specs.Reasons.{Verb}
+use Rattle.cat_script.specs.Reasons as verb
 use Rattle.cat_script.proofs.NumberLemmas.{digits_of_number}
 
 -- The first byte of the words that ask this.

@@ -6,14 +6,14 @@ use Rattle.cat_script.specs.Counts.{AreCounts}
 use Rattle.cat_script.specs.Limits.{PassLimit}
 use Rattle.cat_script.specs.Lines.{lines_of}
 use Rattle.cat_script.specs.Reading.{IsReading, IsRefusedBehind, IsRefusal}
-use Rattle.cat_script.specs.Scripts.{IsLineFault, numbered, verb_of_op}
+use Rattle.cat_script.specs.Scripts.{IsLineFault, numbered}
 use Rattle.cat_script.specs.declared.fault.ScriptFault.{ScriptFault}
 use Rattle.cat_script.specs.declared.fault.ScriptFault.TheVariants as fault
 use Rattle.cat_script.specs.declared.fault.TheConstants.{MOST_BYTES}
 use Rattle.cat_script.specs.declared.line.Line.{Line}
 use Rattle.cat_script.specs.declared.line.Line.TheVariants.{Blank, Call, Join, Crash, Updater, Limit}
 use Rattle.cat_script.specs.declared.read.Reading.{Reading}
-use Rattle.cat_script.specs.declared.script.Form.TheVariants as form
+use Rattle.cat_script.specs.declared.script.Need.TheVariants.{Caller, Budgets, Nothing}
 use Rattle.cat_script.specs.declared.script.ScriptLine.{ScriptLine}
 
 -- the next number, in two spellings
@@ -26,11 +26,11 @@ none n = omega arith
 pub numbered-append : (n : ℕ) (a b : List Line) → numbered n (a ++ b) ≡ numbered n a ++ numbered (n + length a) b
 numbered-append n [] b = ap (λ m. numbered m b) (none n)
 numbered-append n (Blank ∷ a) b = numbered-append (n + 1) a b ∙ ap (λ m. numbered (n + 1) a ++ numbered m b) (next n (length a))
-numbered-append n (Call caller op ∷ a) b = ap (λ (ls : List ScriptLine). record { number = n; form = form.Call caller (verb_of_op op) } ∷ ls) (numbered-append (n + 1) a b ∙ ap (λ m. numbered (n + 1) a ++ numbered m b) (next n (length a)))
-numbered-append n (Join ∷ a) b = ap (λ (ls : List ScriptLine). record { number = n; form = form.Join } ∷ ls) (numbered-append (n + 1) a b ∙ ap (λ m. numbered (n + 1) a ++ numbered m b) (next n (length a)))
-numbered-append n (Crash plan ∷ a) b = ap (λ (ls : List ScriptLine). record { number = n; form = form.Crash (length plan.budgets) } ∷ ls) (numbered-append (n + 1) a b ∙ ap (λ m. numbered (n + 1) a ++ numbered m b) (next n (length a)))
-numbered-append n (Updater turns ∷ a) b = ap (λ (ls : List ScriptLine). record { number = n; form = form.Updater } ∷ ls) (numbered-append (n + 1) a b ∙ ap (λ m. numbered (n + 1) a ++ numbered m b) (next n (length a)))
-numbered-append n (Limit limit ∷ a) b = ap (λ (ls : List ScriptLine). record { number = n; form = form.Limit } ∷ ls) (numbered-append (n + 1) a b ∙ ap (λ m. numbered (n + 1) a ++ numbered m b) (next n (length a)))
+numbered-append n (Call caller op ∷ a) b = ap (λ (ls : List ScriptLine). record { number = n; need = Caller caller } ∷ ls) (numbered-append (n + 1) a b ∙ ap (λ m. numbered (n + 1) a ++ numbered m b) (next n (length a)))
+numbered-append n (Join ∷ a) b = ap (λ (ls : List ScriptLine). record { number = n; need = Nothing } ∷ ls) (numbered-append (n + 1) a b ∙ ap (λ m. numbered (n + 1) a ++ numbered m b) (next n (length a)))
+numbered-append n (Crash plan ∷ a) b = ap (λ (ls : List ScriptLine). record { number = n; need = Budgets (length plan.budgets) } ∷ ls) (numbered-append (n + 1) a b ∙ ap (λ m. numbered (n + 1) a ++ numbered m b) (next n (length a)))
+numbered-append n (Updater turns ∷ a) b = ap (λ (ls : List ScriptLine). record { number = n; need = Nothing } ∷ ls) (numbered-append (n + 1) a b ∙ ap (λ m. numbered (n + 1) a ++ numbered m b) (next n (length a)))
+numbered-append n (Limit limit ∷ a) b = ap (λ (ls : List ScriptLine). record { number = n; need = Nothing } ∷ ls) (numbered-append (n + 1) a b ∙ ap (λ m. numbered (n + 1) a ++ numbered m b) (next n (length a)))
 
 behind : (count many : ℕ) → count ≡ many → count + 1 ≡ 1 + many
 behind count many same = omega (arith, same)

@@ -28,8 +28,8 @@ use Rattle.cat_script.specs.declared.line.Line.TheVariants.{Blank, Call, Join, C
 use Rattle.cat_script.specs.declared.line.Reason.{Reason}
 use Rattle.cat_script.specs.declared.line.Reason.TheVariants as reason
 use Rattle.cat_script.specs.declared.script.Script.{Script}
-use Rattle.cat_script.specs.declared.verb.Verb.{Verb}
-use Rattle.cat_script.specs.declared.verb.Verb.TheVariants as verb
+use Rattle.cat_script.specs.Reasons.{Verb}
+use Rattle.cat_script.specs.Reasons as verb
 use Rattle.cat_script.proofs.DecisionLemmas.{IsDecided, at_most, reason_decided, comment_decided, empty_decided, good_bytes, good_verb, good_count, good_caller, good_name, good_numbers}
 use Rattle.cat_script.proofs.LineLaws.{rank_one}
 use Rattle.cat_script.proofs.RoundLemmas.{going_more, ended_more}

@@ -4,20 +4,18 @@ use Rattle.cat_script.specs.declared.fault.ScriptFault.{ScriptFault}
 use Rattle.cat_script.specs.declared.fault.ScriptFault.TheVariants as fault
 use Rattle.cat_script.specs.declared.line.Reason.{Reason}
 use Rattle.cat_script.specs.declared.line.Reason.TheVariants as reason
-use Rattle.cat_script.specs.declared.script.Form.{Form}
-use Rattle.cat_script.specs.declared.script.Form.TheVariants.{Call, Join, Crash, Updater, Limit}
+use Rattle.cat_script.specs.declared.script.Need.{Need}
+use Rattle.cat_script.specs.declared.script.Need.TheVariants.{Caller, Budgets, Nothing}
 use Rattle.cat_script.specs.declared.script.ScriptLine.{ScriptLine}
 
 -- Why a line doesn't fit so many callers: it is a call of none of them, or it hasn't one budget for each.
-abbrev pub IsUnfit : ℕ → Form → Reason → Type 0
-IsUnfit callers (Call caller verb) why = (why ≡ reason.Caller) × (callers ≤ caller)
-IsUnfit callers Join why = ⊥
-IsUnfit callers (Crash budgets) why = (why ≡ reason.Words) × (budgets ≢ callers)
-IsUnfit callers Updater why = ⊥
-IsUnfit callers Limit why = ⊥
+abbrev pub IsUnfit : ℕ → Need → Reason → Type 0
+IsUnfit callers (Caller number) why = (why ≡ reason.Caller) × (callers ≤ number)
+IsUnfit callers (Budgets count) why = (why ≡ reason.Words) × (count ≢ callers)
+IsUnfit callers Nothing why = ⊥
 
 abbrev pub FitsCallers : ℕ → ScriptLine → Type 0
-FitsCallers callers line = (why : Reason) → ¬ IsUnfit callers line.form why
+FitsCallers callers line = (why : Reason) → ¬ IsUnfit callers line.need why
 
 -- The first of these lines that doesn't fit so many callers has this number, and this is why.
 pub record IsFirstUnfit (callers : ℕ) (lines : List ScriptLine) (number : ℕ) (why : Reason) : Type 0 where
@@ -27,7 +25,7 @@ pub record IsFirstUnfit (callers : ℕ) (lines : List ScriptLine) (number : ℕ)
   pub cut : lines ≡ before ++ line ∷ after
   pub fitting : All (FitsCallers callers) before
   pub number_is : number ≡ line.number
-  pub unfit : IsUnfit callers line.form why
+  pub unfit : IsUnfit callers line.need why
 
 -- The fault of a script that doesn't fit.
 abbrev pub IsUnfitBy : ℕ → List ScriptLine → ScriptFault → Type 0

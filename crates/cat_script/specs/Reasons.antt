@@ -11,8 +11,17 @@ use Rattle.cat_script.specs.declared.line.Reason.{Reason}
 use Rattle.cat_script.specs.declared.line.Reason.TheVariants as reason
 use Rattle.cat_script.specs.declared.line.LineFault.{LineFault}
 use Rattle.cat_script.specs.declared.line.LineFault.TheVariants as fault
-use Rattle.cat_script.specs.declared.verb.Verb.{Verb}
-use Rattle.cat_script.specs.declared.verb.Verb.TheVariants.{Join, Crash, Updater, Limit, Put, Get, Del, Scan}
+
+-- What a line is about: its first word, or the second one of a call.
+pub data Verb : Type 0 where
+  Join : Verb
+  Crash : Verb
+  Updater : Verb
+  Limit : Verb
+  Put : Verb
+  Get : Verb
+  Del : Verb
+  Scan : Verb
 
 -- What the first word says, where it is one of these.
 abbrev pub setting_verb : List ℕ → Option Verb

@@ -13,29 +13,21 @@ use Rattle.cat_script.specs.declared.fault.ScriptFault.TheVariants as fault
 use Rattle.cat_script.specs.declared.fault.TheConstants.{MOST_BYTES}
 use Rattle.cat_script.specs.declared.line.Line.{Line}
 use Rattle.cat_script.specs.declared.line.Line.TheVariants.{Blank, Call, Join, Crash, Updater, Limit}
-use Rattle.cat_script.specs.declared.script.Form.TheVariants as form
+use Rattle.cat_script.specs.declared.script.Need.TheVariants.{Caller, Budgets, Nothing}
 use Rattle.cat_script.specs.declared.script.Script.{Script}
 use Rattle.cat_script.specs.declared.script.ScriptLine.{ScriptLine}
-use Rattle.cat_script.specs.declared.verb.Verb.{Verb}
-use Rattle.cat_script.specs.declared.verb.Verb.TheVariants as verb
 
-abbrev pub verb_of_op : Op → Verb
-verb_of_op (Put name value) = verb.Put
-verb_of_op (Get name) = verb.Get
-verb_of_op (Del name) = verb.Del
-verb_of_op (Scan from count) = verb.Scan
-
--- The lines that are not blank, each with its number, where the first of all has this number.
+-- The lines that are not blank, each with its number, where the first of all has this number, and with what it asks of a
+-- layout: a call its caller, and a crash one caller for each budget.
 abbrev pub numbered : ℕ → List Line → List ScriptLine
 numbered number [] = []
 numbered number (Blank ∷ lines) = numbered (number + 1) lines
-numbered number (Call caller op ∷ lines) =
-    record { number = number; form = form.Call caller (verb_of_op op) } ∷ numbered (number + 1) lines
-numbered number (Join ∷ lines) = record { number = number; form = form.Join } ∷ numbered (number + 1) lines
+numbered number (Call caller op ∷ lines) = record { number = number; need = Caller caller } ∷ numbered (number + 1) lines
+numbered number (Join ∷ lines) = record { number = number; need = Nothing } ∷ numbered (number + 1) lines
 numbered number (Crash plan ∷ lines) =
-    record { number = number; form = form.Crash (length plan.budgets) } ∷ numbered (number + 1) lines
-numbered number (Updater turns ∷ lines) = record { number = number; form = form.Updater } ∷ numbered (number + 1) lines
-numbered number (Limit limit ∷ lines) = record { number = number; form = form.Limit } ∷ numbered (number + 1) lines
+    record { number = number; need = Budgets (length plan.budgets) } ∷ numbered (number + 1) lines
+numbered number (Updater turns ∷ lines) = record { number = number; need = Nothing } ∷ numbered (number + 1) lines
+numbered number (Limit limit ∷ lines) = record { number = number; need = Nothing } ∷ numbered (number + 1) lines
 
 -- The bytes are this script.
 pub record IsScript (bytes : List ℕ) (script : Script) : Type 0 where

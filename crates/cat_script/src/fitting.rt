@@ -6,7 +6,7 @@ ghost use Rattle.cat_script.specs.declared.line.Reason.{Reason};
 
 use crate::fault::ScriptFault;
 use crate::line::Reason;
-use crate::script::{Form, Script, ScriptLine};
+use crate::script::{Need, Script, ScriptLine};
 use pm_words::Layout;
 
 /// Whether a script fits a layout: each caller is one of the layout's, and each crash line has one budget for each
@@ -26,7 +26,7 @@ fn look_through(lines: &[ScriptLine], callers: u64) -> Result<(), ScriptFault>
     ensures unfit { IfErr result (IsUnfitBy callers lines.now) }
 {
     for line in lines {
-        if let Some(reason) = unfit(line.form, callers) {
+        if let Some(reason) = unfit(line.need, callers) {
             return Err(ScriptFault::Line {
                 line: line.number,
                 reason,
@@ -36,14 +36,14 @@ fn look_through(lines: &[ScriptLine], callers: u64) -> Result<(), ScriptFault>
     Ok(())
 }
 
-/// Why a line doesn't fit so many callers; None where it does.
-fn unfit(form: Form, callers: u64) -> Option<Reason>
-    ensures some { IfSome result (IsUnfit callers form) }
-    ensures none { IsNone result → (why : Reason) → ¬ IsUnfit callers form why }
+/// Why a line that asks this doesn't fit so many callers; None where it does.
+fn unfit(need: Need, callers: u64) -> Option<Reason>
+    ensures some { IfSome result (IsUnfit callers need) }
+    ensures none { IsNone result → (why : Reason) → ¬ IsUnfit callers need why }
 {
-    match form {
-        Form::Call { caller, .. } if caller >= callers => Some(Reason::Caller),
-        Form::Crash { callers: budgets } if budgets != callers => Some(Reason::Words),
-        Form::Call { .. } | Form::Crash { .. } | Form::Join | Form::Updater | Form::Limit => None,
+    match need {
+        Need::Caller { number } if number >= callers => Some(Reason::Caller),
+        Need::Budgets { count } if count != callers => Some(Reason::Words),
+        Need::Caller { .. } | Need::Budgets { .. } | Need::Nothing => None,
     }
 }

@@ -13,7 +13,6 @@ mod line;
 mod number;
 mod read;
 mod script;
-mod verb;
 
 pub use fault::{MOST_BYTES, ScriptFault};
 pub use fitting::fits;
@@ -21,5 +20,4 @@ pub use generator::generated;
 pub use line::{Line, LineFault, Reason};
 pub use number::{number_up_to, read_number};
 pub use read::read_script;
-pub use script::{Form, Script, ScriptLine};
-pub use verb::Verb;
+pub use script::{Need, Script, ScriptLine};

@@ -8,7 +8,7 @@ ghost use Rattle.cat_script.specs.Asks.{IsLine};
 ghost use Rattle.cat_script.specs.Counts.{HaveRoom};
 ghost use Rattle.cat_script.specs.Lines.{lines_of};
 ghost use Rattle.cat_script.specs.Reading.{IsReading, IsReasonAt, IsRefusedBehind, IsRefusal, IsAnswer};
-ghost use Rattle.cat_script.specs.Scripts.{IsScript, IsFirstFault, numbered, verb_of_op};
+ghost use Rattle.cat_script.specs.Scripts.{IsScript, IsFirstFault, numbered};
 ghost use Rattle.cat_script.specs.declared.fault.ScriptFault.{ScriptFault};
 ghost use Rattle.cat_script.specs.declared.line.Line.{Line};
 ghost use Rattle.cat_script.specs.declared.script.Script.{Script};
@@ -19,8 +19,7 @@ use crate::cut::split_line;
 use crate::fault::{MOST_BYTES, ScriptFault};
 use crate::grouping::Grouping;
 use crate::line::{Line, LineFault};
-use crate::script::{Form, Script, ScriptLine};
-use crate::verb::Verb;
+use crate::script::{Need, Script, ScriptLine};
 use cat_history::{Items, NoMemory, Op};
 use std::alloc::Global;
 
@@ -80,45 +79,28 @@ fn asked_in(alloc: Global, line: &[u8], number: u64) -> Result<Line, ScriptFault
 fn add_line(lines: &mut Vec<ScriptLine>, number: u64, asked: &Line) -> Result<(), NoMemory>
     ensures { OnOk result (lines.new.items ≡ lines.old.items ++ numbered number (asked.now ∷ [])) }
 {
-    let Some(form) = form_of(asked) else {
+    let Some(need) = need_of(asked) else {
         return Ok(());
     };
-    if lines.push(ScriptLine { number, form }).is_err() {
+    if lines.push(ScriptLine { number, need }).is_err() {
         return Err(NoMemory);
     }
     Ok(())
 }
 
-/// The form of a line; None where it is blank.
-fn form_of(asked: &Line) -> Option<Form>
-    ensures some { IfSome result (λ form. (number : ℕ) →
-        numbered number (asked.now ∷ []) ≡ record { number = number; form = form } ∷ []) }
+/// What a line asks of a layout; None where it is blank.
+fn need_of(asked: &Line) -> Option<Need>
+    ensures some { IfSome result (λ need. (number : ℕ) →
+        numbered number (asked.now ∷ []) ≡ record { number = number; need = need } ∷ []) }
     ensures none { IsNone result → (number : ℕ) → numbered number (asked.now ∷ []) ≡ [] }
 {
     match asked {
         Line::Blank => None,
-        Line::Call { caller, op } => Some(Form::Call {
-            caller: *caller,
-            verb: verb_of(op),
+        Line::Call { caller, .. } => Some(Need::Caller { number: *caller }),
+        Line::Crash { plan } => Some(Need::Budgets {
+            count: plan.budgets.as_slice().len() as u64,
         }),
-        Line::Join => Some(Form::Join),
-        Line::Crash { plan } => Some(Form::Crash {
-            callers: plan.budgets.as_slice().len() as u64,
-        }),
-        Line::Updater { .. } => Some(Form::Updater),
-        Line::Limit { .. } => Some(Form::Limit),
-    }
-}
-
-/// The word of a call.
-fn verb_of(op: &Op) -> Verb
-    ensures { result ≡ verb_of_op op.now }
-{
-    match op {
-        Op::Put { .. } => Verb::Put,
-        Op::Get { .. } => Verb::Get,
-        Op::Del { .. } => Verb::Del,
-        Op::Scan { .. } => Verb::Scan,
+        Line::Join | Line::Updater { .. } | Line::Limit { .. } => Some(Need::Nothing),
     }
 }
 

@@ -1,18 +1,15 @@
-//! Scripts: what is asked, round by round, and which lines asked it.
+//! Scripts: what is asked, round by round, and which lines ask something of a layout.
 
-use crate::verb::Verb;
 use cat_history::{Items, RoundPlan};
 
-/// The form of a line that isn't blank, without all that it asks.
+/// What a line asks of the layout that its script is played on.
 #[derive(Clone, Copy)]
-pub enum Form {
-    /// A call of this caller.
-    Call { caller: u64, verb: Verb },
-    Join,
-    /// The end of a round by a crash, with budgets for so many callers.
-    Crash { callers: u64 },
-    Updater,
-    Limit,
+pub enum Need {
+    /// A caller of this number.
+    Caller { number: u64 },
+    /// As many callers as the line has budgets.
+    Budgets { count: u64 },
+    Nothing,
 }
 
 /// A line that isn't blank.
@@ -20,7 +17,7 @@ pub enum Form {
 pub struct ScriptLine {
     /// Its number, counted from 1, blank lines among those counted.
     pub number: u64,
-    pub form: Form,
+    pub need: Need,
 }
 
 /// What a text asks.

@@ -14,8 +14,8 @@ use Rattle.cat_script.specs.Scripts.{IsScript}
 use Rattle.cat_script.specs.declared.fault.ScriptFault.{ScriptFault}
 use Rattle.cat_script.specs.declared.fault.ScriptFault.TheVariants as fault
 use Rattle.cat_script.specs.declared.line.Reason.{Reason}
-use Rattle.cat_script.specs.declared.script.Form.{Form}
-use Rattle.cat_script.specs.declared.script.Form.TheVariants as form
+use Rattle.cat_script.specs.declared.script.Need.{Need}
+use Rattle.cat_script.specs.declared.script.Need.TheVariants.{Caller, Budgets, Nothing}
 use Rattle.cat_script.specs.declared.script.Script.{Script}
 use Rattle.cat_script.specs.declared.script.ScriptLine.{ScriptLine}
 use Rattle.pm_words.specs.declared.layout.Layout.{Layout}
@@ -132,21 +132,19 @@ fits-all callers lines (fault.Line number why) is fits =
     within (FitsCallers callers) is.before is.line is.after (subst (AllByRecursion (FitsCallers callers)) is.cut (recursion_from_All (FitsCallers callers) lines fits)) why is.unfit
 fits-all callers lines fault.NoMemory is fits = is
 
-one-why : (callers : ℕ) (f : Form) (a b : Reason) → IsUnfit callers f a → IsUnfit callers f b → a ≡ b
-one-why callers (form.Call caller verb) a b is is' = is.0 ∙ sym is'.0
-one-why callers form.Join a b is is' = absurd is
-one-why callers (form.Crash budgets) a b is is' = is.0 ∙ sym is'.0
-one-why callers form.Updater a b is is' = absurd is
-one-why callers form.Limit a b is is' = absurd is
+one-why : (callers : ℕ) (need : Need) (a b : Reason) → IsUnfit callers need a → IsUnfit callers need b → a ≡ b
+one-why callers (Caller number) a b is is' = is.0 ∙ sym is'.0
+one-why callers (Budgets count) a b is is' = is.0 ∙ sym is'.0
+one-why callers Nothing a b is is' = absurd is
 
 one-line : (callers : ℕ) (before before' : List ScriptLine) (line line' : ScriptLine) (after after' : List ScriptLine) (why why' : Reason) →
     before ++ line ∷ after ≡ before' ++ line' ∷ after' → AllByRecursion (FitsCallers callers) before → AllByRecursion (FitsCallers callers) before' →
-    IsUnfit callers line.form why → IsUnfit callers line'.form why' → line ≡ line'
+    IsUnfit callers line.need why → IsUnfit callers line'.need why' → line ≡ line'
 one-line callers [] [] line line' after after' why why' same fits fits' unfit unfit' = cc
 one-line callers [] (l ∷ before') line line' after after' why why' same fits fits' unfit unfit' =
-    let head : line ≡ l = cc in absurd (fits'.0 why (subst (λ (k : ScriptLine). IsUnfit callers k.form why) head unfit))
+    let head : line ≡ l = cc in absurd (fits'.0 why (subst (λ (k : ScriptLine). IsUnfit callers k.need why) head unfit))
 one-line callers (l ∷ before) [] line line' after after' why why' same fits fits' unfit unfit' =
-    let head : line' ≡ l = cc in absurd (fits.0 why' (subst (λ (k : ScriptLine). IsUnfit callers k.form why') head unfit'))
+    let head : line' ≡ l = cc in absurd (fits.0 why' (subst (λ (k : ScriptLine). IsUnfit callers k.need why') head unfit'))
 one-line callers (l ∷ before) (k ∷ before') line line' after after' why why' same fits fits' unfit unfit' =
     let tails : before ++ line ∷ after ≡ before' ++ line' ∷ after' = cc in
     one-line callers before before' line line' after after' why why' tails fits.1 fits'.1 unfit unfit'
@@ -166,7 +164,7 @@ one-unfit callers lines (fault.Line number why) (fault.Line number' why') is is'
     let same = one-line callers is.before is'.before is.line is'.line is.after is'.after why why' (sym is.cut ∙ is'.cut)
     (recursion_from_All (FitsCallers callers) is.before is.fitting) (recursion_from_All (FitsCallers callers) is'.before is'.fitting) is.unfit is'.unfit in
     let numbers = is.number_is ∙ ap (λ (l : ScriptLine). l.number) same ∙ sym is'.number_is in
-    let whys = one-why callers is'.line.form why why' (subst (λ (l : ScriptLine). IsUnfit callers l.form why) same is.unfit) is'.unfit in
+    let whys = one-why callers is'.line.need why why' (subst (λ (l : ScriptLine). IsUnfit callers l.need why) same is.unfit) is'.unfit in
     λ i. fault.Line (numbers i) (whys i)
 
 -- a script that fits has no fault

@@ -1,5 +1,5 @@
 -- What the program owes: what each command prints, and what each status says of source, sink and shelf.
-use Rattle.std.specs.Prelude.{◌≡◌, ℕ, ◌<◌, ◌⊎◌, List, [], ◌∷◌, Option, IfSome, Some, length, take, fold}
+use Rattle.std.specs.Prelude.{◌≡◌, ℕ, ◌<◌, ◌⊎◌, ◌↔◌, List, [], ◌∷◌, Option, IfSome, Some, length, take, fold}
 use Rattle.std.specs.FinMap.{empty, insert, remove}
 use Rattle.std.specs.Io.KnownBytes.{Appends, Keeps}
 use Rattle.cat_command.specs.Commands.{IsCommand}
@@ -358,3 +358,20 @@ abbrev pub FinishesOnFile : List (List ℕ) → Seen → (writes writes' : ℕ) 
 FinishesOnFile words told writes writes' answer = (files : FileMap) → told.files ≡ Some files →
     told.shelves' ≡ told.shelves → (RunsScript words → TellsSource told) → writes' ≡ writes →
     CanBeDone words told.left (Some files) → Comes answer status.Done
+
+-- ---- all of it
+
+-- What a run of a command comes to that ended with this answer: what it leaves of the sink and of the shelf, and why it
+-- ended so; and which answer comes where nothing fails: a script that is refused is told so, one that is accepted is
+-- played, and so is a generated round, and a command on a file is done where that can be, and else says why not.
+pub record IsRunOf (words : List (List ℕ)) (told : Seen) (written written' : Option (List ℕ)) (writes writes' : ℕ) (answer : Status) : Type 0 where
+  pub sink : LeavesSink words told answer written written'
+  pub files : LeavesShelf words told answer
+  pub cause : IsCauseOf words told writes writes' answer
+  pub usage : (answer ≡ status.Usage) ↔ ((command : Command) → ¬ IsCommand words command)
+  pub refused : TellsRefusal words told answer
+  pub accepted : FinishesAccepted words told writes writes' answer
+  pub run_refused : TellsRunRefusal words told answer
+  pub generated : FinishesGenerated words writes writes' answer
+  pub file_refused : TellsFile words told answer
+  pub file_done : FinishesOnFile words told writes writes' answer

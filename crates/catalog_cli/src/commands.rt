@@ -5,10 +5,9 @@ ghost use Rattle.std.specs.String.{string_bytes};
 ghost use Rattle.cat_command.specs.Commands.{IsCommand};
 ghost use Rattle.cat_command.specs.declared.command.Command.{Command};
 ghost use Rattle.cat_text.specs.Outside.{ConsumesAtMost};
-ghost use Rattle.catalog_cli.specs.Headline.{FinishesAccepted, FinishesGenerated, FinishesOnFile, HasNoReport};
-ghost use Rattle.catalog_cli.specs.Headline.{HasNoText, IsAfterReading, IsCauseOf, IsOfWords, LeavesFiles, LeavesShelf};
-ghost use Rattle.catalog_cli.specs.Headline.{LeavesSink, PlaysSome, Prints, ReadsSome, TellsFile};
-ghost use Rattle.catalog_cli.specs.Headline.{TellsRefusal, TellsRunRefusal, WritesNothing, seen};
+ghost use Rattle.catalog_cli.specs.Headline.{HasNoReport, HasNoText, IsAfterReading, IsCauseOf, IsOfWords, IsRunOf};
+ghost use Rattle.catalog_cli.specs.Headline.{LeavesFiles, LeavesShelf, LeavesSink, PlaysSome, Prints, ReadsSome};
+ghost use Rattle.catalog_cli.specs.Headline.{WritesNothing, seen};
 ghost use Rattle.catalog_cli.specs.Refused.{IsOfNoCommand};
 ghost use Rattle.catalog_cli.specs.Reports.{IsReportOf, empty_opening};
 ghost use Rattle.catalog_cli.specs.Runs.{AreBytesLeft};
@@ -61,41 +60,15 @@ pub fn catalog<R: Threads + Wait + Sync, S: Source, K: Sink, H: Shelf, G: Gate>(
     // What was written: the text of a report of the grammar, that of the script, each of whose rounds is legal, and in
     // rounds that a crash ends calls are answered in time; for a run on a file the very rounds that the file has now; or
     // the summary of a legal round of the generated calls; or the line of a fresh image; or the words of a file; or a
-    // beginning of one of these; or nothing.
-    ensures sink { LeavesSink (map string_bytes words.now)
+    // beginning of one of these; or nothing. What the shelf has then: a new file of a fresh image, a file with the image
+    // that a run on it left, or what it had; no other file ever changes. Each status has its cause, and comes where that
+    // is given, unless memory runs out.
+    ensures run { IsRunOf (map string_bytes words.now)
         (seen (S.left script.old) (H.files shelf.old) (H.files shelf.new) (S.faults script.old) (S.faults script.new)
-        (H.faults shelf.old) (H.faults shelf.new)) result (K.written out.old) (K.written out.new) }
+        (H.faults shelf.old) (H.faults shelf.new)) (K.written out.old) (K.written out.new) (K.faults out.old)
+        (K.faults out.new) result }
     ensures nothing_written { WritesNothing result → out.new ≡ out.old }
-
-    // What the shelf has then: a new file of a fresh image, a file with the image that a run on it left, or what it had.
-    // No other file ever changes.
-    ensures files { LeavesShelf (map string_bytes words.now)
-        (seen (S.left script.old) (H.files shelf.old) (H.files shelf.new) (S.faults script.old) (S.faults script.new)
-        (H.faults shelf.old) (H.faults shelf.new)) result }
     ensures no_file { PlaysSome (map string_bytes words.now) → shelf.new ≡ shelf.old }
-
-    // Each status has its cause, and comes where that is given, unless memory runs out.
-    ensures cause { IsCauseOf (map string_bytes words.now)
-        (seen (S.left script.old) (H.files shelf.old) (H.files shelf.new) (S.faults script.old) (S.faults script.new)
-        (H.faults shelf.old) (H.faults shelf.new)) (K.faults out.old) (K.faults out.new) result }
-    ensures usage { result ≡ Status.Usage ↔
-        ((command : Command) → ¬ IsCommand (map string_bytes words.now) command) }
-    ensures refused { TellsRefusal (map string_bytes words.now)
-        (seen (S.left script.old) (H.files shelf.old) (H.files shelf.new) (S.faults script.old) (S.faults script.new)
-        (H.faults shelf.old) (H.faults shelf.new)) result }
-    ensures accepted { FinishesAccepted (map string_bytes words.now)
-        (seen (S.left script.old) (H.files shelf.old) (H.files shelf.new) (S.faults script.old) (S.faults script.new)
-        (H.faults shelf.old) (H.faults shelf.new)) (K.faults out.old) (K.faults out.new) result }
-    ensures run_refused { TellsRunRefusal (map string_bytes words.now)
-        (seen (S.left script.old) (H.files shelf.old) (H.files shelf.new) (S.faults script.old) (S.faults script.new)
-        (H.faults shelf.old) (H.faults shelf.new)) result }
-    ensures generated { FinishesGenerated (map string_bytes words.now) (K.faults out.old) (K.faults out.new) result }
-    ensures file_refused { TellsFile (map string_bytes words.now)
-        (seen (S.left script.old) (H.files shelf.old) (H.files shelf.new) (S.faults script.old) (S.faults script.new)
-        (H.faults shelf.old) (H.faults shelf.new)) result }
-    ensures file_done { FinishesOnFile (map string_bytes words.now)
-        (seen (S.left script.old) (H.files shelf.old) (H.files shelf.new) (S.faults script.old) (S.faults script.new)
-        (H.faults shelf.old) (H.faults shelf.new)) (K.faults out.old) (K.faults out.new) result }
 
     // What was read: all of a script, and never more than tells that it is too long; nothing for words alone and for
     // other commands.
