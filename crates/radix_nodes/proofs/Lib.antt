@@ -10,5 +10,8 @@ mod Adding
 mod Others
 mod Growing
 mod Pairing
-mod FillEnds
+pub mod GrownCells
+pub mod PairCells
+pub mod CellFits
+pub mod FillEnds
 mod FillLaw

@@ -7,3 +7,4 @@ pub mod Places
 pub mod Stores
 pub mod Fills
 pub mod FillLaws
+pub mod Making

@@ -48,13 +48,6 @@ abbrev pub taken_in : Cell → ℕ → ℕ → Cell
 taken_in cell place entry =
     if entry == 0 then cell else placed cell place (entry / 2 ^ 32 % 256) (entry % 2 ^ 32)
 
--- a cell of this kind with the depth and the prefix of another, and no more
-pub record IsBare (cell : Cell) (kind : ℕ) (bare : Cell) : Type 0 where
-  pub kind_is : bare.kind ≡ kind
-  pub whole : length bare.words ≡ 264
-  pub head : (o : ℕ) → o < 4 → words_of bare o ≡ words_of cell o
-  pub behind : (o : ℕ) → 4 ≤ o → words_of bare o ≡ 0
-
 -- a depth, a prefix, and no more
 pub record IsHeaded (depth : ℕ) (prefix words : ℕ → ℕ) : Type 0 where
   pub depth_is : words 0 ≡ depth

@@ -101,7 +101,7 @@ pub fn byte_in(word: u64, at: u64) -> u64
 }
 
 /// The word with another byte at this place.
-pub(crate) fn byte_set(word: u64, at: u64, byte: u64) -> u64
+pub fn byte_set(word: u64, at: u64, byte: u64) -> u64
     requires at { at < 8 }
     requires byte { byte < 256 }
     ensures { result ≡ byte_set word at byte }

@@ -1,7 +1,8 @@
 //! Keys: the words of a name, and of the key of all zeros.
 
-ghost use Rattle.std.specs.Prelude.{◌≡◌, ◌<◌, slice_index};
+ghost use Rattle.std.specs.Prelude.{◌≡◌, ℕ, ◌<◌, slice_index};
 ghost use Rattle.radix_nodes.specs.Keys.{key_bytes, key_byte_of, first_bytes_of, IsPrefixOf, IsShared};
+ghost use Rattle.radix_nodes.specs.Making.{prefix_word};
 
 use cat_key::WORDS;
 
@@ -22,7 +23,8 @@ pub fn key_byte(key: &Key, at: u64) -> u8
 
 /// The first so many bytes of a key, with zeros behind them: the prefix of a cell with this depth.
 pub fn prefix_of(key: &Key, depth: u64) -> Key
-    ensures { IsPrefixOf depth (slice_index key.now) (slice_index result) }
+    ensures prefix { IsPrefixOf depth (slice_index key.now) (slice_index result) }
+    ensures words { (k : ℕ) → k < 3 → slice_index result k ≡ prefix_word depth (slice_index key.now) k }
 {
     let mut prefix = *key;
     for at in 0..WORDS {

@@ -1,5 +1,7 @@
 //! Laws on the words of cells, for the proofs of crates above. The functions do nothing: each names what is proved.
 
+ghost use Rattle.radix_nodes.specs.Making.{GrownIsGrown, LargerIsLarger, PairIsPair, PairsAlike, MadeKinds};
+ghost use Rattle.radix_nodes.specs.Making.{LargerFits, PairFits, PrefixFits};
 ghost use Rattle.radix_nodes.specs.Stores.{EntryAdds, EntryMoves, EntryGoes, PlaceFills, IndexAdds, IndexMoves};
 ghost use Rattle.radix_nodes.specs.Stores.{IndexGoes, DirectStores, CrashShowsEither, ChildrenAreBytes};
 ghost use Rattle.radix_nodes.specs.FillLaws.{FillsBegin, FillsStay, LeavesAreFilled, CellsAreFilled};
@@ -22,6 +24,19 @@ pub fn index_law()
 /// Form 256: one store changes the child under one byte.
 pub fn direct_law()
     ensures { DirectStores }
+{}
+
+/// The next form of a cell, with a child more, and a cell for two children, by the words that they are made of: in order
+/// where the cell is, and words of 64 bits where those are. A pair has three words of its prefix.
+pub fn making_law()
+    ensures grown { GrownIsGrown }
+    ensures larger { LargerIsLarger }
+    ensures pair { PairIsPair }
+    ensures pairs { PairsAlike }
+    ensures kinds { MadeKinds }
+    ensures larger_fits { LargerFits }
+    ensures pair_fits { PairFits }
+    ensures prefix_fits { PrefixFits }
 {}
 
 /// The children of a cell in order are under bytes, and a crash at a store shows those before it or those after it.

@@ -28,11 +28,11 @@ pub mod laws;
 mod lookup;
 mod making;
 
-pub use cell::{Branch, CELL_WORDS, Cell, CellStore, byte_in};
+pub use cell::{Branch, CELL_WORDS, Cell, CellStore, byte_in, byte_set};
 pub use changes::{Added, Removed, add, remove};
 pub use fill_cell::FillCell;
 pub use fill_leaf::FillLeaf;
 pub use filling::Filling;
 pub use key::{KEY_BYTES, Key, key_byte, prefix_of, shared_bytes};
 pub use lookup::{below, child};
-pub use making::{grown, paired};
+pub use making::{grown, larger, paired};

@@ -2,9 +2,11 @@
 
 ghost use Rattle.std.specs.Prelude.{◌≡◌, ◌≢◌, ℕ, ◌+◌, ◌<◌, ◌≤◌, replicate, slice_index};
 ghost use Rattle.radix_nodes.specs.Keys.{key_bytes};
-ghost use Rattle.radix_nodes.specs.Cells.{IsReference, IsCell};
-ghost use Rattle.radix_nodes.specs.Places.{IsBare, IsHeaded, taken_in};
+ghost use Rattle.radix_nodes.specs.Cells.{IsReference, IsCell, children_of};
+ghost use Rattle.radix_nodes.specs.Places.{taken_in};
 ghost use Rattle.radix_nodes.specs.Changes.{IsGrown, IsPair};
+ghost use Rattle.radix_nodes.specs.Making.{copied, bare_of, in_16, in_48, whole_in_256, grown_of, larger_of, IsLarger};
+ghost use Rattle.radix_nodes.specs.Making.{headed_words, pair_of};
 
 use crate::cell::{
     Branch, CELL_WORDS, Cell, ENTRY, FIRST, FIRST_OF_4, FORM_4, FORM_16, PLACES, byte_set,
@@ -16,7 +18,8 @@ use cat_key::WORDS;
 /// The cell of the next form with the same depth, prefix and children.
 pub fn grown(cell: &Cell) -> Cell
     requires { (2 ≤ cell.now.kind) × (cell.now.kind ≤ 4) }
-    ensures { IsCell cell.now → IsGrown cell.now result }
+    ensures is { result ≡ grown_of cell.now }
+    ensures grown { IsCell cell.now → IsGrown cell.now result }
 {
     match cell.kind {
         FORM_4 => grown_to_16(cell),
@@ -25,9 +28,26 @@ pub fn grown(cell: &Cell) -> Cell
     }
 }
 
+/// The cell of the next form with the same depth and prefix, with this child and the same ones else.
+pub fn larger(cell: &Cell, byte: u8, reference: u64) -> Cell
+    requires kind { (2 ≤ cell.now.kind) × (cell.now.kind ≤ 4) }
+    requires reference { IsReference reference }
+    ensures is { result ≡ larger_of cell.now byte reference }
+    ensures larger { IsCell cell.now → children_of cell.now byte ≡ 0 → IsLarger cell.now byte reference result }
+{
+    let at = byte as u64;
+    let mut larger = grown(cell);
+    match cell.kind {
+        FORM_4 => larger.set(FIRST + 4, at * ENTRY + reference),
+        FORM_16 => take_in(&mut larger, 16, at * ENTRY + reference),
+        _ => larger.set(FIRST + at, reference),
+    }
+    larger
+}
+
 /// A cell without children, with the depth and the prefix of this one.
 fn bare(cell: &Cell, kind: u64) -> Cell
-    ensures { IsBare cell.now kind result }
+    ensures { result ≡ bare_of cell.now kind }
 {
     let mut words = no_words();
     for at in 0..WORDS + 1 {
@@ -38,8 +58,7 @@ fn bare(cell: &Cell, kind: u64) -> Cell
 
 /// The entries come into the first ones of form 16.
 fn grown_to_16(cell: &Cell) -> Cell
-    requires { cell.now.kind ≡ 2 }
-    ensures { IsCell cell.now → IsGrown cell.now result }
+    ensures { result ≡ in_16 cell.now 4 }
 {
     let mut grown = bare(cell, 3);
     for entry in 0..4 {
@@ -50,8 +69,7 @@ fn grown_to_16(cell: &Cell) -> Cell
 
 /// Each entry's reference comes into the place of the entry's number.
 fn grown_to_48(cell: &Cell) -> Cell
-    requires { cell.now.kind ≡ 3 }
-    ensures { IsCell cell.now → IsGrown cell.now result }
+    ensures { result ≡ in_48 cell.now 16 }
 {
     let mut grown = bare(cell, 4);
     for entry in 0..16 {
@@ -77,8 +95,7 @@ fn take_in(cell: &mut Cell, place: u64, entry: u64)
 
 /// Each reference comes to its byte.
 fn grown_to_256(cell: &Cell) -> Cell
-    requires { cell.now.kind ≡ 4 }
-    ensures { IsCell cell.now → IsGrown cell.now result }
+    ensures { result ≡ whole_in_256 cell.now }
 {
     let mut grown = bare(cell, 5);
     for byte in 0..256 {
@@ -93,7 +110,8 @@ pub fn paired(depth: u64, prefix: Key, one: Branch, two: Branch) -> Cell
     requires apart { one.byte ≢ two.byte }
     requires one { IsReference one.reference }
     requires two { IsReference two.reference }
-    ensures { IsPair depth (slice_index prefix) one two result }
+    ensures is { result ≡ pair_of depth (slice_index prefix) one two }
+    ensures pair { IsPair depth (slice_index prefix) one two result }
 {
     let mut words = headed(depth, prefix);
     words[FIRST_OF_4 as usize] = one.entry();
@@ -106,7 +124,7 @@ pub fn paired(depth: u64, prefix: Key, one: Branch, two: Branch) -> Cell
 
 /// A depth and a prefix, and zeros behind them.
 fn headed(depth: u64, prefix: Key) -> [u64; CELL_WORDS]
-    ensures { IsHeaded depth (slice_index prefix) (slice_index result) }
+    ensures { result ≡ headed_words depth (slice_index prefix) 3 }
 {
     let mut words = no_words();
     words[0] = depth;

@@ -12,6 +12,7 @@ use Rattle.radix_nodes.proofs.EntryForms.{entry_adds}
 use Rattle.tree_law.specs.Words.{LayerWords, kind_of, cell_in}
 use Rattle.tree_floor.specs.Scans.{first_entry, entry_count}
 use Rattle.tree_floor.proofs.ScanExact.{entry_form, index_in}
+use Rattle.tree_look.proofs.FindLaw.{entry_words}
 use Rattle.tree_change.specs.declared.room.Places.{Places}
 use Rattle.tree_change.specs.declared.room.Places.TheVariants as places
 use Rattle.tree_change.specs.declared.room.Room.{Room}
@@ -24,9 +25,9 @@ use Rattle.tree_change.proofs.Telling.{GoesOn, answers_right, made, answers_as}
 
 pub rooms_end : RoomsEnd
 rooms_end kind (places.Entry entry) got is =
-    elim (got == 0) as (λ a. PlacesAfter kind (entry_count kind - entry) (cond a (Done (Entry (first_entry kind + entry))) (cond (ltb (entry + 1) (entry_count kind)) (Go (places.Entry (entry + 1))) (Done Full)))) [
-      | true ↦ tt
-      | false ↦ elim (ltb (entry + 1) (entry_count kind)) as (λ a. ltb (entry + 1) (entry_count kind) ≡ a → PlacesAfter kind (entry_count kind - entry) (cond a (Go (places.Entry (entry + 1))) (Done Full))) [
+    elim (got == 0) as (λ a. PlacesAfter kind got (entry_count kind - entry) (cond a (Done (Entry (first_entry kind + entry))) (cond (ltb (entry + 1) (entry_count kind)) (Go (places.Entry (entry + 1))) (Done Full)))) [
+      | true ↦ entry_words kind entry is
+      | false ↦ elim (ltb (entry + 1) (entry_count kind)) as (λ a. ltb (entry + 1) (entry_count kind) ≡ a → PlacesAfter kind got (entry_count kind - entry) (cond a (Go (places.Entry (entry + 1))) (Done Full))) [
         | true ↦ λ e. let less = ltb-true _ _ e in ((is.0, less), omega arith)
         | false ↦ λ e. tt
       ] refl
@@ -34,29 +35,29 @@ rooms_end kind (places.Entry entry) got is =
 rooms_end kind (places.Index place word) got is =
     let p : place < 48 = is.1 in
     let w : word < 32 = is.2 in
-    elim (has_byte got (place + 1) 8) as (λ a. PlacesAfter kind (32 * (48 - place) + 1 - word) (cond a (cond (ltb (place + 1) 48) (Go (places.Index (place + 1) 0)) (Done Full)) (cond (ltb (word + 1) 32) (Go (places.Index place (word + 1))) (Go (places.Own place))))) [
-      | true ↦ elim (ltb (place + 1) 48) as (λ a. ltb (place + 1) 48 ≡ a → PlacesAfter kind (32 * (48 - place) + 1 - word) (cond a (Go (places.Index (place + 1) 0)) (Done Full))) [
+    elim (has_byte got (place + 1) 8) as (λ a. PlacesAfter kind got (32 * (48 - place) + 1 - word) (cond a (cond (ltb (place + 1) 48) (Go (places.Index (place + 1) 0)) (Done Full)) (cond (ltb (word + 1) 32) (Go (places.Index place (word + 1))) (Go (places.Own place))))) [
+      | true ↦ elim (ltb (place + 1) 48) as (λ a. ltb (place + 1) 48 ≡ a → PlacesAfter kind got (32 * (48 - place) + 1 - word) (cond a (Go (places.Index (place + 1) 0)) (Done Full))) [
         | true ↦ λ e. let less = ltb-true _ _ e in ((is.0, less, (let z : 0 < 32 = omega arith in z)), omega arith)
         | false ↦ λ e. tt
       ] refl
-      | false ↦ elim (ltb (word + 1) 32) as (λ a. ltb (word + 1) 32 ≡ a → PlacesAfter kind (32 * (48 - place) + 1 - word) (cond a (Go (places.Index place (word + 1))) (Go (places.Own place)))) [
+      | false ↦ elim (ltb (word + 1) 32) as (λ a. ltb (word + 1) 32 ≡ a → PlacesAfter kind got (32 * (48 - place) + 1 - word) (cond a (Go (places.Index place (word + 1))) (Go (places.Own place)))) [
         | true ↦ λ e. let less = ltb-true _ _ e in ((is.0, is.1, less), omega arith)
         | false ↦ λ e. ((is.0, is.1), omega arith)
       ] refl
     ]
-rooms_end kind (places.Own place) got is = tt
+rooms_end kind (places.Own place) got is = (is.0, is.1, refl)
 
 pub find_room_stays : FindRoomStays
 find_room_stays find got takes = go (places_turned (kind_of find.cell) find.places got) (rooms_end (kind_of find.cell) find.places got takes.0.here)
   where
-    go : (turn : Turn Places Room) → PlacesAfter (kind_of find.cell) (find_room_left find) turn → FindRoomAfter find (find_room_goes find turn)
+    go : (turn : Turn Places Room) → PlacesAfter (kind_of find.cell) got (find_room_left find) turn → FindRoomAfter find got (find_room_goes find turn)
     go (Go next) after = (record { layout = takes.0.layout; cell = takes.0.cell; byte = takes.0.byte; here = after.0 }, refl, refl, refl, after.1)
-    go (Done room) after = tt
+    go (Done room) after = after
 
 pub find_room_fewer : (find : FindRoom) (got : ℕ) → find_room_takes find got → GoesBelow {A = Room} find_room_left (find_room_left find) (find_room_turned find got)
 find_room_fewer find got takes = go (find_room_turned find got) (find_room_stays find got takes)
   where
-    go : (turn : Turn FindRoom Room) → FindRoomAfter find turn → GoesBelow {A = Room} find_room_left (find_room_left find) turn
+    go : (turn : Turn FindRoom Room) → FindRoomAfter find got turn → GoesBelow {A = Room} find_room_left (find_room_left find) turn
     go (Go next) after = after.4
     go (Done room) after = tt
 
@@ -108,14 +109,14 @@ module _ (kind byte : ℕ) (c : CellWords) (small : byte < 256) (form : IsForm k
       ] refl
   told (places.Own place) is knows = (is.0, record { within = is.1; free = knows }, refl)
 
-  goes : (bound : ℕ) (turn : Turn Places Room) → PlacesAfter kind bound turn → After turn → GoesOn (places_turn kind byte c) (λ s. IsPlaces kind s × Knows s) (places_left kind) (IsRoom kind c byte) bound turn
-  goes bound (Go next) fewer known = ((fewer.0, known), fewer.1)
-  goes bound (Done room) fewer known = known
+  goes : (bound got : ℕ) (turn : Turn Places Room) → PlacesAfter kind got bound turn → After turn → GoesOn (places_turn kind byte c) (λ s. IsPlaces kind s × Knows s) (places_left kind) (IsRoom kind c byte) bound turn
+  goes bound got (Go next) fewer known = ((fewer.0, known), fewer.1)
+  goes bound got (Done room) fewer known = known
 
   rooms : (times : ℕ) (s : Places) → IsPlaces kind s → Knows s → places_left kind s < times → IsSomeAnd (answer_in times (places_turn kind byte c) s) (IsRoom kind c byte)
   rooms times s is knows less =
       answers_right (places_turn kind byte c) (λ p. IsPlaces kind p × Knows p) (places_left kind) (IsRoom kind c byte)
-      (λ p known. goes (places_left kind p) (places_turn kind byte c p) (rooms_end kind p (c (places_offset kind byte p)) known.0) (told p known.0 known.1)) times s (is, knows) less
+      (λ p known. goes (places_left kind p) (c (places_offset kind byte p)) (places_turn kind byte c p) (rooms_end kind p (c (places_offset kind byte p)) known.0) (told p known.0 known.1)) times s (is, knows) less
 
 abbrev Exact : ℕ → ℕ → CellWords → ℕ → Type 0
 Exact kind byte c times = IsForm kind c → children kind c byte ≡ 0 → IsSomeAnd (answer_in times (places_turn kind byte c) (places_start kind)) (IsRoom kind c byte)

@@ -40,7 +40,7 @@ module _ (take : Take) (is : IsTake take) where
     | true ↦ moves (at.Mark number) (all - number + 1) within (omega arith)
     | false ↦ seeks_after number within
   ]
-  after_turn (at.Mark number) got within = tt
+  after_turn (at.Mark number) got within = within
 
 pub take_stays : TakeStays
 take_stays take got takes = after_turn take takes.0 take.at got takes.0.here

@@ -1,12 +1,11 @@
 -- What a filled leaf, a filled pair and a larger cell say of the tree.
-use Rattle.std.specs.Prelude.{◌≡◌, ℕ, ◌+◌, ◌^◌, ◌<◌, List, slice_index, Option, Some, None}
+use Rattle.std.specs.Prelude.{◌≡◌, ℕ, ◌+◌, ◌^◌, ◌<◌, List, slice_index}
 use Rattle.pm_words.specs.Locations.{kind_words}
 use Rattle.radix_nodes.specs.declared.cell.Cell as cells
-use Rattle.radix_nodes.specs.declared.cell.CellStore.{CellStore}
-use Rattle.radix_nodes.specs.declared.changes.Added.{Added}
 use Rattle.radix_nodes.specs.Keys.{KeyWords, IsPrefixOf, EndsAt}
 use Rattle.radix_nodes.specs.Cells.{IsCell, words_of}
-use Rattle.radix_nodes.specs.Changes.{IsPair, IsGrown, Adds, stored}
+use Rattle.radix_nodes.specs.Changes.{IsPair}
+use Rattle.radix_nodes.specs.Making.{IsLarger}
 use Rattle.radix_nodes.specs.Fills.{leaf_value}
 use Rattle.tree_law.specs.Trees.{byte_at, low}
 use Rattle.tree_law.specs.Words.{LayerWords, kind_of, number_of, reference_of, cell_in, tree_of}
@@ -32,21 +31,12 @@ PairIsFilled = (count nodes : ℕ) (w : LayerWords) (key : List ℕ) (prefix : K
     ((o : ℕ) → o < 8 → cell_in w x o ≡ words_of pair o) →
     IsFilledPairOf count nodes w reference (number_in key) depth x leaf
 
--- the cell once the stores of an add are made
-abbrev pub first_made : cells.Cell → Option CellStore → cells.Cell
-first_made cell None = cell
-first_made cell (Some first) = stored cell first
-
-abbrev pub added_to : cells.Cell → Added → cells.Cell
-added_to cell added = stored (first_made cell added.first) added.switch
-
 -- these words stand in it, as far as a cell of its kind goes
 abbrev pub StandsIn : LayerWords → ℕ → cells.Cell → Type 0
 StandsIn w x cell = (kind_of x ≡ cell.kind) × ((o : ℕ) → o < kind_words cell.kind → cell_in w x o ≡ words_of cell o)
 
--- A cell in which what another cell was grown to stands, with the leaf added to it, is filled for the two.
+-- A cell in which the larger one of another cell with the leaf stands is filled for the two.
 abbrev pub LargerIsFilled : Type 0
-LargerIsFilled = (count nodes : ℕ) (w : LayerWords) (cell grown : cells.Cell) (added : Added) (x larger b leaf : ℕ) →
-    IsCell cell → StandsIn w x cell → IsGrown cell grown → Adds grown b (2 ^ 16 + leaf) added →
-    StandsIn w larger (added_to grown added) → number_of larger < count → leaf < 2 ^ 16 →
-    IsFilledLarger count nodes w x larger b leaf
+LargerIsFilled = (count nodes : ℕ) (w : LayerWords) (cell made : cells.Cell) (x larger b leaf : ℕ) → IsCell cell →
+    StandsIn w x cell → IsLarger cell b (2 ^ 16 + leaf) made → StandsIn w larger made → number_of larger < count →
+    leaf < 2 ^ 16 → IsFilledLarger count nodes w x larger b leaf

@@ -14,7 +14,7 @@ use Rattle.tree_change.specs.declared.room.Places.{Places}
 use Rattle.tree_change.specs.declared.room.Room.{Room}
 use Rattle.tree_change.specs.declared.find_room.FindRoom.{FindRoom}
 use Rattle.tree_change.specs.Rooms.{places_start, places_offset, places_turned, places_left, places_most, IsPlaces}
-use Rattle.tree_change.specs.Rooms.{IsRoom}
+use Rattle.tree_change.specs.Rooms.{IsRoomIn, IsRoom}
 use Rattle.tree_change.specs.Telling.{answer_in}
 
 abbrev pub find_room_starts : Layout → ℕ → ℕ → FindRoom
@@ -48,15 +48,15 @@ abbrev pub find_room_left : FindRoom → ℕ
 find_room_left find = places_left (kind_of find.cell) find.places
 
 -- It stays one of its cell and byte, and reads less and less, whatever it is told.
-abbrev pub FindRoomAfter : FindRoom → Turn FindRoom Room → Type 0
-FindRoomAfter find (Go next) =
+abbrev pub FindRoomAfter : FindRoom → ℕ → Turn FindRoom Room → Type 0
+FindRoomAfter find got (Go next) =
     IsFindRoom next × (next.layout ≡ find.layout) × (next.cell ≡ find.cell) × (next.byte ≡ find.byte) ×
     (find_room_left next < find_room_left find)
-FindRoomAfter find (Done room) = Unit {0}
+FindRoomAfter find got (Done room) = IsRoomIn (kind_of find.cell) got room
 
 abbrev pub FindRoomStays : Type 0
 FindRoomStays = (find : FindRoom) (got : ℕ) → find_room_takes find got →
-    FindRoomAfter find (find_room_turned find got)
+    FindRoomAfter find got (find_room_turned find got)
 
 -- its turn, told these words as it asks for them
 abbrev pub find_room_turn : LayerWords → FindRoom → Turn FindRoom Room

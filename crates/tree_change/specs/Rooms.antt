@@ -3,6 +3,7 @@ use Rattle.std.specs.Prelude.{◌≡◌, ◌≢◌, ℕ, zero, suc, ◌+◌, ◌
 use Rattle.std.specs.Prelude.{if◌then◌else◌, Bool, true, false, Some, IsSomeAnd}
 use Rattle.pm_words.specs.declared.machine.Turn.{Turn}
 use Rattle.pm_words.specs.declared.machine.Turn.TheVariants.{Go, Done}
+use Rattle.pm_words.specs.Locations.{kind_words}
 use Rattle.radix_nodes.specs.Bytes.{byte_in, byte_set}
 use Rattle.radix_nodes.specs.Cells.{CellWords, entry_of, children, IsForm}
 use Rattle.radix_nodes.specs.Changes.{with_word, IsCellStore}
@@ -72,14 +73,20 @@ places_left kind (places.Own place) = 1
 abbrev pub places_most : ℕ
 places_most = 32 * 48 + 1
 
+-- what it finds is a word of the cell, or a place with the word that it was told last
+abbrev pub IsRoomIn : ℕ → ℕ → Room → Type 0
+IsRoomIn kind got (Entry offset) = offset < kind_words kind
+IsRoomIn kind got (Place place index) = (kind ≡ 4) × (place < 48) × (index ≡ got)
+IsRoomIn kind got Full = Unit {0}
+
 -- It stays one, and reads less and less, whatever it is told.
-abbrev pub PlacesAfter : ℕ → ℕ → Turn Places Room → Type 0
-PlacesAfter kind left (Go next) = IsPlaces kind next × (places_left kind next < left)
-PlacesAfter kind left (Done room) = Unit {0}
+abbrev pub PlacesAfter : ℕ → ℕ → ℕ → Turn Places Room → Type 0
+PlacesAfter kind got left (Go next) = IsPlaces kind next × (places_left kind next < left)
+PlacesAfter kind got left (Done room) = IsRoomIn kind got room
 
 abbrev pub RoomsEnd : Type 0
 RoomsEnd = (kind : ℕ) (scan : Places) (got : ℕ) → IsPlaces kind scan →
-    PlacesAfter kind (places_left kind scan) (places_turned kind scan got)
+    PlacesAfter kind got (places_left kind scan) (places_turned kind scan got)
 
 -- What it finds: an entry into which any reference may come; or a place that no byte has, and the byte's index word.
 abbrev pub IsRoom : ℕ → CellWords → ℕ → Room → Type 0

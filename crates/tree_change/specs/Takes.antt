@@ -72,11 +72,16 @@ take_left take = take_at_left take.layout take.at
 abbrev pub take_most : Layout → ℕ
 take_most l = leaf_count l + 1
 
+-- what it takes is in range
+abbrev pub IsTakenIn : Layout → Taken → Type 0
+IsTakenIn l (One number) = number < leaf_count l
+IsTakenIn l Absent = Unit {0}
+
 -- It stays one of its kind, and asks for less and less, whatever it is told.
 abbrev pub TakeAfter : Take → ℕ → Turn Take Taken → Type 0
 TakeAfter take left (Go next) =
     IsTake next × (next.layout ≡ take.layout) × (next.kind ≡ take.kind) × (take_left next < left)
-TakeAfter take left (Done taken) = Unit {0}
+TakeAfter take left (Done taken) = IsTakenIn take.layout taken
 
 abbrev pub TakeStays : Type 0
 TakeStays = (take : Take) (got : ℕ) → take_takes take got → TakeAfter take (take_left take) (take_turned take got)

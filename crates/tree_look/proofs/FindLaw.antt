@@ -1,6 +1,7 @@
 -- Looks into cells.
 use Rattle.std.proofs.Common.{◌≡◌, ◌≢◌, ℕ, zero, suc, ◌+◌, ◌-◌, ◌*◌, ◌/◌, ◌%◌, ◌^◌, ◌<◌, ◌≤◌, ◌==◌, ◌&&◌, ◌||◌, ◌⊎◌, not, true, false, cond, ltb, inl, inr, refl, sym, subst, ap, ap₂, ◌∙◌, arith, le-ltb}
 use Rattle.std.proofs.lemmas.Bool.{cases_eq, eqb-true, eqb-false, eq-eqb, ne_eqb, ltb-true, ltb-false, and_parts}
+use Rattle.pm_words.specs.Locations.{kind_words}
 use Rattle.radix_nodes.specs.Bytes.{byte_in}
 use Rattle.radix_nodes.specs.Cells.{CellWords, children, IsForm, entry_byte, index_of}
 use Rattle.radix_nodes.specs.Changes.{with_word, IsCellStore}
@@ -16,26 +17,46 @@ use Rattle.tree_look.specs.declared.find.Findings.TheVariants.{More, Found, Abse
 use Rattle.tree_look.specs.Finds.{find_starts, find_offset, find_told, has_place, IsFind, find_left}
 use Rattle.tree_look.specs.FindLaws.{FindAfter, FindsEnd, IsAt, IsFinding, on_or, finding, FindsAreExact}
 
+-- an entry is a word of its cell
+pub entry_words : (kind entry : ℕ) → ((kind ≡ 2) ⊎ (kind ≡ 3)) × (entry < entry_count kind) → first_entry kind + entry < kind_words kind
+entry_words kind entry is = elim is.0 [
+  | inl two ↦
+      let lt : entry < 4 = subst (λ k. entry < entry_count k) two is.1 in
+      subst (λ k. first_entry k + entry < kind_words k) (sym two) (let within : 4 + entry < 8 = omega arith in within)
+  | inr three ↦
+      let lt : entry < 16 = subst (λ k. entry < entry_count k) three is.1 in
+      subst (λ k. first_entry k + entry < kind_words k) (sym three) (let within : 8 + entry < 24 = omega arith in within)
+]
+
 pub finds_end : FindsEnd
 finds_end kind byte (find.Entry entry) got is =
-    elim (not (got == 0) && got / 2 ^ 32 == byte) as (λ a. FindAfter kind (entry_count kind - entry) (cond a (Found (first_entry kind + entry) (byte * 2 ^ 32) (got % 2 ^ 32)) (cond (ltb (entry + 1) (entry_count kind)) (More (find.Entry (entry + 1))) Absent))) [
-      | true ↦ tt
-      | false ↦ elim (ltb (entry + 1) (entry_count kind)) as (λ a. ltb (entry + 1) (entry_count kind) ≡ a → FindAfter kind (entry_count kind - entry) (cond a (More (find.Entry (entry + 1))) Absent)) [
+    elim (not (got == 0) && got / 2 ^ 32 == byte) as (λ a. FindAfter kind byte (entry_count kind - entry) (cond a (Found (first_entry kind + entry) (byte * 2 ^ 32) (got % 2 ^ 32)) (cond (ltb (entry + 1) (entry_count kind)) (More (find.Entry (entry + 1))) Absent))) [
+      | true ↦ λ small. (entry_words kind entry is, omega arith)
+      | false ↦ elim (ltb (entry + 1) (entry_count kind)) as (λ a. ltb (entry + 1) (entry_count kind) ≡ a → FindAfter kind byte (entry_count kind - entry) (cond a (More (find.Entry (entry + 1))) Absent)) [
         | true ↦ λ e. let less = ltb-true _ _ e in ((is.0, less), omega arith)
         | false ↦ λ e. tt
       ] refl
     ]
 finds_end kind byte find.Index got is =
     let place = byte_in got (byte % 8) in
-    elim (place == 0) as (λ a. (place == 0) ≡ a → FindAfter kind 2 (cond (a || ltb 48 place) Absent (More (find.Reference place)))) [
+    elim (place == 0) as (λ a. (place == 0) ≡ a → FindAfter kind byte 2 (cond (a || ltb 48 place) Absent (More (find.Reference place)))) [
       | true ↦ λ e. tt
-      | false ↦ λ e. elim (ltb 48 place) as (λ a. ltb 48 place ≡ a → FindAfter kind 2 (cond a Absent (More (find.Reference place)))) [
+      | false ↦ λ e. elim (ltb 48 place) as (λ a. ltb 48 place ≡ a → FindAfter kind byte 2 (cond a Absent (More (find.Reference place)))) [
         | true ↦ λ f. tt
         | false ↦ λ f. let some_place = eqb-false _ _ e in let most = ltb-false _ _ f in ((is, omega (arith, some_place), omega arith), (let less : 1 < 2 = omega arith in less))
       ] refl
     ] refl
-finds_end kind byte (find.Reference place) got is = tt
-finds_end kind byte find.Direct got is = elim (got == 0) as (λ a. FindAfter kind 1 (cond a Absent (Found (8 + byte) 0 got))) [ true ↦ tt | false ↦ tt ]
+finds_end kind byte (find.Reference place) got is = λ small. (
+  subst (λ k. 39 + place < kind_words k) (sym is.0) (let le = is.2 in let within : 39 + place < 88 = omega arith in within),
+  (let less : 0 < 2 ^ 40 = omega arith in less),
+)
+finds_end kind byte find.Direct got is = elim (got == 0) as (λ a. FindAfter kind byte 1 (cond a Absent (Found (8 + byte) 0 got))) [
+  | true ↦ tt
+  | false ↦ λ small. (
+    subst (λ k. 8 + byte < kind_words k) (sym is) (let within : 8 + byte < 264 = omega arith in within),
+    (let less : 0 < 2 ^ 40 = omega arith in less),
+  )
+]
 
 -- what it knows
 abbrev pub Knows : ℕ → ℕ → CellWords → Find → Type 0
@@ -138,7 +159,7 @@ starts kind byte c least most = elim (cases_eq kind 2) [
 ]
 
 module _ (kind byte : ℕ) (c : CellWords) (small : byte < 256) (form : IsForm kind c) where
-  on : (times left : ℕ) → ((f : Find) → IsFind kind f → Knows kind byte c f → find_left kind f < left → IsFinding kind c byte (finding times kind byte c f)) → (found : Findings) → FindAfter kind left found → After kind byte c found
+  on : (times left : ℕ) → ((f : Find) → IsFind kind f → Knows kind byte c f → find_left kind f < left → IsFinding kind c byte (finding times kind byte c f)) → (found : Findings) → FindAfter kind byte left found → After kind byte c found
       → IsFinding kind c byte (on_or found (finding times kind byte c))
   on times left inner (More f) fewer known = inner f fewer.0 known fewer.1
   on times left inner (Found offset high reference) fewer known = known

@@ -36,7 +36,7 @@ use Rattle.tree_look.specs.Finds.{find_starts, find_offset, find_told}
 use Rattle.tree_look.specs.FindLaws.{IsAt}
 use Rattle.tree_look.specs.Depths.{shared_of}
 use Rattle.tree_look.specs.Looks as looks
-use Rattle.tree_look.specs.Looks.{look_word, root_spot, look_starts, goes_to, lands, goes_down, has_found, look_at_turned, look_turned, IsLook, look_left, look_most}
+use Rattle.tree_look.specs.Looks.{look_word, root_spot, look_starts, goes_to, lands, goes_down, has_found, look_at_turned, look_turned, IsSpot, IsLook, look_left, look_most}
 use Rattle.tree_look.specs.LookLaws.{LookAfter, spot_word, IsHeld, IsOuter, at_root, in_cell, IsLooked, told_turn, answer_from, LookIsExact}
 use Rattle.tree_look.proofs.FindLaw.{Knows, After, told, starts}
 use Rattle.tree_look.proofs.DepthLaw.{keys_part, parts_before}
@@ -131,6 +131,7 @@ module _ (l : Layout) (ks : List ℕ) (w : LayerWords) (layout : IsLayout l) (is
       comes = begins;
       at = refl;
       some_reference = λ e. lawful_root (ap reference_of e);
+      stands = (refl, refl);
       word = (let same : w.root ≡ 0 + w.root = omega arith in same);
       store = λ w' other some_other fits' stored. words.at_root (subst (Stored w w' RootWord) (let same : 0 + other ≡ other = omega arith in same) stored) (reference_some other some_other);
       clears = λ x b wrong. absurd (cc);
@@ -211,6 +212,7 @@ module _ (l : Layout) (ks : List ℕ) (w : LayerWords) (layout : IsLayout l) (is
           comes = goes_on known.held.comes (known.held.at ∙ is) on;
           at = ap reference_of at'.child;
           some_reference = at'.some_child;
+          stands = (refl, some_cell, at');
           word = ap (word_in w) spot_is ∙ at'.word;
           store = λ w' other some_other fits' stored. set_in cell b offset (high + other) other w' (at'.store other some_other fits') (subst (λ p. Stored w w' p (high + other)) spot_is stored);
           clears = λ x c same plain w' stored.
@@ -290,4 +292,5 @@ module _ (l : Layout) (ks : List ℕ) (w : LayerWords) (layout : IsLayout l) (is
 pub look_is_exact : LookIsExact
 look_is_exact l key w times enough layout is_key fits lawful =
     let left : look_left (look_starts l key) < look_most = omega arith in
-    answers l key w layout is_key fits lawful times (look_starts l key) (record { layout = layout; key = is_key; here = refl }) refl refl (refl, refl) (omega arith)
+    let root_is : IsSpot l root_spot = record { place = λ some_cell. absurd (some_cell refl); high = (let less : 0 < 2 ^ 40 = omega arith in less) } in
+    answers l key w layout is_key fits lawful times (look_starts l key) (record { layout = layout; key = is_key; outer = root_is; inner = root_is; here = refl }) refl refl (refl, refl) (omega arith)

@@ -1,5 +1,6 @@
 -- What it finds.
 use Rattle.std.specs.Prelude.{◌≡◌, ◌≢◌, ℕ, zero, suc, ◌+◌, ◌^◌, ◌<◌, ◌≤◌}
+use Rattle.pm_words.specs.Locations.{kind_words}
 use Rattle.radix_nodes.specs.Cells.{CellWords, children, IsForm}
 use Rattle.radix_nodes.specs.Changes.{with_word, IsCellStore}
 use Rattle.tree_look.specs.declared.find.Find.{Find}
@@ -7,15 +8,16 @@ use Rattle.tree_look.specs.declared.find.Findings.{Findings}
 use Rattle.tree_look.specs.declared.find.Findings.TheVariants.{More, Found, Absent}
 use Rattle.tree_look.specs.Finds.{find_starts, find_offset, find_told, IsFind, find_left}
 
--- It stays one, and reads less and less, whatever it is told.
-abbrev pub FindAfter : ℕ → ℕ → Findings → Type 0
-FindAfter kind left (More find) = IsFind kind find × (find_left kind find < left)
-FindAfter kind left (Found offset high reference) = Unit {0}
-FindAfter kind left Absent = Unit {0}
+-- It stays one, and reads less and less, whatever it is told; what it finds is in a word of the cell, with a byte at most
+-- above the reference.
+abbrev pub FindAfter : ℕ → ℕ → ℕ → Findings → Type 0
+FindAfter kind byte left (More find) = IsFind kind find × (find_left kind find < left)
+FindAfter kind byte left (Found offset high reference) = byte < 256 → (offset < kind_words kind) × (high < 2 ^ 40)
+FindAfter kind byte left Absent = Unit {0}
 
 abbrev pub FindsEnd : Type 0
 FindsEnd = (kind byte : ℕ) (find : Find) (got : ℕ) → IsFind kind find →
-    FindAfter kind (find_left kind find) (find_told kind byte find got)
+    FindAfter kind byte (find_left kind find) (find_told kind byte find got)
 
 -- the word there has the child's reference; a store of another one behind what stands above it makes that the child,
 -- and where the cell has no index, a store of 0 takes the child out

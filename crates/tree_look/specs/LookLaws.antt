@@ -6,22 +6,33 @@ use Rattle.pm_words.specs.declared.machine.Turn.{Turn}
 use Rattle.pm_words.specs.declared.machine.Turn.TheVariants.{Go, Done}
 use Rattle.pm_words.specs.Layouts.{IsLayout}
 use Rattle.pm_words.specs.Locations.{leaf_count}
+use Rattle.radix_nodes.specs.Keys.{key_bytes}
+use Rattle.radix_nodes.specs.Cells.{IsReference}
 use Rattle.tree_law.specs.Trees.{Nothing, Leaf, Cell, depth_of, low, byte_at}
 use Rattle.tree_law.specs.Switches.{Place, Root, Entry, reference_at}
 use Rattle.tree_law.specs.Paths.{Comes, PartsAt}
 use Rattle.tree_law.specs.Words.{LayerWord, RootWord, CellWord, LayerWords, word_in, kind_of, number_of}
-use Rattle.tree_law.specs.Words.{reference_of, tree_of, IsLawful, Stored, IsSwitchStore}
+use Rattle.tree_law.specs.Words.{reference_of, cell_in, tree_of, IsLawful, Stored, IsSwitchStore}
 use Rattle.tree_floor.specs.Keys.{number_in, IsKey}
+use Rattle.tree_floor.specs.Floors.{IsCellOf}
 use Rattle.tree_look.specs.declared.look.Look.{Look}
 use Rattle.tree_look.specs.declared.look.Spot.{Spot}
 use Rattle.tree_look.specs.declared.look.Looked.{Looked}
 use Rattle.tree_look.specs.declared.look.Looked.TheVariants as looked
-use Rattle.tree_look.specs.Looks.{look_word, look_starts, look_turned, IsLook, look_takes, look_left, look_most}
+use Rattle.tree_look.specs.Looks.{look_word, look_starts, look_turned, IsSpot, IsLook, look_takes, look_left, look_most}
+use Rattle.tree_look.specs.FindLaws.{IsAt}
+
+-- what it answers is in range
+abbrev pub IsInRange : Layout → Looked → Type 0
+IsInRange l (looked.Key outer inner leaf) = IsSpot l outer × IsSpot l inner × (leaf < leaf_count l)
+IsInRange l (looked.Nothing spot cell depth) = IsSpot l spot × IsCellOf l cell × (depth < key_bytes)
+IsInRange l (looked.Parts spot reference depth byte) = IsSpot l spot × IsReference reference × (byte < 256)
+IsInRange l looked.Wrong = Unit {0}
 
 -- It stays one, and reads less and less, whatever it is told.
 abbrev pub LookAfter : Layout → List ℕ → ℕ → Turn Look Looked → Type 0
 LookAfter l key left (Go look) = IsLook look × (look.layout ≡ l) × (look.key ≡ key) × (look_left look < left)
-LookAfter l key left (Done answer) = Unit {0}
+LookAfter l key left (Done answer) = IsInRange l answer
 
 abbrev pub LookStays : Type 0
 LookStays = (look : Look) (got : ℕ) → look_takes look got →
@@ -32,12 +43,19 @@ abbrev pub spot_word : Spot → LayerWord
 spot_word spot =
     if spot.cell == 0 then RootWord else CellWord (kind_of spot.cell) (number_of spot.cell) spot.offset
 
+-- the spot is that of the place: the root's, or the word of the cell in which the reference stands
+abbrev pub StandsAt : LayerWords → Spot → ℕ → Place → Type 0
+StandsAt w spot reference Root = (spot.cell ≡ 0) × (spot.high ≡ 0)
+StandsAt w spot reference (Entry x b) =
+    (spot.cell ≡ x) × (x ≢ 0) × IsAt (kind_of x) (cell_in w x) b spot.offset spot.high reference
+
 -- The reference stands at this place of the key's way, in this spot. A store of another one there, behind what the word
 -- has above it, is a switch store at the place; and so is one of 0, where the place is of a cell without an index.
 pub record IsHeld (w : LayerWords) (key : ℕ) (spot : Spot) (reference : ℕ) (place : Place) : Type 0 where
   pub comes : Comes (tree_of w) key place
   pub at : reference_at (tree_of w) place ≡ reference_of reference
   pub some_reference : reference ≢ 0
+  pub stands : StandsAt w spot reference place
   pub word : word_in w (spot_word spot) ≡ spot.high + reference
   pub store : (w' : LayerWords) (other : ℕ) → other ≢ 0 → other < 2 ^ 32 →
       Stored w w' (spot_word spot) (spot.high + other) → IsSwitchStore w w' place other

@@ -1,5 +1,5 @@
 -- The way of a key to its end, word by word.
-use Rattle.std.specs.Prelude.{◌≡◌, ℕ, ◌+◌, ◌-◌, ◌*◌, ◌^◌, ◌<◌, ◌==◌, ◌&&◌, ◌||◌, not, nat_lt, nat_le}
+use Rattle.std.specs.Prelude.{◌≡◌, ◌≢◌, ℕ, ◌+◌, ◌-◌, ◌*◌, ◌^◌, ◌<◌, ◌==◌, ◌&&◌, ◌||◌, not, nat_lt, nat_le}
 use Rattle.std.specs.Prelude.{if◌then◌else◌, List, slice_set}
 use Rattle.pm_words.specs.declared.layout.Layout.{Layout}
 use Rattle.pm_words.specs.declared.action.Action.{Action}
@@ -7,7 +7,7 @@ use Rattle.pm_words.specs.declared.action.Action.TheVariants.{Load}
 use Rattle.pm_words.specs.declared.machine.Turn.{Turn}
 use Rattle.pm_words.specs.declared.machine.Turn.TheVariants.{Go, Done}
 use Rattle.pm_words.specs.Layouts.{IsLayout}
-use Rattle.pm_words.specs.Locations.{leaf_count}
+use Rattle.pm_words.specs.Locations.{leaf_count, kind_words}
 use Rattle.cat_key.specs.declared.TheConstants.{WORDS}
 use Rattle.radix_nodes.specs.Keys.{key_bytes}
 use Rattle.tree_law.specs.Trees.{span, first_bytes, byte_at, way_length}
@@ -125,9 +125,16 @@ IsLookAt l least (at.Prefix cell depth words word) =
     IsCellOf l cell × IsDeep least depth × IsKey words × (word < WORDS)
 IsLookAt l least (at.Finding cell depth find) = IsCellOf l cell × IsDeep least depth × IsFind (kind_of cell) find
 
+-- a spot is the root's, or a word of a cell that is in range, with a byte at most above the reference
+pub record IsSpot (l : Layout) (spot : Spot) : Type 0 where
+  pub place : spot.cell ≢ 0 → IsCellOf l spot.cell × (spot.offset < kind_words (kind_of spot.cell))
+  pub high : spot.high < 2 ^ 40
+
 pub record IsLook (look : Look) : Type 0 where
   pub layout : IsLayout look.layout
   pub key : IsKey look.key
+  pub outer : IsSpot look.layout look.outer
+  pub inner : IsSpot look.layout look.inner
   pub here : IsLookAt look.layout look.least look.at
 
 abbrev pub look_takes : Look → ℕ → Type 0

@@ -1,4 +1,4 @@
-use Rattle.std.proofs.Common.{◌-◌, ◌*◌, inl, inr, slice_index, slice_set, length-set, sym, ap, ◌∙◌, arith}
+use Rattle.std.proofs.Common.{◌≡◌, ℕ, ◌<◌, ◌-◌, ◌*◌, inl, inr, slice_index, slice_set, length-set, sym, ap, ◌∙◌, arith}
 use Rattle.std.proofs.lemmas.Bool.{cases_eq}
 use Rattle.std.proofs.lemmas.List.{get_or-set_same, get_or-set_other}
 use Rattle.radix_nodes.specs.Keys.{first_bytes_of}
@@ -25,4 +25,5 @@ loop-at-preserved c =
 pub returns : goal.returns
 returns c =
     let past = c.loop-at-test.false in
-    prefix_bytes c.args.depth (slice_index c.args.key.now) (slice_index c.loop-at.prefix) (λ k lt. c.loop-at.invariant.1 k (omega arith))
+    let each : (k : ℕ) → k < 3 → slice_index c.loop-at.prefix k ≡ first_bytes_of (slice_index c.args.key.now k) (c.args.depth - 8 * k) = λ k lt. c.loop-at.invariant.1 k (omega arith) in
+    record { prefix = prefix_bytes c.args.depth (slice_index c.args.key.now) (slice_index c.loop-at.prefix) each; words = each }

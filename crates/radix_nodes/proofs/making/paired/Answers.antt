@@ -1,12 +1,15 @@
-use Rattle.std.proofs.Common.{rules, ◌≡◌, length, slice_index, slice_set, ap₂, ◌∙◌}
-use Rattle.radix_nodes.specs.Changes.{with_word}
-use Rattle.radix_nodes.proofs.Pairing.{pair_is, pair_path}
+use Rattle.std.proofs.Common.{rules, ◌≡◌, ◌+◌, slice_index, slice_set, sym, subst, ap, ap₂, ◌∙◌}
+use Rattle.radix_nodes.specs.Changes.{IsPair}
+use Rattle.radix_nodes.specs.Making.{pair_of}
+use Rattle.radix_nodes.proofs.PairCells.{pair_words, pair_is_pair}
 use Rattle.radix_nodes.proofs.making.paired.Goals as goal
 
 pub returns : goal.returns
 returns c =
-    let words = c.headed-words.result in
-    let whole : length words ≡ 264 = search rules in
-    pair_is c.args.depth (slice_index c.args.prefix) c.args.one c.args.two (slice_index words) c.headed-words.ensures c.requires.apart (search rules) (search rules) c.requires.one c.requires.two
-    (slice_set (slice_set words 4 c.entry.result) 5 c.entry-2.result) c.requires.depth
-    (pair_path words c.entry.result c.entry-2.result whole ∙ ap₂ (λ a b. with_word (with_word (slice_index words) 4 a) 5 b) c.entry.ensures c.entry-2.ensures)
+    let depth = c.args.depth in
+    let prefix = slice_index c.args.prefix in
+    let made = pair_words depth prefix c.args.one c.args.two c.headed-words.result c.entry.result c.entry-2.result c.headed-words.ensures c.entry.ensures c.entry-2.ensures in
+    record {
+      is = made;
+      pair = subst (IsPair depth prefix c.args.one c.args.two) (sym made) (pair_is_pair depth prefix c.args.one c.args.two c.requires.depth (search rules) (search rules) c.requires.apart c.requires.one c.requires.two);
+    }

@@ -5,4 +5,4 @@ use Rattle.tree_floor.proofs.words.is_prefix.Goals as goal
 
 pub returns : goal.returns
 returns c = c.is_same.ensures
-    ∙ ap (λ n. n == number_in c.args.prefix) (prefix_is_of_number c.args.depth (slice_index c.args.key) (slice_index c.prefix_of.result) (search rules) (search rules) c.requires c.prefix_of.ensures)
+    ∙ ap (λ n. n == number_in c.args.prefix) (prefix_is_of_number c.args.depth (slice_index c.args.key) (slice_index c.prefix_of.result) (search rules) (search rules) c.requires c.prefix_of.ensures.prefix)
