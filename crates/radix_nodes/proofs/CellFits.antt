@@ -1,5 +1,5 @@
 -- The words of new cells have 64 bits.
-use Rattle.std.proofs.Common.{◌≡◌, ◌≢◌, ℕ, zero, suc, ◌+◌, ◌-◌, ◌*◌, ◌/◌, ◌%◌, ◌^◌, ◌<◌, ◌≤◌, ◌==◌, ◌&&◌, not, true, false, cond, ltb, leb, inl, inr, List, [], ◌∷◌, length, slice_index, slice_set, replicate, refl, sym, subst, ap, ◌∙◌, arith}
+use Rattle.std.proofs.Common.{◌≡◌, ℕ, zero, suc, ◌+◌, ◌-◌, ◌*◌, ◌/◌, ◌%◌, ◌^◌, ◌<◌, ◌≤◌, ◌==◌, ◌&&◌, not, true, false, cond, ltb, leb, inl, inr, List, [], ◌∷◌, length, slice_index, slice_set, replicate, refl, sym, subst, ap, ◌∙◌, arith}
 use Rattle.std.proofs.lemmas.Bool.{cases_eq, cases_lt}
 use Rattle.std.proofs.lemmas.List.{get_or-set_same, get_or-set_other}
 use Rattle.radix_nodes.specs.declared.cell.Branch.{Branch}
@@ -8,8 +8,8 @@ use Rattle.radix_nodes.specs.Bytes.{byte_set}
 use Rattle.radix_nodes.specs.Keys.{KeyWords}
 use Rattle.radix_nodes.specs.Cells.{CellWords, entry_byte, entry_reference, entry_of, seek, index_of, indexed, direct, children, words_of, children_of}
 use Rattle.radix_nodes.specs.Changes.{stored}
-use Rattle.radix_nodes.specs.Places.{place_store_of, index_store_of, placed, taken_in}
-use Rattle.radix_nodes.specs.Making.{Fits, copied, bare_of, in_16, in_48, in_256, whole_in_256, grown_of, larger_of, headed_words, pair_of, LargerFits, PairFits, PrefixFits, MadeKinds}
+use Rattle.radix_nodes.specs.Places.{place_store_of, placed, taken_in}
+use Rattle.radix_nodes.specs.Making.{Fits, copied, in_16, in_48, in_256, whole_in_256, grown_of, larger_of, headed_words, pair_of, LargerFits, PairFits, PrefixFits, MadeKinds}
 use Rattle.radix_nodes.proofs.Powers.{powers, set_fits}
 use Rattle.radix_nodes.proofs.Heads.{zeros}
 use Rattle.radix_nodes.proofs.GrownCells.{larger_kind}

@@ -1,16 +1,16 @@
 -- Cells of the next form, by their words.
-use Rattle.std.proofs.Common.{◌≡◌, ◌≢◌, ℕ, zero, suc, ◌+◌, ◌*◌, ◌/◌, ◌%◌, ◌^◌, ◌<◌, ◌≤◌, ◌==◌, true, false, cond, inl, inr, length, length-set, replicate, refl, sym, subst, ap, ◌∙◌, arith}
+use Rattle.std.proofs.Common.{◌≡◌, ◌≢◌, ℕ, zero, suc, ◌+◌, ◌/◌, ◌%◌, ◌^◌, ◌<◌, ◌≤◌, ◌==◌, true, false, cond, inl, inr, length, length-set, replicate, refl, sym, subst, ap, ◌∙◌, arith}
 use Rattle.std.proofs.lemmas.Bool.{cases_eq, eq-eqb, ne_eqb}
 use Rattle.radix_nodes.specs.declared.cell.Cell.{Cell}
 use Rattle.radix_nodes.specs.declared.cell.CellStore.{CellStore}
 use Rattle.radix_nodes.specs.Bytes.{byte_set}
 use Rattle.radix_nodes.specs.Cells.{CellWords, entry_of, index_of, IsReference, IsCell, words_of, children_of}
-use Rattle.radix_nodes.specs.Changes.{with_word, stored, SetsChild, IsGrown}
-use Rattle.radix_nodes.specs.Places.{IsFreePlace, place_store_of, index_store_of, placed, taken_in}
+use Rattle.radix_nodes.specs.Changes.{stored, SetsChild, IsGrown}
+use Rattle.radix_nodes.specs.Places.{place_store_of, index_store_of, placed, taken_in}
 use Rattle.radix_nodes.specs.Making.{copied, bare_of, in_16, in_48, in_256, whole_in_256, grown_of, larger_of, IsLarger, GrownIsGrown, LargerIsLarger}
 use Rattle.radix_nodes.proofs.EntryForms.{other_set}
 use Rattle.radix_nodes.proofs.Heads.{Copied, copied_start, copied_step}
-use Rattle.radix_nodes.proofs.CellWords.{stored_words, by_kind}
+use Rattle.radix_nodes.proofs.CellWords.{stored_words}
 use Rattle.radix_nodes.proofs.Storing.{adds_entry, adds_index, adds_direct}
 use Rattle.radix_nodes.proofs.Growing.{SixteenSo, sixteen_start, sixteen_turn, sixteen_end, FortyEightSo, forty_eight_start, forty_eight_turn, forty_eight_end, taken_keeps, DirectSo, direct_start, direct_turn, direct_end}
 

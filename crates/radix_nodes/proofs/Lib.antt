@@ -4,7 +4,7 @@ pub mod IndexForm
 mod CellWords
 mod Heads
 mod Lookups
-mod KeyBytes
+pub mod KeyBytes
 mod Storing
 mod Adding
 mod Others

@@ -1,10 +1,9 @@
 -- A cell of form 4 with two children, by its words.
-use Rattle.std.proofs.Common.{◌≡◌, ℕ, zero, suc, ◌+◌, ◌<◌, ◌≤◌, List, length, slice_index, slice_set, refl, sym, subst, ap, ap₂, ◌∙◌, arith}
+use Rattle.std.proofs.Common.{◌≡◌, ℕ, zero, suc, ◌+◌, ◌<◌, ◌≤◌, List, slice_index, slice_set, refl, subst, ap, ap₂, arith}
 use Rattle.radix_nodes.specs.declared.cell.Branch.{Branch}
 use Rattle.radix_nodes.specs.declared.cell.Cell.{Cell}
 use Rattle.radix_nodes.specs.Keys.{KeyWords}
 use Rattle.radix_nodes.specs.Cells.{entry_of}
-use Rattle.radix_nodes.specs.Changes.{IsPair}
 use Rattle.radix_nodes.specs.Making.{headed_words, pair_of, PairIsPair, PairsAlike}
 use Rattle.radix_nodes.proofs.Heads.{HeadedSo, headed_start, headed_step}
 use Rattle.radix_nodes.proofs.Pairing.{pair_is, pair_path}

@@ -26,8 +26,8 @@ pub fn direct_law()
     ensures { DirectStores }
 {}
 
-/// The next form of a cell, with a child more, and a cell for two children, by the words that they are made of: in order
-/// where the cell is, and words of 64 bits where those are. A pair has three words of its prefix.
+/// The next form of a cell, with a child more, and a cell for two children, by the words that they are made of: in
+/// order where the cell is, and words of 64 bits where those are. A pair has three words of its prefix.
 pub fn making_law()
     ensures grown { GrownIsGrown }
     ensures larger { LargerIsLarger }

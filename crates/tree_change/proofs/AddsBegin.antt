@@ -9,7 +9,8 @@ use Rattle.radix_nodes.proofs.IndexForm.{place_fills, index_adds}
 use Rattle.tree_law.specs.Trees.{Nothing, Cell, Tree, IsLeaf, byte_at}
 use Rattle.tree_law.specs.Switches.{Entry, IsSameAt}
 use Rattle.tree_law.specs.Paths.{Comes}
-use Rattle.tree_law.specs.Words.{RootWord, LeafWord, CellWord, LayerWords, kind_of, number_of, reference_of, cell_in, tree_of, room_of, Stored, in_cell}
+use Rattle.search_layer.specs.Layers.{Layer}
+use Rattle.tree_law.specs.Words.{Keeps, RootWord, LeafWord, CellWord, LayerWords, kind_of, number_of, reference_of, cell_in, tree_of, room_of, Stored, in_cell}
 use Rattle.tree_law.specs.Changes.{IsFilledLeaf}
 use Rattle.tree_law.proofs.StageLaw.{quiet_keeps}
 use Rattle.tree_law.proofs.PathLaw.{comes_place}
@@ -19,7 +20,11 @@ use Rattle.tree_floor.proofs.FloorExact.{reference_some}
 use Rattle.tree_look.proofs.LookExact.{cells_same}
 use Rattle.tree_look.proofs.EndLaw.{leaf_is_added}
 use Rattle.tree_change.specs.declared.finish.Target.TheVariants as target
-use Rattle.tree_change.specs.Rooms.{AddBegins, QuietBegins}
+use Rattle.tree_look.specs.declared.look.Spot.{Spot}
+use Rattle.tree_look.specs.declared.look.Looked.TheVariants as looked
+use Rattle.tree_look.specs.LookLaws.{IsLooked}
+use Rattle.tree_change.specs.declared.room.Room.TheVariants.{Place}
+use Rattle.tree_change.specs.Rooms.{IsRoom, AddBegins, QuietBegins}
 use Rattle.tree_change.proofs.EndingLaw.{switch_begins}
 
 pub add_begins : AddBegins
@@ -62,11 +67,22 @@ index_store c c' place byte index reference quiet kept here some_reference lt sm
     subst (λ v. IsCellStore 4 c' (with_word c' (8 + byte / 8) (byte_set v (byte % 8) (place + 1))) byte reference) own
     (subst (λ r. IsCellStore 4 c' (with_word c' (8 + byte / 8) (byte_set (c' (8 + byte / 8)) (byte % 8) (place + 1))) byte r) here adds)
 
-no_child : (r : ℕ) → reference_of r ≡ Nothing → r ≡ 0
+pub no_child : (r : ℕ) → reference_of r ≡ Nothing → r ≡ 0
 no_child r is = elim (cases_eq r 0) [ inl none ↦ none | inr some ↦ absurd (reference_some r some is) ]
 
-pub quiet_begins : QuietBegins
-quiet_begins count nodes before w key node cell depth leaf place index reference spot keeps found filled is some_reference room small w' stored =
+-- what the first store of form 48 leaves: the tree as it was, and the store that is to come
+pub record QuietMade (count nodes : ℕ) (before : Layer) (w w' : LayerWords) (key node cell byte leaf place index reference : ℕ) : Type 0 where
+  pub keeps : Keeps count nodes before w'
+  pub same : tree_of w' ≡ tree_of w
+  pub comes : Comes (tree_of w') key (Entry cell byte)
+  pub nothing : (tree_of w').child cell byte ≡ Nothing
+  pub filled : IsFilledLeaf count nodes w' key node leaf
+  pub store : IsCellStore (kind_of cell) (cell_in w' cell) (with_word (cell_in w' cell) (8 + byte / 8) (byte_set index (byte % 8) (place + 1))) byte reference
+
+pub quiet_made : (count nodes : ℕ) (before : Layer) (w : LayerWords) (key node cell depth leaf place index reference : ℕ) (spot : Spot) → Keeps count nodes before w → IsLooked w key (looked.Nothing spot cell depth) → IsFilledLeaf count nodes w key node leaf → reference ≢ 0
+    → IsRoom (kind_of cell) (cell_in w cell) (byte_at depth key) (Place place index) → byte_at depth key < 256 → (w' : LayerWords) → Stored w w' (CellWord (kind_of cell) (number_of cell) (40 + place)) reference
+    → QuietMade count nodes before w w' key node cell (byte_at depth key) leaf place index reference
+quiet_made count nodes before w key node cell depth leaf place index reference spot keeps found filled some_reference room small w' stored =
     let byte = byte_at depth key in
     let t = tree_of w in
     let c = cell_in w cell in
@@ -76,22 +92,32 @@ quiet_begins count nodes before w key node cell depth leaf place index reference
     let form : IsForm 4 c = subst (λ k. IsForm k c) four (keeps.lawful.forms cell (comes_place t key (Entry cell byte) found.2)) in
     let quiet4 : IsQuietStore 4 c c' = subst (IsQuietStore 4 c) (cells_same w w' cell (40 + place) reference stored) (place_fills c place reference form lt room.1.free) in
     let quiet : IsQuietStore (kind_of cell) c c' = subst (λ k. IsQuietStore k c c') (sym four) quiet4 in
-    let keeps' = quiet_keeps count nodes before w w' cell (40 + place) reference keeps stored quiet in
     let same = quiet_tree w w' cell (40 + place) reference stored quiet in
     let kept : (o : ℕ) → o ≢ 40 + place → c' o ≡ c o = λ o apart. stored.others (CellWord (kind_of cell) (number_of cell) o) (λ e. apart (let o_is : o ≡ 40 + place = cc in o_is)) in
     let none : children 4 c byte ≡ 0 = ap (λ k. children k c byte) (sym four) ∙ no_child (children (kind_of cell) c byte) found.3 in
     let z = byte_set index (byte % 8) (place + 1) in
-    let store : IsCellStore (kind_of cell) c' (with_word c' (8 + byte / 8) z) byte reference = subst (λ k. IsCellStore k c' (with_word c' (8 + byte / 8) z) byte reference) (sym four)
-    (index_store c c' place byte index reference quiet4 kept stored.here some_reference lt small room.1.free none room.2) in
-    let comes = subst (λ v. Comes v key (Entry cell byte)) (sym same) found.2 in
-    let nothing = subst (λ (v : Tree). v.child cell byte ≡ Nothing) (sym same) found.3 in
-    let filled' : IsFilledLeaf count nodes w' key node leaf = record {
-      sound = subst (λ v. IsLeaf (room_of count nodes) v leaf) (sym same) filled.sound;
-      key_is = subst (λ (v : Tree). v.key leaf ≡ key) (sym same) filled.key_is;
-      word = subst (λ (v : Tree). v.word leaf ≡ node + 1) (sym same) filled.word;
-    } in (
-      keeps',
-      switch_begins count nodes before w' (target.Cell cell (8 + byte / 8)) z key (Some node) keeps'.same (λ w'' stored'.
-          set_adds count nodes w' w'' key node leaf cell byte reference keeps'.lawful comes nothing filled' is
-          (in_cell stored' (subst (λ v. IsCellStore (kind_of cell) c' v byte reference) (cells_same w' w'' cell (8 + byte / 8) z stored') store))),
+    record {
+      keeps = quiet_keeps count nodes before w w' cell (40 + place) reference keeps stored quiet;
+      same = same;
+      comes = subst (λ v. Comes v key (Entry cell byte)) (sym same) found.2;
+      nothing = subst (λ (v : Tree). v.child cell byte ≡ Nothing) (sym same) found.3;
+      filled = record {
+        sound = subst (λ v. IsLeaf (room_of count nodes) v leaf) (sym same) filled.sound;
+        key_is = subst (λ (v : Tree). v.key leaf ≡ key) (sym same) filled.key_is;
+        word = subst (λ (v : Tree). v.word leaf ≡ node + 1) (sym same) filled.word;
+      };
+      store = subst (λ k. IsCellStore k c' (with_word c' (8 + byte / 8) z) byte reference) (sym four)
+          (index_store c c' place byte index reference quiet4 kept stored.here some_reference lt small room.1.free none room.2);
+    }
+
+pub quiet_begins : QuietBegins
+quiet_begins count nodes before w key node cell depth leaf place index reference spot keeps found filled is some_reference room small w' stored =
+    let byte = byte_at depth key in
+    let c' = cell_in w' cell in
+    let z = byte_set index (byte % 8) (place + 1) in
+    let made = quiet_made count nodes before w key node cell depth leaf place index reference spot keeps found filled some_reference room small w' stored in (
+      made.keeps,
+      switch_begins count nodes before w' (target.Cell cell (8 + byte / 8)) z key (Some node) made.keeps.same (λ w'' stored'.
+          set_adds count nodes w' w'' key node leaf cell byte reference made.keeps.lawful made.comes made.nothing made.filled is
+          (in_cell stored' (subst (λ v. IsCellStore (kind_of cell) c' v byte reference) (cells_same w' w'' cell (8 + byte / 8) z stored') made.store))),
     )

@@ -24,7 +24,7 @@ use Rattle.tree_change.proofs.EndingLaw.{switch_begins}
 spot_is : (spot : Spot) → target_word (spot_target spot) ≡ spot_word spot
 spot_is spot = elim (spot.cell == 0) as (λ a. target_word (cond a target.Root (target.Cell spot.cell spot.offset)) ≡ cond a RootWord (CellWord (kind_of spot.cell) (number_of spot.cell) spot.offset)) [ true ↦ refl | false ↦ refl ]
 
-at_spot : (w w' : LayerWords) (spot : Spot) (word : ℕ) → Stored w w' (target_word (spot_target spot)) word → Stored w w' (spot_word spot) word
+pub at_spot : (w w' : LayerWords) (spot : Spot) (word : ℕ) → Stored w w' (target_word (spot_target spot)) word → Stored w w' (spot_word spot) word
 at_spot w w' spot word stored = subst (λ p. Stored w w' p word) (spot_is spot) stored
 
 pub set_begins : SetBegins

@@ -18,9 +18,9 @@ use Rattle.tree_change.specs.declared.others.Counted.TheVariants.{Two, One, Abse
 use Rattle.tree_change.specs.declared.count.Count.{Count}
 use Rattle.tree_change.specs.Others.{slot_count, slot_offset, entry_value, slot_value, slots_end, slot_next, others_starts, others_offset, others_turned, others_left, IsOthers, OthersAfter, IsCounted, others_turn, CountsAreExact}
 use Rattle.tree_change.specs.Counts.{count_goes, count_turn, CountIsExact}
-use Rattle.tree_change.specs.Telling.{answer_in}
+use Rattle.tree_floor.specs.Telling.{answer_in}
 use Rattle.tree_change.proofs.CountStays.{others_end}
-use Rattle.tree_change.proofs.Telling.{GoesOn, answers_right, made, answers_as}
+use Rattle.tree_floor.proofs.Telling.{GoesOn, answers_right, made, answers_as}
 
 -- what slots have of other children
 record Slots (count : ℕ) (value child told : ℕ → ℕ) (byte : ℕ) : Type 0 where

@@ -1,4 +1,3 @@
-pub mod Telling
 pub mod CountStays
 pub mod CountExact
 pub mod CountedLaw

@@ -52,12 +52,12 @@ take_makes_marks take words is whole = go take.at is.here
         let set = mark_is_set take.layout words take.kind number 1 whole (is.low, is.high, here) in
         take_sets (row_marks take.layout words) (row_marks take.layout (acted take.layout words (take_at_asks take (take_at.Mark number)))) take.kind number 1 is.low is.high (omega arith) set.here set.others
 
-target_has : (l : Layout) (p : Target) → IsTarget l p → HasWord l (target_image p)
+pub target_has : (l : Layout) (p : Target) → IsTarget l p → HasWord l (target_image p)
 target_has l target.Root is = let first : 0 < 8 = omega arith in first
 target_has l (target.Leaf leaf offset) is = is
 target_has l (target.Cell cell offset) is = (is.0.low, is.0.high, is.0.number, is.1)
 
-line_has : (l : Layout) (p : Target) (word : ℕ) → IsTarget l p → word < 8 → HasWord l (line_image p word)
+pub line_has : (l : Layout) (p : Target) (word : ℕ) → IsTarget l p → word < 8 → HasWord l (line_image p word)
 line_has l target.Root word is small = small
 line_has l (target.Leaf leaf offset) word is small = (is.0, small)
 line_has l (target.Cell cell offset) word is small = (is.0.low, is.0.high, is.0.number, cell_line (kind_of cell) offset word is.0.low is.0.high is.1 small)

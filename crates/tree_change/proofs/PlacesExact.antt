@@ -18,10 +18,10 @@ use Rattle.tree_change.specs.declared.room.Places.TheVariants as places
 use Rattle.tree_change.specs.declared.room.Room.{Room}
 use Rattle.tree_change.specs.declared.room.Room.TheVariants.{Entry, Full}
 use Rattle.tree_change.specs.declared.find_room.FindRoom.{FindRoom}
-use Rattle.tree_change.specs.Telling.{answer_in}
+use Rattle.tree_floor.specs.Telling.{answer_in}
 use Rattle.tree_change.specs.Rooms.{has_byte, places_start, places_offset, places_turned, places_left, IsPlaces, PlacesAfter, RoomsEnd, IsRoom, places_turn, RoomsAreExact}
 use Rattle.tree_change.specs.FindRooms.{find_room_goes, find_room_turned, find_room_takes, find_room_left, FindRoomAfter, FindRoomStays, find_room_turn, FindRoomIsExact}
-use Rattle.tree_change.proofs.Telling.{GoesOn, answers_right, made, answers_as}
+use Rattle.tree_floor.proofs.Telling.{GoesOn, answers_right, made, answers_as}
 
 pub rooms_end : RoomsEnd
 rooms_end kind (places.Entry entry) got is =

@@ -12,9 +12,9 @@ use Rattle.radix_nodes.specs.declared.cell.Cell as cells
 use Rattle.tree_law.specs.Words.{LayerWords, kind_of, cell_in}
 use Rattle.tree_floor.specs.Floors.{IsCellOf}
 use Rattle.tree_change.specs.declared.read_cell.ReadCell.{ReadCell}
-use Rattle.tree_change.specs.Telling.{answer_in}
+use Rattle.tree_floor.specs.Telling.{answer_in}
 use Rattle.tree_change.specs.Reads.{read_starts, read_all, read_told, read_turned, read_takes, read_left, read_most, ReadAfter, ReadStays, IsReadOf, read_turn, ReadIsExact}
-use Rattle.tree_change.proofs.Telling.{GoesOn, answers_right}
+use Rattle.tree_floor.proofs.Telling.{GoesOn, answers_right}
 
 pub read_stays : ReadStays
 read_stays read got takes = elim (ltb (read.offset + 1) (read_all read)) as (λ a. ltb (read.offset + 1) (read_all read) ≡ a → ReadAfter read (cond a (Go (record read { cell = read_told read got; offset = read.offset + 1 })) (Done (read_told read got)))) [

@@ -18,9 +18,9 @@ use Rattle.tree_change.specs.declared.take.TakeAt.{TakeAt}
 use Rattle.tree_change.specs.declared.take.TakeAt.TheVariants as at
 use Rattle.tree_change.specs.declared.take.Taken.{Taken}
 use Rattle.tree_change.specs.declared.take.Taken.TheVariants.{Absent}
-use Rattle.tree_change.specs.Telling.{answer_in}
+use Rattle.tree_floor.specs.Telling.{answer_in}
 use Rattle.tree_change.specs.Takes.{take_seeks, take_turned, take_at_turned, take_takes, take_left, take_at_left, take_most, take_starts, take_turn, IsTake, IsTakeAt, TakeAfter, TakeStays, TakesBy, TakeMarks, IsTaken, TakeIsExact, TakenIsUnreached, UnreachedStays, SomeIsTaken, TakeSets, FreeSets, part_of}
-use Rattle.tree_change.proofs.Telling.{GoesOn, answers_right}
+use Rattle.tree_floor.proofs.Telling.{GoesOn, answers_right}
 
 module _ (take : Take) (is : IsTake take) where
   abbrev all : ℕ

@@ -15,7 +15,7 @@ use Rattle.tree_change.specs.declared.others.Counted.{Counted}
 use Rattle.tree_change.specs.declared.count.Count.{Count}
 use Rattle.tree_change.specs.Others.{others_starts, others_offset, others_turned, others_left, others_most, IsOthers}
 use Rattle.tree_change.specs.Others.{IsCounted}
-use Rattle.tree_change.specs.Telling.{answer_in}
+use Rattle.tree_floor.specs.Telling.{answer_in}
 
 abbrev pub count_starts : Layout → ℕ → ℕ → Count
 count_starts l cell byte = record { layout = l; cell = cell; byte = byte; others = others_starts }

@@ -15,7 +15,7 @@ use Rattle.tree_change.specs.declared.room.Room.{Room}
 use Rattle.tree_change.specs.declared.find_room.FindRoom.{FindRoom}
 use Rattle.tree_change.specs.Rooms.{places_start, places_offset, places_turned, places_left, places_most, IsPlaces}
 use Rattle.tree_change.specs.Rooms.{IsRoomIn, IsRoom}
-use Rattle.tree_change.specs.Telling.{answer_in}
+use Rattle.tree_floor.specs.Telling.{answer_in}
 
 abbrev pub find_room_starts : Layout → ℕ → ℕ → FindRoom
 find_room_starts l cell byte = record { layout = l; cell = cell; byte = byte; places = places_start (kind_of cell) }

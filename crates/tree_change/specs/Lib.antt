@@ -1,4 +1,3 @@
-pub mod Telling
 pub mod Others
 pub mod Counts
 pub mod Counted

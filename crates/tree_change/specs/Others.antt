@@ -11,7 +11,7 @@ use Rattle.tree_change.specs.declared.others.Others.{Others}
 use Rattle.tree_change.specs.declared.others.Others.TheVariants as others
 use Rattle.tree_change.specs.declared.others.Counted.{Counted}
 use Rattle.tree_change.specs.declared.others.Counted.TheVariants.{Two, One, Absent}
-use Rattle.tree_change.specs.Telling.{answer_in}
+use Rattle.tree_floor.specs.Telling.{answer_in}
 
 -- the slots of a cell: its entries, or its branch bytes
 abbrev pub slot_count : ℕ → ℕ

@@ -16,7 +16,7 @@ use Rattle.tree_row.specs.Rows.{layer_address}
 use Rattle.tree_floor.specs.Floors.{cell_word, IsCellOf}
 use Rattle.tree_change.specs.declared.read_cell.ReadCell.{ReadCell}
 use Rattle.tree_change.specs.Filled.{StandsIn}
-use Rattle.tree_change.specs.Telling.{answer_in}
+use Rattle.tree_floor.specs.Telling.{answer_in}
 
 abbrev pub read_starts : Layout → ℕ → ReadCell
 read_starts l reference = record {

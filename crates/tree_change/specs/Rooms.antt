@@ -23,7 +23,7 @@ use Rattle.tree_change.specs.declared.room.Room.{Room}
 use Rattle.tree_change.specs.declared.room.Room.TheVariants.{Entry, Place, Full}
 use Rattle.tree_change.specs.declared.finish.Target.TheVariants as target
 use Rattle.tree_change.specs.Endings.{Switches}
-use Rattle.tree_change.specs.Telling.{answer_in}
+use Rattle.tree_floor.specs.Telling.{answer_in}
 
 -- one of the first so many bytes of the word is this one
 abbrev pub has_byte : ℕ → ℕ → ℕ → Bool

@@ -18,7 +18,7 @@ use Rattle.tree_change.specs.declared.take.TakeAt.{TakeAt}
 use Rattle.tree_change.specs.declared.take.TakeAt.TheVariants as at
 use Rattle.tree_change.specs.declared.take.Taken.{Taken}
 use Rattle.tree_change.specs.declared.take.Taken.TheVariants.{One, Absent}
-use Rattle.tree_change.specs.Telling.{answer_in}
+use Rattle.tree_floor.specs.Telling.{answer_in}
 
 abbrev pub take_starts : Layout → ℕ → Take
 take_starts l kind = record { layout = l; kind = kind; at = at.Seek 0 }

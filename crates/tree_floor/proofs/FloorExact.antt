@@ -31,7 +31,8 @@ use Rattle.tree_floor.specs.ScanLaws.{word_below}
 use Rattle.tree_floor.specs.Keys.{number_in, IsKey}
 use Rattle.tree_floor.specs.Floors as floors
 use Rattle.tree_law.specs.Words.{kind_of, number_of}
-use Rattle.tree_floor.specs.Floors.{floor_word, floor_starts, floor_most, no_words, goes_to, lands, turns_back, back, enters, has_key, has_prefix, scans, wants_last, goes_down, has_scanned, floor_at_turned, floor_turned, IsFloor, floor_left, FloorAfter, told_turn, answer_from, FloorIsExact}
+use Rattle.tree_floor.specs.Floors.{floor_word, floor_starts, floor_most, no_words, goes_to, lands, turns_back, back, enters, has_key, has_prefix, scans, wants_last, goes_down, has_scanned, floor_at_turned, floor_turned, IsFloor, floor_left, FloorAfter, floor_turn, FloorIsExact}
+use Rattle.tree_floor.specs.Telling.{turn_answer, answer_in}
 use Rattle.tree_floor.proofs.ScanExact.{Knows, After, told, begins}
 use Rattle.tree_floor.proofs.KeyWords.{AreRead, reads_on, read_number}
 use Rattle.tree_floor.proofs.FloorStays.{floor_stays}
@@ -383,15 +384,15 @@ module _ (l : Layout) (ks : List ℕ) (w : LayerWords) (layout : IsLayout l) (is
       (told (kind_of cell) byte (cell_in w cell) scan is.here.2 form knows.3)
 
   -- all
-  goes_on : (times left : ℕ) → ((f : Floor) → IsFloor f → f.layout ≡ l → f.key ≡ ks → KnowsAt f.other f.other_least f.least f.last f.at → floor_left f < left → IsSomeAnd (answer_from times w f) (IsFloorOf (layer_of w) k)) → (turn : Turn Floor ℕ)
-      → FloorAfter l ks left turn → Ends turn → IsSomeAnd (told_turn turn (answer_from times w)) (IsFloorOf (layer_of w) k)
+  goes_on : (times left : ℕ) → ((f : Floor) → IsFloor f → f.layout ≡ l → f.key ≡ ks → KnowsAt f.other f.other_least f.least f.last f.at → floor_left f < left → IsSomeAnd (answer_in times (floor_turn w) f) (IsFloorOf (layer_of w) k)) → (turn : Turn Floor ℕ)
+      → FloorAfter l ks left turn → Ends turn → IsSomeAnd (turn_answer turn (answer_in times (floor_turn w))) (IsFloorOf (layer_of w) k)
   goes_on times left inner (Go f) after known = inner f after.0 after.1 after.2 known after.3
   goes_on times left inner (Done node) after known = known
 
   made : (f : Floor) → f.layout ≡ l → f.key ≡ ks → floor f.other f.other_least f.least f.last f.at ≡ f
   made f is_layout is_key' = λ i. record { layout = sym is_layout i; key = sym is_key' i; other = f.other; other_least = f.other_least; least = f.least; last = f.last; at = f.at }
 
-  answers : (times : ℕ) (f : Floor) → IsFloor f → f.layout ≡ l → f.key ≡ ks → KnowsAt f.other f.other_least f.least f.last f.at → floor_left f < times → IsSomeAnd (answer_from times w f) (IsFloorOf (layer_of w) k)
+  answers : (times : ℕ) (f : Floor) → IsFloor f → f.layout ≡ l → f.key ≡ ks → KnowsAt f.other f.other_least f.least f.last f.at → floor_left f < times → IsSomeAnd (answer_in times (floor_turn w) f) (IsFloorOf (layer_of w) k)
   answers zero f is is_layout is_key' knows less = absurd (omega arith)
   answers (suc times) f is is_layout is_key' knows less =
       let same = made f is_layout is_key' in

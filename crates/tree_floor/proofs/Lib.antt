@@ -1,3 +1,4 @@
+pub mod Telling
 pub mod ScanLaw
 pub mod ScanExact
 pub mod KeyNumbers

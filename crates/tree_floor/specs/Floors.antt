@@ -1,6 +1,6 @@
 -- The floor of a key, word by word.
-use Rattle.std.specs.Prelude.{◌≡◌, ℕ, zero, suc, ◌+◌, ◌-◌, ◌*◌, ◌^◌, ◌<◌, ◌≤◌, ◌==◌, ◌&&◌, ◌||◌, not}
-use Rattle.std.specs.Prelude.{nat_lt, nat_le, if◌then◌else◌, Bool, true, false, List, Option, Some, None, IsSomeAnd}
+use Rattle.std.specs.Prelude.{◌≡◌, ℕ, ◌+◌, ◌-◌, ◌*◌, ◌^◌, ◌<◌, ◌≤◌, ◌==◌, ◌&&◌, ◌||◌, not}
+use Rattle.std.specs.Prelude.{nat_lt, nat_le, if◌then◌else◌, Bool, true, false, List, IsSomeAnd}
 use Rattle.std.specs.Prelude.{slice_set, replicate}
 use Rattle.pm_words.specs.declared.layout.Layout.{Layout}
 use Rattle.pm_words.specs.declared.action.Action.{Action}
@@ -24,6 +24,7 @@ use Rattle.tree_floor.specs.declared.scan.Scanned.{Scanned}
 use Rattle.tree_floor.specs.declared.scan.Scanned.TheVariants.{More, Found}
 use Rattle.tree_floor.specs.Scans.{scan_starts, scan_offset, scan_told, IsScan, scan_left}
 use Rattle.tree_floor.specs.Keys.{number_in, IsKey}
+use Rattle.tree_floor.specs.Telling.{answer_in}
 
 abbrev pub cell_word : ℕ → ℕ → LayerWord
 cell_word cell offset = CellWord (kind_of cell) (number_of cell) offset
@@ -194,20 +195,16 @@ abbrev pub FloorStays : Type 0
 FloorStays = (floor : Floor) (got : ℕ) → floor_takes floor got →
     FloorAfter floor.layout floor.key (floor_left floor) (floor_turned floor got)
 
--- what it answers that is told these words, each as it asks for it, so many times
-abbrev pub told_turn : Turn Floor ℕ → (Floor → Option ℕ) → Option ℕ
-told_turn (Go floor) answer = answer floor
-told_turn (Done node) answer = Some node
-
-abbrev pub answer_from : ℕ → LayerWords → Floor → Option ℕ
-answer_from zero w floor = None
-answer_from (suc times) w floor = told_turn (floor_turned floor (word_in w (floor_word floor.at))) (answer_from times w)
+-- its turn, told these words as it asks for them
+abbrev pub floor_turn : LayerWords → Floor → Turn Floor ℕ
+floor_turn w floor = floor_turned floor (word_in w (floor_word floor.at))
 
 -- So long as the words stay as they are, it answers the floor of its key.
 abbrev pub FloorIsExact : Type 0
 FloorIsExact = (l : Layout) (key : List ℕ) (w : LayerWords) (times : ℕ) → floor_most ≤ times → IsLayout l → IsKey key →
     ((p : LayerWord) → word_in w p < 2 ^ 64) → IsLawful (leaf_count l) l.nodes w →
-    IsSomeAnd (answer_from times w (floor_starts l key)) (λ node. IsFloorOf (layer_of w) (number_in key) node)
+    IsSomeAnd (answer_in times (floor_turn w) (floor_starts l key))
+    (λ node. IsFloorOf (layer_of w) (number_in key) node)
 
 -- It only loads words of the layer that a row of its layout has.
 abbrev pub FloorOnlyLoads : Type 0

@@ -36,8 +36,9 @@ use Rattle.tree_look.specs.Finds.{find_starts, find_offset, find_told}
 use Rattle.tree_look.specs.FindLaws.{IsAt}
 use Rattle.tree_look.specs.Depths.{shared_of}
 use Rattle.tree_look.specs.Looks as looks
-use Rattle.tree_look.specs.Looks.{look_word, root_spot, look_starts, goes_to, lands, goes_down, has_found, look_at_turned, look_turned, IsSpot, IsLook, look_left, look_most}
-use Rattle.tree_look.specs.LookLaws.{LookAfter, spot_word, IsHeld, IsOuter, at_root, in_cell, IsLooked, told_turn, answer_from, LookIsExact}
+use Rattle.tree_look.specs.Looks.{look_word, root_spot, look_starts, goes_to, lands, has_found, look_at_turned, look_turned, IsSpot, IsLook, look_left, look_most}
+use Rattle.tree_look.specs.LookLaws.{LookAfter, spot_word, IsHeld, IsOuter, at_root, in_cell, IsLooked, look_turn, LookIsExact}
+use Rattle.tree_floor.specs.Telling.{turn_answer, answer_in}
 use Rattle.tree_look.proofs.FindLaw.{Knows, After, told, starts}
 use Rattle.tree_look.proofs.DepthLaw.{keys_part, parts_before}
 use Rattle.tree_look.proofs.LookStays.{look_stays}
@@ -272,15 +273,15 @@ module _ (l : Layout) (ks : List ℕ) (w : LayerWords) (layout : IsLayout l) (is
       found_ends cell depth least outer inner (at.Finding cell depth find) (find_told (kind_of cell) (byte_at depth k) find (cell_in w cell (find_offset (kind_of cell) (byte_at depth k) find))) knows.0 knows.1 knows.2 knows.3
       (told (kind_of cell) (byte_at depth k) (cell_in w cell) find (byte_small depth k) form knows.4)
 
-  goes_on' : (times left : ℕ) → ((f : Look) → IsLook f → f.layout ≡ l → f.key ≡ ks → KnowsAt f.least f.outer f.inner f.at → look_left f < left → IsSomeAnd (answer_from times w f) (IsLooked w k)) → (turn : Turn Look Looked)
-      → LookAfter l ks left turn → Ends turn → IsSomeAnd (told_turn turn (answer_from times w)) (IsLooked w k)
+  goes_on' : (times left : ℕ) → ((f : Look) → IsLook f → f.layout ≡ l → f.key ≡ ks → KnowsAt f.least f.outer f.inner f.at → look_left f < left → IsSomeAnd (answer_in times (look_turn w) f) (IsLooked w k)) → (turn : Turn Look Looked)
+      → LookAfter l ks left turn → Ends turn → IsSomeAnd (turn_answer turn (answer_in times (look_turn w))) (IsLooked w k)
   goes_on' times left inner (Go f) after known = inner f after.0 after.1 after.2 known after.3
   goes_on' times left inner (Done answer) after known = known
 
   made : (f : Look) → f.layout ≡ l → f.key ≡ ks → look f.least f.outer f.inner f.at ≡ f
   made f is_layout is_key' = λ i. record { layout = sym is_layout i; key = sym is_key' i; least = f.least; outer = f.outer; inner = f.inner; at = f.at }
 
-  answers : (times : ℕ) (f : Look) → IsLook f → f.layout ≡ l → f.key ≡ ks → KnowsAt f.least f.outer f.inner f.at → look_left f < times → IsSomeAnd (answer_from times w f) (IsLooked w k)
+  answers : (times : ℕ) (f : Look) → IsLook f → f.layout ≡ l → f.key ≡ ks → KnowsAt f.least f.outer f.inner f.at → look_left f < times → IsSomeAnd (answer_in times (look_turn w) f) (IsLooked w k)
   answers zero f is is_layout is_key' knows less = absurd (omega arith)
   answers (suc times) f is is_layout is_key' knows less =
       let same = made f is_layout is_key' in

@@ -8,8 +8,8 @@ use Rattle.tree_look.specs.declared.find.Findings.{Findings}
 use Rattle.tree_look.specs.declared.find.Findings.TheVariants.{More, Found, Absent}
 use Rattle.tree_look.specs.Finds.{find_starts, find_offset, find_told, IsFind, find_left}
 
--- It stays one, and reads less and less, whatever it is told; what it finds is in a word of the cell, with a byte at most
--- above the reference.
+-- It stays one, and reads less and less, whatever it is told; what it finds is in a word of the cell, with a byte at
+-- most above the reference.
 abbrev pub FindAfter : ℕ → ℕ → ℕ → Findings → Type 0
 FindAfter kind byte left (More find) = IsFind kind find × (find_left kind find < left)
 FindAfter kind byte left (Found offset high reference) = byte < 256 → (offset < kind_words kind) × (high < 2 ^ 40)

@@ -1,6 +1,5 @@
 -- That a look ends, and what it finds where the words stay as they are.
-use Rattle.std.specs.Prelude.{◌≡◌, ◌≢◌, ℕ, zero, suc, ◌+◌, ◌^◌, ◌<◌, ◌≤◌, ◌==◌, if◌then◌else◌, List}
-use Rattle.std.specs.Prelude.{Option, Some, None, IsSomeAnd}
+use Rattle.std.specs.Prelude.{◌≡◌, ◌≢◌, ℕ, ◌+◌, ◌^◌, ◌<◌, ◌≤◌, ◌==◌, if◌then◌else◌, List, IsSomeAnd}
 use Rattle.pm_words.specs.declared.layout.Layout.{Layout}
 use Rattle.pm_words.specs.declared.machine.Turn.{Turn}
 use Rattle.pm_words.specs.declared.machine.Turn.TheVariants.{Go, Done}
@@ -15,6 +14,7 @@ use Rattle.tree_law.specs.Words.{LayerWord, RootWord, CellWord, LayerWords, word
 use Rattle.tree_law.specs.Words.{reference_of, cell_in, tree_of, IsLawful, Stored, IsSwitchStore}
 use Rattle.tree_floor.specs.Keys.{number_in, IsKey}
 use Rattle.tree_floor.specs.Floors.{IsCellOf}
+use Rattle.tree_floor.specs.Telling.{answer_in}
 use Rattle.tree_look.specs.declared.look.Look.{Look}
 use Rattle.tree_look.specs.declared.look.Spot.{Spot}
 use Rattle.tree_look.specs.declared.look.Looked.{Looked}
@@ -85,18 +85,12 @@ IsLooked w key (looked.Parts spot reference depth byte) =
     (byte ≡ byte_at depth (low (tree_of w) (reference_of reference)))
 IsLooked w key looked.Wrong = ⊥
 
--- what it answers that is told these words, each as it asks for it, so many times
-abbrev pub told_turn : Turn Look Looked → (Look → Option Looked) → Option Looked
-told_turn (Go look) answer = answer look
-told_turn (Done answer) other = Some answer
-
-abbrev pub answer_from : ℕ → LayerWords → Look → Option Looked
-answer_from zero w look = None
-answer_from (suc times) w look =
-    told_turn (look_turned look (word_in w (look_word look.at look.key))) (answer_from times w)
+-- its turn, told these words as it asks for them
+abbrev pub look_turn : LayerWords → Look → Turn Look Looked
+look_turn w look = look_turned look (word_in w (look_word look.at look.key))
 
 -- So long as the words stay as they are, it finds the end of its key's way.
 abbrev pub LookIsExact : Type 0
 LookIsExact = (l : Layout) (key : List ℕ) (w : LayerWords) (times : ℕ) → look_most ≤ times → IsLayout l → IsKey key →
     ((p : LayerWord) → word_in w p < 2 ^ 64) → IsLawful (leaf_count l) l.nodes w →
-    IsSomeAnd (answer_from times w (look_starts l key)) (IsLooked w (number_in key))
+    IsSomeAnd (answer_in times (look_turn w) (look_starts l key)) (IsLooked w (number_in key))

@@ -5,9 +5,10 @@ use Rattle.std.proofs.lemmas.List.{get_or-set_other}
 use Rattle.pm_words.specs.declared.layout.Layout.{Layout}
 use Rattle.pm_words.specs.declared.action.Action.TheVariants.{Load}
 use Rattle.pm_words.specs.Locations.{Mark, HasLocation, leaf_count, cached_address, durable_address, address_of, at}
-use Rattle.pm_words.specs.Rows.{acted, evicted}
+use Rattle.pm_words.specs.Rows.{acted, evicted, row_of}
 use Rattle.pm_words.proofs.Apart.{address_fits, at-set_same, at-set_other}
-use Rattle.tree_row.specs.RowMarks.{has_mark, row_marks, MarkIsSet, IsNoMark, StoreLeavesMarks, LoadLeavesMarks, EvictionLeavesMarks}
+use Rattle.pm_words.proofs.Made.{row_of-at_volatile}
+use Rattle.tree_row.specs.RowMarks.{has_mark, row_marks, MarkIsSet, IsNoMark, StoreLeavesMarks, LoadLeavesMarks, EvictionLeavesMarks, ImageHasNoMarks}
 use Rattle.tree_row.proofs.RowLaw.{load_same}
 
 mark_is : (l : Layout) (kind number : ℕ) → HasLocation l (Mark kind number) → has_mark l kind number ≡ true
@@ -50,3 +51,9 @@ pub eviction_leaves_marks : EvictionLeavesMarks
 eviction_leaves_marks l words word = marks_same l words (evicted l words word) (λ kind number has.
     let fits : (kind - 1) * leaf_count l + number < leaf_count l * 5 = address_fits l (Mark kind number) has in
     get_or-set_other words (durable_address l word) (address_of l (Mark kind number)) (slice_index words (cached_address l word)) 0 (λ e. omega arith))
+
+pub image_has_no_marks : ImageHasNoMarks
+image_has_no_marks l image kind number = elim (has_mark l kind number) as (λ a. has_mark l kind number ≡ a → cond a (at l (row_of l image) (Mark kind number)) 0 ≡ 0) [
+  | true ↦ λ e. row_of-at_volatile l image (Mark kind number) (mark_from l kind number e) (omega arith)
+  | false ↦ λ e. refl
+] refl

@@ -4,14 +4,15 @@ use Rattle.std.proofs.lemmas.Bool.{and_parts, ltb-true, leb-true, cases_eq}
 use Rattle.std.proofs.lemmas.List.{get_or-set_other}
 use Rattle.pm_words.specs.declared.layout.Layout.{Layout}
 use Rattle.pm_words.specs.declared.action.Action.TheVariants.{Load}
-use Rattle.pm_words.specs.Locations.{Word, Location, Cached, Durable, HasWord, HasLocation, leaf_count, kind_words, row_words, word_number, cached_address, durable_address, address_of, at}
-use Rattle.pm_words.specs.Rows.{acted, evicted, durable_row}
+use Rattle.pm_words.specs.Locations.{Word, Location, Cached, Durable, HasWord, HasLocation, leaf_count, kind_words, row_words, word_number, word_at, cached_address, durable_address, address_of, at}
+use Rattle.pm_words.specs.Images.{IsImage}
+use Rattle.pm_words.specs.Rows.{acted, evicted, durable_row, row_of}
 use Rattle.pm_words.proofs.Apart.{words_within, at-set_same, at-set_other}
 use Rattle.pm_words.proofs.Kept.{action_address-drain}
-use Rattle.pm_words.proofs.Made.{durable_row-at}
+use Rattle.pm_words.proofs.Made.{row_of-at, durable_row-at}
 use Rattle.tree_law.specs.Words.{LayerWord, RootWord, LeafWord, CellWord, word_in, Stored, IsMix}
 use Rattle.tree_law.proofs.StageLaw.{same_words}
-use Rattle.tree_row.specs.Rows.{image_word, HasLayerWord, has_layer_word, layer_word, layer_words, image_layer_word, CrashReads, ReadsWords, ReadsFit, RowsAlike, LoadLeaves, StoreMakes, DrainMakes, IsOutsideWord, IsOutsideLayer, OutsideLeaves, EvictionMixes}
+use Rattle.tree_row.specs.Rows.{image_word, HasLayerWord, has_layer_word, layer_word, layer_words, image_layer_word, image_layer, CrashReads, ImageReads, ReadsWords, ReadsFit, RowsAlike, LoadLeaves, StoreMakes, DrainMakes, IsOutsideWord, IsOutsideLayer, OutsideLeaves, EvictionMixes}
 
 has_is : (l : Layout) (p : LayerWord) → HasLayerWord l p → has_layer_word l p ≡ true
 has_is l RootWord has = refl
@@ -86,6 +87,22 @@ crash_reads l words = λ x. record {
   where
     crash_word : (l : Layout) (words : List ℕ) (p : LayerWord) → image_layer_word l (durable_row l words) p ≡ layer_word l words Durable p
     crash_word l words p = ap (λ v. cond (has_layer_word l p) v 0) (durable_row-at l words (image_word p))
+
+pub image_reads : ImageReads
+image_reads l image is = (of l image is Cached (λ w has. (row_of-at l image w is has).0), of l image is Durable (λ w has. (row_of-at l image w is has).1))
+  where
+    of : (l : Layout) (image : List ℕ) → IsImage l image → (twin : Word → Location) → ((w : Word) → HasWord l w → at l (row_of l image) (twin w) ≡ word_at l image w) → layer_words l (row_of l image) twin ≡ image_layer l image
+    of l image is twin same = λ x. record {
+      root = image_word_is RootWord x;
+      leaf = λ i o. image_word_is (LeafWord i o) x;
+      cell = λ kind n o. image_word_is (CellWord kind n o) x;
+    }
+      where
+        image_word_is : (p : LayerWord) → layer_word l (row_of l image) twin p ≡ image_layer_word l image p
+        image_word_is p = elim (has_layer_word l p) as (λ a. has_layer_word l p ≡ a → cond a (at l (row_of l image) (twin (image_word p))) 0 ≡ cond a (word_at l image (image_word p)) 0) [
+          | true ↦ λ e. same (image_word p) (has_from l p e)
+          | false ↦ λ e. refl
+        ] refl
 
 -- a load puts back what stands there
 pub load_same : (l : Layout) (words : List ℕ) (address : ℕ) (q : Location) → length words ≡ row_words l → HasLocation l q → at l (acted l words (Load address)) q ≡ at l words q

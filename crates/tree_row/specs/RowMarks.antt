@@ -4,7 +4,7 @@ use Rattle.pm_words.specs.declared.layout.Layout.{Layout}
 use Rattle.pm_words.specs.declared.action.Action.TheVariants.{Load}
 use Rattle.pm_words.specs.Locations.{Location, Clock, Updater, Volatile, Mark, Cached, Durable, HasLocation}
 use Rattle.pm_words.specs.Locations.{leaf_count, row_words, address_of, at}
-use Rattle.pm_words.specs.Rows.{acted, evicted}
+use Rattle.pm_words.specs.Rows.{acted, evicted, row_of}
 use Rattle.tree_law.specs.Stages.{Marks}
 
 abbrev pub has_mark : Layout → ℕ → ℕ → Bool
@@ -43,3 +43,7 @@ LoadLeavesMarks = (l : Layout) (words : List ℕ) (address : ℕ) → length wor
 
 abbrev pub EvictionLeavesMarks : Type 0
 EvictionLeavesMarks = (l : Layout) (words : List ℕ) (word : ℕ) → row_marks l (evicted l words word) ≡ row_marks l words
+
+-- A row that is made of an image has none.
+abbrev pub ImageHasNoMarks : Type 0
+ImageHasNoMarks = (l : Layout) (image : List ℕ) (kind number : ℕ) → row_marks l (row_of l image) kind number ≡ 0

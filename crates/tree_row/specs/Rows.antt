@@ -6,7 +6,8 @@ use Rattle.pm_words.specs.declared.action.Action.TheVariants.{Load, Store, Drain
 use Rattle.pm_words.specs.Locations.{Word, Header, Root, Node, Line, Leaf, Cell, HasWord}
 use Rattle.pm_words.specs.Locations.{Location, Clock, Updater, Volatile, Mark, Cached, Durable, HasLocation}
 use Rattle.pm_words.specs.Locations.{leaf_count, kind_words, row_words, address_of, at, word_at}
-use Rattle.pm_words.specs.Rows.{acted, evicted, durable_row}
+use Rattle.pm_words.specs.Images.{IsImage}
+use Rattle.pm_words.specs.Rows.{acted, evicted, durable_row, row_of}
 use Rattle.tree_law.specs.Words.{LayerWord, RootWord, LeafWord, CellWord, LayerWords, word_in, Stored, IsMix}
 
 -- the name of a word of the layer in an image, and the address of its cached twin
@@ -67,6 +68,12 @@ image_layer l image = record {
 
 abbrev pub CrashReads : Type 0
 CrashReads = (l : Layout) (words : List ℕ) → image_layer l (durable_row l words) ≡ layer_words l words Durable
+
+-- A row that is made of an image has its layer in both twins.
+abbrev pub ImageReads : Type 0
+ImageReads = (l : Layout) (image : List ℕ) → IsImage l image →
+    (layer_words l (row_of l image) Cached ≡ image_layer l image) ×
+    (layer_words l (row_of l image) Durable ≡ image_layer l image)
 
 -- both twins have the words of the layer as they were
 abbrev pub TwinsStay : Layout → List ℕ → List ℕ → Type 0

@@ -1,17 +1,20 @@
 //! Laws on the words of the layer in a row, for the proofs of crates above. The functions do nothing: each names what
 //! is proved.
 
-ghost use Rattle.tree_row.specs.Rows.{ReadsWords, ReadsFit, RowsAlike, CrashReads};
+ghost use Rattle.tree_row.specs.Rows.{ReadsWords, ReadsFit, RowsAlike, CrashReads, ImageReads};
 ghost use Rattle.tree_row.specs.Rows.{LoadLeaves, StoreMakes, DrainMakes, OutsideLeaves, EvictionMixes};
 ghost use Rattle.tree_row.specs.RowMarks.{MarkIsSet, StoreLeavesMarks, LoadLeavesMarks, EvictionLeavesMarks};
+ghost use Rattle.tree_row.specs.RowMarks.{ImageHasNoMarks};
 
 /// Each word of the layer is read where it stands, and no other word of the row makes a difference. The image that a
-/// crash leaves has the layer of the durable twin.
+/// crash leaves has the layer of the durable twin, and both twins of a row that is made of an image have that of the
+/// image.
 pub fn reading_law()
     ensures reads { ReadsWords }
     ensures fits { ReadsFit }
     ensures alike { RowsAlike }
     ensures crash { CrashReads }
+    ensures image { ImageReads }
 {}
 
 /// A load leaves the words of the layer in both twins, and so does a store of any word that isn't of the layer. A store
@@ -25,10 +28,12 @@ pub fn action_law()
     ensures evicts { EvictionMixes }
 {}
 
-/// A store of a mark sets that one alone; a store elsewhere, a load and whatever becomes durable by itself leave all.
+/// A store of a mark sets that one alone; a store elsewhere, a load and whatever becomes durable by itself leave all. A
+/// row that is made of an image has none.
 pub fn mark_law()
     ensures sets { MarkIsSet }
     ensures stores { StoreLeavesMarks }
     ensures loads { LoadLeavesMarks }
     ensures evicts { EvictionLeavesMarks }
+    ensures image { ImageHasNoMarks }
 {}

@@ -1,5 +1,4 @@
 use Rattle.std.proofs.Common.{◌≡◌, suc, ◌+◌, slice_set, ap, ◌∙◌, arith}
-use Rattle.radix_nodes.specs.declared.cell.Cell.{Cell}
 use Rattle.radix_nodes.specs.Cells.{words_of}
 use Rattle.radix_nodes.specs.Making.{copied}
 use Rattle.radix_nodes.proofs.making.bare.Goals as goal

@@ -1,4 +1,4 @@
-use Rattle.std.proofs.Common.{rules, ◌≡◌, ◌≢◌, ◌∙◌}
+use Rattle.std.proofs.Common.{rules, ◌≢◌, ◌∙◌}
 use Rattle.radix_nodes.proofs.GrownCells.{from_4, from_16, from_48, grown_by}
 use Rattle.radix_nodes.proofs.making.grown.Goals as goal
 

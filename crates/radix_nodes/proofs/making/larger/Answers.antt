@@ -1,4 +1,4 @@
-use Rattle.std.proofs.Common.{rules, ◌≡◌, ◌≢◌, ◌+◌, sym, ap, ◌∙◌}
+use Rattle.std.proofs.Common.{rules, ◌≢◌, ◌+◌, sym, ap, ◌∙◌}
 use Rattle.radix_nodes.specs.declared.cell.Cell.{Cell}
 use Rattle.radix_nodes.specs.Cells.{entry_of}
 use Rattle.radix_nodes.specs.Changes.{stored}

@@ -1,6 +1,5 @@
-use Rattle.std.proofs.Common.{rules, ◌≡◌, ◌+◌, slice_index, slice_set, sym, subst, ap, ap₂, ◌∙◌}
+use Rattle.std.proofs.Common.{rules, slice_index, sym, subst}
 use Rattle.radix_nodes.specs.Changes.{IsPair}
-use Rattle.radix_nodes.specs.Making.{pair_of}
 use Rattle.radix_nodes.proofs.PairCells.{pair_words, pair_is_pair}
 use Rattle.radix_nodes.proofs.making.paired.Goals as goal
 

@@ -3,7 +3,7 @@ use Rattle.std.proofs.Common.{◌≡◌, ℕ, zero, suc, ◌<◌, refl, ap, ◌�
 use Rattle.std.specs.Prelude.{IsSomeAnd}
 use Rattle.pm_words.specs.declared.machine.Turn.{Turn}
 use Rattle.pm_words.specs.declared.machine.Turn.TheVariants.{Go, Done}
-use Rattle.tree_change.specs.Telling.{turn_answer, answer_in}
+use Rattle.tree_floor.specs.Telling.{turn_answer, answer_in}
 
 module _ {M A : Type 0} (turn : M → Turn M A) (Knows : M → Type 0) (left : M → ℕ) (IsRight : A → Type 0) where
   -- it knows as much, and has fewer turns left; or has answered right

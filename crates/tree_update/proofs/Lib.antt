@@ -1,0 +1,11 @@
+mod ChangeStays
+mod Staying
+mod Absent
+mod Ends
+mod Loads
+mod Taking
+mod Finishing
+mod Turning
+mod Acting
+mod RunLaw
+mod OthersStay

@@ -1,0 +1,81 @@
+use Rattle.std.proofs.Common.{◌≡◌, ◌<◌, ◌≤◌, ◌+◌, ℕ, List, refl, sym, subst, ap, ◌∙◌, arith}
+use Rattle.pm_words.specs.declared.layout.Layout.{Layout}
+use Rattle.pm_words.specs.declared.machine.Turn.TheVariants.{Go, Done}
+use Rattle.pm_words.specs.Rows.{CanAct, got, acted}
+use Rattle.search_layer.specs.Leaves.{node_of}
+use Rattle.search_layer.proofs.Acting.{told_by, words_by, layout_by}
+use Rattle.tree_floor.specs.Keys.{number_in}
+use Rattle.tree_update.specs.Changes.{change_asks, change_turned, change_left, change_most}
+use Rattle.tree_update.specs.Kinds.{KeepsOthers}
+use Rattle.tree_update.specs.Stages.{aim_of}
+use Rattle.tree_update.specs.Runs.{layer_in}
+use Rattle.tree_update.specs.Alone.{IsChanged}
+use Rattle.tree_update.proofs.RunLaw.{OnRun, starts_on, starts_left, can_on, goes_on, others_on, ends_on}
+use Rattle.tree_update.proofs.alone.run_alone.Goals as goal
+
+-- what stays along the run
+others : (l : Layout) (words now after : List ℕ) → KeepsOthers l words now → KeepsOthers l now after → KeepsOthers l words after
+others l words now after before step p has other = step p has other ∙ before p has other
+
+pub turns-init : goal.turns-init
+turns-init g c =
+    let l = c.args.memory.now.layout in
+    let words = c.args.memory.now.words in
+    let first = c.args.change in
+    let left = starts_left l first c.requires.start in
+    record {
+      layout = refl;
+      on = starts_on l words first (record { row = c.layout-row.ensures.row; rest = c.requires.rest; start = c.requires.start; sound = c.requires.sound; rooted = c.requires.rooted });
+      others = λ p has other. refl;
+      steps = omega arith;
+    }
+
+pub act-got-requires : goal.act-got-requires
+act-got-requires g c =
+    let l = c.args.memory.now.layout in
+    let row = c.turns.memory in
+    subst (CanAct row.layout row.words) (sym c.action.ensures) (subst (λ (k : Layout). CanAct k row.words (change_asks c.turns.change)) (sym c.turns.invariant.layout)
+    (can_on l (layer_in l c.args.memory.now.words) (aim_of c.args.change) c.requires.rooted c.turns.change row.words c.turns.invariant.on))
+
+pub turns-preserved : goal.turns-preserved
+turns-preserved g c =
+    let l = c.args.memory.now.layout in
+    let words = c.args.memory.now.words in
+    let before = layer_in l words in
+    let change = c.turns.change in
+    let row = c.turns.memory in
+    let on = c.turns.invariant.on in
+    let told = told_by l row (change_asks change) c.action.result c.act-got.result c.turns.invariant.layout c.action.ensures c.act-got.ensures.got in
+    let is : change_turned change (got l row.words (change_asks change)) ≡ Go c.in-Go.next =
+    ap (λ (n : ℕ). change_turned change n) (sym told) ∙ sym c.resume.ensures.turned ∙ c.in-Go.is in
+    let next = goes_on l before (aim_of c.args.change) c.requires.rooted change c.in-Go.next row.words on is in
+    let after = words_by l row c.act-got.new.self (change_asks change) c.action.result c.turns.invariant.layout c.action.ensures c.act-got.ensures.row in
+    let fewer : change_left c.in-Go.next < change_left change = c.in-Go.ensures.fewer in
+    let steps : c.turns.steps + change_left change ≤ c.args.steps.now + change_most l = c.turns.invariant.steps in
+    record {
+      layout = layout_by l row c.act-got.new.self c.action.result c.turns.invariant.layout c.act-got.ensures.row;
+      on = subst (λ (ws : List ℕ). OnRun l before (aim_of c.args.change) c.in-Go.next ws) (sym after) next;
+      others = subst (λ (ws : List ℕ). KeepsOthers l words ws) (sym after)
+          (others l words row.words (acted l row.words (change_asks change)) c.turns.invariant.others (others_on l before (aim_of c.args.change) change row.words on));
+      steps = omega (arith, c.act-got.ensures.tick);
+    }
+
+pub returns-in-Done-clause-changed : goal.returns-in-Done-clause-changed
+returns-in-Done-clause-changed g c =
+    let l = c.args.memory.now.layout in
+    let words = c.args.memory.now.words in
+    let before = layer_in l words in
+    let change = c.turns.change in
+    let row = c.turns.memory in
+    let on = c.turns.invariant.on in
+    let told = told_by l row (change_asks change) c.action.result c.act-got.result c.turns.invariant.layout c.action.ensures c.act-got.ensures.got in
+    let is : change_turned change (got l row.words (change_asks change)) ≡ Done c.in-Done.field-0 =
+    ap (λ (n : ℕ). change_turned change n) (sym told) ∙ sym c.resume.ensures.turned ∙ c.in-Done.is in
+    let end = ends_on l before (aim_of c.args.change) c.requires.rooted c.requires.few change row.words c.in-Done.field-0 on is in
+    let after = words_by l row c.act-got.new.self (change_asks change) c.action.result c.turns.invariant.layout c.action.ensures c.act-got.ensures.row in
+    subst (λ (ws : List ℕ). IsChanged l (number_in c.args.change.key) (node_of c.args.change.word) words ws) (sym after)
+    (record {
+      layer = end.1;
+      rest = end.2;
+      others = others l words row.words (acted l row.words (change_asks change)) c.turns.invariant.others (others_on l before (aim_of c.args.change) change row.words on);
+    })

@@ -1,0 +1,288 @@
+//! A set of a key that the tree doesn't have.
+
+ghost use Rattle.std.specs.Prelude.{◌≡◌, ◌≢◌, ◌+◌, ◌<◌, ◌≤◌, ◌^◌, slice_index};
+ghost use Rattle.radix_nodes.specs.Keys.{key_bytes};
+ghost use Rattle.radix_nodes.specs.Cells.{IsReference};
+ghost use Rattle.radix_nodes.specs.Making.{pair_of, prefix_word};
+ghost use Rattle.tree_change.specs.Begins.{spot_target};
+
+use crate::change::{Change, ChangeAt, Ended, NewCell, Site};
+use pm_words::{Machine, Turn};
+use radix_nodes::{Branch, Cell, FillCell, FillLeaf, Key, byte_set, larger, paired, prefix_of};
+use tree_change::{FindRoom, Finish, ReadCell, Room, Take, Taken, Target, TargetStore};
+use tree_floor::{KIND, byte_of};
+use tree_look::Spot;
+
+/// The kind of the largest cells, which have a place for each byte.
+const FORM_256: u64 = 5;
+
+/// The offset of the first child of form 256 and of the first word of form 48's index, and of form 48's first place.
+const FIRST: u64 = 8;
+
+const PLACES: u64 = 40;
+
+/// In an entry the branch byte stands above the reference.
+const ENTRY: u64 = 1 << 32;
+
+impl Change {
+    ghost use Rattle.std.specs.Prelude.{◌≡◌, ◌≢◌, ◌≤◌, ◌<◌};
+    ghost use Rattle.pm_words.specs.Turns.{AdvancesTo};
+    ghost use Rattle.pm_words.specs.Layouts.{IsLayout};
+    ghost use Rattle.pm_words.specs.Locations.{leaf_count};
+    ghost use Rattle.radix_nodes.specs.Fills.{fill_leaf_takes, fill_cell_takes};
+    ghost use Rattle.tree_law.specs.Words.{kind_of};
+    ghost use Rattle.tree_floor.specs.Floors.{IsCellOf};
+    ghost use Rattle.tree_look.specs.Looks.{IsSpot};
+    ghost use Rattle.tree_change.specs.Takes.{take_takes};
+    ghost use Rattle.tree_change.specs.FindRooms.{find_room_takes};
+    ghost use Rattle.tree_change.specs.Reads.{read_takes};
+    ghost use Rattle.tree_change.specs.Finishes.{IsMarked};
+    ghost use Rattle.tree_update.specs.Changes.{takes_leaf, fills_leaf, leaf_filled, finds_room, room_found};
+    ghost use Rattle.tree_update.specs.Changes.{reads_cell, wants_cell, takes_cell, fills_cell};
+    ghost use Rattle.tree_update.specs.Changes.{IsSite, IsFormRead, IsRoomFound};
+
+    pub(crate) fn takes_leaf(&mut self, take: Take, site: Site, got: u64) -> Option<Ended>
+        requires take { take_takes take got }
+        requires layout { take.layout ≡ self.old.layout }
+        requires word { self.old.word ≢ 0 }
+        requires most { self.old.word ≤ self.old.layout.nodes }
+        ensures { AdvancesTo (takes_leaf self.old take site got) self.new result }
+    {
+        match take.resume(got) {
+            Turn::Go(take) => self.goes_to(ChangeAt::TakingLeaf { take, site }),
+            Turn::Done(Taken::One { number }) => {
+                let fill = FillLeaf::new(self.layout, number, self.key, self.word - 1);
+                self.goes_to(ChangeAt::FillingLeaf { fill, site })
+            }
+            Turn::Done(Taken::Absent) => Some(Ended::NoRoom),
+        }
+    }
+
+    pub(crate) fn fills_leaf(&mut self, fill: FillLeaf, site: Site, got: u64) -> Option<Ended>
+        requires fill { fill_leaf_takes fill got }
+        requires layout { fill.layout ≡ self.old.layout }
+        requires site { IsSite self.old.layout self.old.key site }
+        ensures { AdvancesTo (fills_leaf self.old fill site got) self.new result }
+    {
+        match fill.resume(got) {
+            Turn::Go(fill) => self.goes_to(ChangeAt::FillingLeaf { fill, site }),
+            Turn::Done(()) => self.leaf_filled(fill.number, site),
+        }
+    }
+
+    /// The leaf is filled and durable.
+    fn leaf_filled(&mut self, leaf: u64, site: Site) -> Option<Ended>
+        requires layout { IsLayout self.old.layout }
+        requires leaf { leaf < leaf_count self.old.layout }
+        requires site { IsSite self.old.layout self.old.key site }
+        ensures { AdvancesTo (leaf_filled self.old leaf site) self.new result }
+    {
+        match site {
+            Site::Under { spot, cell, byte } => {
+                if cell / KIND == FORM_256 {
+                    let offset = FIRST + byte;
+                    return self.finishes(Target::Cell { cell, offset }, KIND + leaf, 0, 0);
+                }
+                let find = FindRoom::new(self.layout, cell, byte);
+                self.goes_to(ChangeAt::FindingRoom { find, spot, leaf })
+            }
+            Site::Beside {
+                spot,
+                reference,
+                depth,
+                byte,
+            } => {
+                let old = branch(byte, reference);
+                let new = branch(byte_of(self.key, depth), KIND + leaf);
+                let cell = pair(self.key, depth, old, new);
+                self.wants_cell(NewCell {
+                    cell,
+                    spot,
+                    free: 0,
+                })
+            }
+        }
+    }
+
+    pub(crate) fn finds_room(
+        &mut self,
+        find: FindRoom,
+        spot: Spot,
+        leaf: u64,
+        got: u64,
+    ) -> Option<Ended>
+        requires find { find_room_takes find got }
+        requires layout { find.layout ≡ self.old.layout }
+        requires form { kind_of find.cell ≤ 4 }
+        requires leaf { leaf < leaf_count self.old.layout }
+        ensures { AdvancesTo (finds_room self.old find spot leaf got) self.new result }
+    {
+        match find.resume(got) {
+            Turn::Go(find) => self.goes_to(ChangeAt::FindingRoom { find, spot, leaf }),
+            Turn::Done(room) => self.room_found(find, spot, leaf, room),
+        }
+    }
+
+    /// The look for room has found that.
+    fn room_found(&mut self, find: FindRoom, spot: Spot, leaf: u64, room: Room) -> Option<Ended>
+        requires layout { IsLayout self.old.layout }
+        requires cell { IsCellOf self.old.layout find.cell }
+        requires byte { find.byte < 256 }
+        requires leaf { leaf < leaf_count self.old.layout }
+        requires form { kind_of find.cell ≤ 4 }
+        requires room { IsRoomFound (kind_of find.cell) room }
+        ensures { AdvancesTo (room_found self.old find spot leaf room) self.new result }
+    {
+        let (cell, byte) = (find.cell, find.byte);
+        match room {
+            Room::Entry { offset } => {
+                let word = byte * ENTRY + (KIND + leaf);
+                self.finishes(Target::Cell { cell, offset }, word, 0, 0)
+            }
+            Room::Place { place, index } => {
+                let quiet = cell_store(cell, PLACES + place, KIND + leaf);
+                let word = byte_set(index, byte % 8, place + 1);
+                let switch = cell_store(cell, FIRST + byte / 8, word);
+                let finish = Finish::with_quiet(self.layout, quiet, switch);
+                self.goes_to(ChangeAt::Finishing { finish })
+            }
+            Room::Full => {
+                let read = ReadCell::new(self.layout, cell);
+                self.goes_to(ChangeAt::ReadingCell {
+                    read,
+                    spot,
+                    byte,
+                    leaf,
+                })
+            }
+        }
+    }
+
+    pub(crate) fn reads_cell(
+        &mut self,
+        read: ReadCell,
+        spot: Spot,
+        byte: u64,
+        leaf: u64,
+        got: u64,
+    ) -> Option<Ended>
+        requires read { read_takes read got }
+        requires layout { read.layout ≡ self.old.layout }
+        requires form { IsFormRead read }
+        requires byte { byte < 256 }
+        requires leaf { leaf < leaf_count self.old.layout }
+        ensures { AdvancesTo (reads_cell self.old read spot byte leaf got) self.new result }
+    {
+        match read.resume(got) {
+            Turn::Go(read) => self.goes_to(ChangeAt::ReadingCell {
+                read,
+                spot,
+                byte,
+                leaf,
+            }),
+            Turn::Done(cell) => self.wants_cell(NewCell {
+                cell: larger(&cell, byte as u8, KIND + leaf),
+                spot,
+                free: read.reference,
+            }),
+        }
+    }
+
+    /// It takes a cell, which is to have these words.
+    fn wants_cell(&mut self, new: NewCell) -> Option<Ended>
+        requires layout { IsLayout self.old.layout }
+        requires low { 2 ≤ new.cell.kind }
+        requires high { new.cell.kind ≤ 5 }
+        ensures { AdvancesTo (wants_cell self.old new) self.new result }
+    {
+        let take = Take::new(self.layout, new.cell.kind);
+        self.goes_to(ChangeAt::TakingCell { take, new })
+    }
+
+    pub(crate) fn takes_cell(&mut self, take: Take, new: NewCell, got: u64) -> Option<Ended>
+        requires take { take_takes take got }
+        requires layout { take.layout ≡ self.old.layout }
+        requires kind { (2 ≤ new.cell.kind) × (new.cell.kind ≤ 5) }
+        ensures { AdvancesTo (takes_cell self.old take new got) self.new result }
+    {
+        match take.resume(got) {
+            Turn::Go(take) => self.goes_to(ChangeAt::TakingCell { take, new }),
+            Turn::Done(Taken::One { number }) => {
+                let fill = FillCell::new(self.layout, number, new.cell);
+                self.goes_to(ChangeAt::FillingCell {
+                    fill,
+                    spot: new.spot,
+                    free: new.free,
+                })
+            }
+            Turn::Done(Taken::Absent) => Some(Ended::NoRoom),
+        }
+    }
+
+    pub(crate) fn fills_cell(
+        &mut self,
+        fill: FillCell,
+        spot: Spot,
+        free: u64,
+        got: u64,
+    ) -> Option<Ended>
+        requires fill { fill_cell_takes fill got }
+        requires layout { fill.layout ≡ self.old.layout }
+        requires spot { IsSpot self.old.layout spot }
+        requires free { free ≢ 0 → IsMarked self.old.layout free }
+        ensures { AdvancesTo (fills_cell self.old fill spot free got) self.new result }
+    {
+        match fill.resume(got) {
+            Turn::Go(fill) => self.goes_to(ChangeAt::FillingCell { fill, spot, free }),
+            Turn::Done(()) => {
+                let reference = fill.cell.kind * KIND + fill.number;
+                self.finishes(spot_target(spot), spot.high + reference, free, 0)
+            }
+        }
+    }
+}
+
+/// The cell of form 4 for two children that part at this depth of the key.
+fn pair(key: Key, depth: u64, old: Branch, new: Branch) -> Cell
+    requires depth { depth < key_bytes }
+    requires apart { old.byte ≢ new.byte }
+    requires old { IsReference old.reference }
+    requires new { IsReference new.reference }
+    ensures { result ≡ pair_of depth (prefix_word depth (slice_index key)) old new }
+{
+    paired(depth, prefix_of(&key, depth), old, new)
+}
+
+/// A child of a cell.
+fn branch(byte: u64, reference: u64) -> Branch
+    requires { byte < 256 }
+    ensures { result ≡ record { byte = byte; reference = reference } }
+{
+    Branch {
+        byte: byte as u8,
+        reference,
+    }
+}
+
+/// A store of a word of a cell.
+fn cell_store(cell: u64, offset: u64, word: u64) -> TargetStore
+    ensures { result ≡ record { target = Target.Cell cell offset; word = word } }
+{
+    TargetStore {
+        target: Target::Cell { cell, offset },
+        word,
+    }
+}
+
+/// Where a spot's word is.
+pub(crate) fn spot_target(spot: Spot) -> Target
+    ensures { result ≡ spot_target spot }
+{
+    if spot.cell == 0 {
+        return Target::Root;
+    }
+    Target::Cell {
+        cell: spot.cell,
+        offset: spot.offset,
+    }
+}
