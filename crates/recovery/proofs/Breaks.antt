@@ -3,14 +3,13 @@ use Rattle.std.proofs.Common.{◌≡◌, ℕ, suc, ◌+◌, ◌≤◌, ◌⊎◌
 use Rattle.pm_words.specs.declared.layout.Layout.{Layout}
 use Rattle.pm_words.specs.Images.{Row}
 use Rattle.pm_words.specs.Rows.{durable_row}
-use Rattle.image_rules.specs.Rules.{header_generation}
 use Rattle.image_recovery.specs.declared.making.Making.{Making}
 use Rattle.image_recovery.specs.declared.stepping.Recovery.{Recovery as Moves}
 use Rattle.image_recovery.specs.Recovered.{IsLeftOf}
 use Rattle.image_recovery.specs.Recoveries.{IsRecovering, IsRecoveringAt, moves_left}
 use Rattle.image_recovery.proofs.CrashLemmas.{stop_leaves_sound}
 use Rattle.recovery.specs.declared.stopping.Recovery.{Recovery}
-use Rattle.recovery.specs.Stops.{IsRecoveryOf, IsLeftBy, IsBroken, whole, again, IsAsGood, BrokenAreAsGood, crash_of}
+use Rattle.recovery.specs.Stops.{IsRecoveryOf, IsLeftBy, whole, again, IsAsGood, BrokenAreAsGood, crash_of}
 
 -- the rows are of the image's layout
 pub recovering_layout : (image : Row) (moves : Moves) (row : Row) → IsRecovering image moves row → row.layout ≡ image.layout

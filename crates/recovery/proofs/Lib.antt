@@ -1,4 +1,5 @@
 pub mod NodeMarks
+pub mod Orders
 pub mod Opened
 pub mod Crashed
 pub mod Breaks

@@ -1,5 +1,5 @@
 -- How the volatile words of a row come to tell its list, node by node.
-use Rattle.std.proofs.Common.{◌≡◌, ◌≢◌, ℕ, suc, ◌+◌, ◌^◌, ◌<◌, ◌≤◌, List, [], ◌∷◌, length, length-set, slice_set, inl, inr, ⊎_elim, refl, sym, ap, ◌∙◌, subst, arith}
+use Rattle.std.proofs.Common.{◌≡◌, ◌≢◌, ℕ, suc, ◌+◌, ◌^◌, ◌<◌, ◌≤◌, ◌⊎◌, List, [], ◌∷◌, length, length-set, slice_set, inl, inr, ⊎_elim, refl, sym, ap, ◌∙◌, subst, arith}
 use Rattle.std.specs.List.{AllByRecursion}
 use Rattle.std.proofs.lemmas.Bool.{cases_eq}
 use Rattle.pm_words.specs.Codes.{live_status}
@@ -30,8 +30,8 @@ module _ (l : Layout) (words : List ℕ) (node prev : ℕ) (whole : length words
 
   pub tell_beside : (p : Location) → HasLocation l p → (IsNodeMark p → ⊥) → at l after p ≡ at l words p
   tell_beside p has beside = tell_other p has
-      (λ e. beside (subst IsNodeMark (sym e) (let low : 0 < 2 = omega arith in low)))
-      (λ e. beside (subst IsNodeMark (sym e) (let low : 1 < 2 = omega arith in low)))
+      (λ e. beside (subst IsNodeMark (sym e) (let low : 0 < 2 = omega arith in inl low)))
+      (λ e. beside (subst IsNodeMark (sym e) (let low : 1 < 2 = omega arith in inl low)))
 
   pub tell_status : at l after (Volatile node 0) ≡ live_status
   tell_status =
@@ -177,13 +177,17 @@ module _ (l : Layout) (words : List ℕ) (untold : IsUntold l words) where
     free = λ n here_n unlisted. told.dark n here_n (λ listed. absurd (unlisted listed));
     back = told.back (λ n. at l now (Volatile n 1)) (λ n here_n none. refl) (subst (LeadBack (λ n. at l now (Volatile n 1)) here) (sym none) tt);
     none = λ n here_n unlisted. told.bare n here_n (λ listed. absurd (unlisted listed));
-    stamps = λ n here_n. told.beside (Volatile n 2) (here_n, omega arith) (λ (low : 2 < 2). omega arith) ∙ untold.zero (Volatile n 2) (here_n, omega arith) (omega arith);
+    stamps = λ n here_n. told.beside (Volatile n 2) (here_n, omega arith) (other_word 2 refl) ∙ untold.zero (Volatile n 2) (here_n, omega arith) (omega arith);
     clock = told.beside Clock tt (λ mark. mark) ∙ untold.zero Clock tt (omega arith);
     updater = told.beside Updater tt (λ mark. mark) ∙ untold.zero Updater tt (omega arith);
   }
     where
       no_member : (n : ℕ) → IsMember left n → ⊥
       no_member n among = subst (λ (ms : List ListNode). IsMember ms n) none among
+
+      other_word : (o : ℕ) → o ≡ 2 → (o < 2) ⊎ (o ≡ 3) → ⊥
+      other_word o two (inl low) = omega arith
+      other_word o two (inr three) = omega arith
 
   -- the last node leads to none
   pub ends_telling : (now : List ℕ) (here position : ℕ) → IsTelling l words now here position → spot_in l now here next_offset ≡ 0 → TellsList l list now × KeepsBeside l words now × IsRow l now

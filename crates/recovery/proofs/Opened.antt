@@ -44,7 +44,7 @@ use Rattle.index_core.proofs.Opening.{opening_is_index, opening_is_unused}
 use Rattle.image_recovery.specs.Plans.{columns, list_of}
 use Rattle.image_recovery.specs.Recovered.{IsRecoveredTo}
 use Rattle.recovery.specs.Opened.{IsOpenedFrom}
-use Rattle.recovery.specs.Tellings.{IsUntold, KeepsBeside}
+use Rattle.recovery.specs.Tellings.{HaveNoOrders, IsUntold, KeepsBeside}
 
 -- what a list of nodes makes is the list that is read off the words
 read_list : (l : Layout) (words : List ℕ) (list : List ListNode) → MakeList l.nodes (spot_in l words) list → list_in l words ≡ list
@@ -88,7 +88,7 @@ module _ (from row : Row) (recovered : IsRecoveredTo from row) where
   })
 
   -- Once the volatile words tell the list, they are those of an index.
-  module _ (words : List ℕ) (tells : TellsList row.layout (list_in row.layout row.words) words) (beside : KeepsBeside row.layout row.words words) (is_row : IsRow row.layout words)
+  module _ (words : List ℕ) (tells : TellsList row.layout (list_in row.layout row.words) words) (orders : HaveNoOrders row.layout words) (beside : KeepsBeside row.layout row.words words) (is_row : IsRow row.layout words)
       (base : List Pair) (pairs : base ≡ pairs_of (image_map from.layout from.words)) (keeps : image.IsMapOf from.layout from.words (map_of base)) where
     beside_here : KeepsBeside l row.words words
     beside_here = subst (λ (m : Layout). KeepsBeside m row.words words) recovered.layout beside
@@ -166,6 +166,7 @@ module _ (from row : Row) (recovered : IsRecoveredTo from row) where
           anchors = unused.anchors;
           rests = is_opening.rests;
           tells = is_opening.tells;
+          orders = subst (λ (m : Layout). HaveNoOrders m words) recovered.layout orders;
           weighs = weighs;
           gone = unused.gone;
           stamps = unused.stamps;
@@ -189,6 +190,7 @@ with_room from s room is = record {
   anchors = is.anchors;
   rests = is.rests;
   tells = is.tells;
+  orders = is.orders;
   weighs = is.weighs;
   gone = is.gone;
   stamps = is.stamps;

@@ -1,6 +1,6 @@
 -- How the volatile words of a recovered image come to tell its list.
-use Rattle.std.specs.Prelude.{◌≡◌, ℕ, ◌<◌, List}
-use Rattle.pm_words.specs.Codes.{live_status}
+use Rattle.std.specs.Prelude.{◌≡◌, ℕ, ◌<◌, ◌⊎◌, List}
+use Rattle.pm_words.specs.Codes.{live_status, no_permutation}
 use Rattle.pm_words.specs.declared.layout.Layout.{Layout}
 use Rattle.pm_words.specs.declared.action.Action.TheVariants.{Store}
 use Rattle.pm_words.specs.Images.{Row}
@@ -16,12 +16,12 @@ pub record IsUntold (l : Layout) (words : List ℕ) : Type 0 where
   pub makes : MakeList l.nodes (spot_in l words) (list_in l words)
   pub zero : (p : Location) → HasLocation l p → IsVolatile p → at l words p ≡ 0
 
--- The status of a node, or its prev.
+-- The status of a node, or its prev, or the version of its permutation.
 abbrev pub IsNodeMark : Location → Type 0
-IsNodeMark (Volatile n offset) = offset < 2
+IsNodeMark (Volatile n offset) = (offset < 2) ⊎ (offset ≡ 3)
 IsNodeMark _ = ⊥
 
--- No word but statuses and prevs has changed.
+-- No word but these has changed.
 abbrev pub KeepsBeside : Layout → List ℕ → List ℕ → Type 0
 KeepsBeside l words after = (p : Location) → HasLocation l p → (IsNodeMark p → ⊥) → at l after p ≡ at l words p
 
@@ -32,3 +32,15 @@ told_words l words node prev =
 
 abbrev pub told_node : Row → ℕ → ℕ → Row
 told_node row node prev = record row { words = told_words row.layout row.words node prev }
+
+-- No node has a permutation, listed or not.
+abbrev pub HaveNoOrders : Layout → List ℕ → Type 0
+HaveNoOrders l words = (n : ℕ) → n < l.nodes → at l words (Volatile n 3) ≡ no_permutation
+
+abbrev pub IsOrder : Location → Type 0
+IsOrder (Volatile n offset) = offset ≡ 3
+IsOrder _ = ⊥
+
+-- No word but the versions of permutations has changed.
+abbrev pub KeepsButOrders : Layout → List ℕ → List ℕ → Type 0
+KeepsButOrders l words after = (p : Location) → HasLocation l p → (IsOrder p → ⊥) → at l after p ≡ at l words p

@@ -5,15 +5,29 @@ ghost use Rattle.pm_words.specs.Rows.{IsRow};
 ghost use Rattle.data_node.specs.Lists.{next_offset};
 ghost use Rattle.index_law.specs.Facts.{list_in, spot_in};
 ghost use Rattle.index_opening_law.specs.Openings.{TellsList};
-ghost use Rattle.recovery.specs.Tellings.{IsUntold, KeepsBeside, told_node};
+ghost use Rattle.recovery.specs.Tellings.{HaveNoOrders, IsUntold, KeepsBeside, KeepsButOrders, told_node};
 
 use pm_words::Memory;
+use pm_words::codes::permutation;
 use pm_words::codes::status::LIVE;
 use pm_words::offsets::{node, volatile};
 
 /// Makes the volatile words tell the list that the nodes make: its nodes are LIVE, and the prev of each is the node
-/// before it. No other word changes.
+/// before it, and no node has a permutation. No other word changes.
 pub(crate) fn tell_list(memory: &mut Memory)
+    requires untold { IsUntold memory.old.layout memory.old.words }
+    ensures layout { memory.new.layout ≡ memory.old.layout }
+    ensures tells { TellsList memory.old.layout (list_in memory.old.layout memory.old.words) memory.new.words }
+    ensures orders { HaveNoOrders memory.old.layout memory.new.words }
+    ensures beside { KeepsBeside memory.old.layout memory.old.words memory.new.words }
+    ensures row { IsRow memory.old.layout memory.new.words }
+{
+    tell_marks(memory);
+    tell_orders(memory);
+}
+
+/// Makes the nodes of the list LIVE, and the prev of each the node before it.
+fn tell_marks(memory: &mut Memory)
     requires untold { IsUntold memory.old.layout memory.old.words }
     ensures layout { memory.new.layout ≡ memory.old.layout }
     ensures tells { TellsList memory.old.layout (list_in memory.old.layout memory.old.words) memory.new.words }
@@ -30,6 +44,20 @@ pub(crate) fn tell_list(memory: &mut Memory)
         }
         tell_node(memory, next, node);
         node = next;
+    }
+}
+
+/// Tells of each node, listed or not, that it has no permutation.
+fn tell_orders(memory: &mut Memory)
+    ensures layout { memory.new.layout ≡ memory.old.layout }
+    ensures orders { HaveNoOrders memory.old.layout memory.new.words }
+    ensures beside { KeepsButOrders memory.old.layout memory.old.words memory.new.words }
+    ensures row { IsRow memory.old.layout memory.new.words }
+{
+    let layout = memory.layout();
+    for node in 0..layout.nodes() {
+        let address = layout.node_volatile(node, volatile::PERMUTATION_VERSION);
+        memory.store(address, permutation::NONE);
     }
 }
 

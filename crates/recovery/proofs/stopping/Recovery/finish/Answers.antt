@@ -18,7 +18,7 @@ opened-requires-clause-index c =
     let is = c.requires.going.is in
     let recovered = end_is_recovered image r.moves r.memory is.recoverable is.recovering c.requires.done in
     let told = c.tell_list.ensures in
-    let opened = opens image r.memory recovered c.tell_list.new.memory.words told.tells told.beside told.row r.base is.base is.keeps is.sound is.next in
+    let opened = opens image r.memory recovered c.tell_list.new.memory.words told.tells told.orders told.beside told.row r.base is.base is.keeps is.sound is.next in
     subst IsIndex (sym (same_index c.tell_list.new.memory image.layout r.base r.history.items (told.layout ∙ is.layout) is.history)) opened.index
 
 pub returns : goal.returns
@@ -26,6 +26,6 @@ returns c = λ image is.
     let r = c.args.self in
     let recovered = end_is_recovered image r.moves r.memory is.recoverable is.recovering c.requires.done in
     let told = c.tell_list.ensures in
-    let opened = opens image r.memory recovered c.tell_list.new.memory.words told.tells told.beside told.row r.base is.base is.keeps is.sound is.next in
+    let opened = opens image r.memory recovered c.tell_list.new.memory.words told.tells told.orders told.beside told.row r.base is.base is.keeps is.sound is.next in
     let same = same_index c.tell_list.new.memory image.layout r.base r.history.items (told.layout ∙ is.layout) is.history in
     subst (IsOpenedFrom image) (sym (c.opened.ensures.same ∙ ap (λ (s : Index). record s { spare = c.opened.result.spare }) same)) (with_room image _ c.opened.result.spare opened)
