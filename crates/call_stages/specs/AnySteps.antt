@@ -1,10 +1,10 @@
--- All steps of a party: those on nodes, and those beside them, on words of log lines, on prevs and of the search layer,
--- which say nothing of nodes.
-use Rattle.std.specs.Prelude.{◌≡◌, ℕ, ◌<◌, ◌^◌, Option, None}
+-- All steps of a party: those on nodes, and those beside them, on words of log lines, on prevs, on permutations and of
+-- the search layer, which say nothing of nodes.
+use Rattle.std.specs.Prelude.{◌≡◌, ℕ, ◌<◌, ◌≤◌, ◌^◌, ◌⊎◌, Option, None}
 use Rattle.pm_words.specs.declared.layout.Layout.{Layout}
 use Rattle.pm_words.specs.declared.action.Action.{Action}
 use Rattle.pm_words.specs.declared.action.Action.TheVariants.{Load, Store, Drain}
-use Rattle.pm_words.specs.Locations.{Leaf, Cached, leaf_count, address_of}
+use Rattle.pm_words.specs.Locations.{Leaf, Cached, Volatile, leaf_count, address_of}
 use Rattle.call_stages.specs.declared.once.Once.{Once}
 use Rattle.call_stages.specs.declared.once.Placed.{Placed}
 use Rattle.call_stages.specs.Stages.{Stage, counted}
@@ -22,8 +22,21 @@ HasLeafWord l leaf offset = (leaf < leaf_count l) × (offset < 8)
 abbrev pub leaf_address : Layout → ℕ → ℕ → ℕ
 leaf_address l leaf offset = address_of l (Cached (Leaf leaf offset))
 
--- An action on a word of a log line, the store of a prev, or the load of a word of the search layer, which says nothing
--- that a call could rely on.
+-- The offset, among a node's volatile words, of its permutation's version, or of one of its eight words.
+abbrev pub IsOfPermutation : ℕ → Type 0
+IsOfPermutation offset = (offset ≡ 3) ⊎ ((8 ≤ offset) × (offset < 16))
+
+abbrev pub volatile_address : Layout → ℕ → ℕ → ℕ
+volatile_address l n offset = address_of l (Volatile n offset)
+
+-- A load or a store of a permutation.
+pub data IsOnPermutation (l : Layout) : Action → Type 0 where
+  loads : {n offset : ℕ} → n < l.nodes → IsOfPermutation offset → IsOnPermutation l (Load (volatile_address l n offset))
+  stores : {n offset y : ℕ} → n < l.nodes → IsOfPermutation offset → y < 2 ^ 64 →
+      IsOnPermutation l (Store (volatile_address l n offset) y)
+
+-- An action on a word of a log line or of a permutation, the store of a prev, or the load of a word of the search layer,
+-- which says nothing that a call could rely on.
 pub data IsBeside (l : Layout) : Action → Type 0 where
   loads_line : {c j offset : ℕ} → HasLineWord l c j offset → IsBeside l (Load (line_address l c j offset))
   stores_line : {c j offset y : ℕ} → HasLineWord l c j offset → y < 2 ^ 64 →
@@ -32,6 +45,7 @@ pub data IsBeside (l : Layout) : Action → Type 0 where
       IsBeside l (Drain (line_address l c j offset) y)
   stores_prev : {n y : ℕ} → n < l.nodes → y < 2 ^ 64 → IsBeside l (Store (prev_address l n) y)
   loads_leaf : {leaf offset : ℕ} → HasLeafWord l leaf offset → IsBeside l (Load (leaf_address l leaf offset))
+  on_permutation : {action : Action} → IsOnPermutation l action → IsBeside l action
 
 -- A step on nodes, or one beside them of a party that isn't about to count a change. That one leaves its stage.
 pub data AnyStep (l : Layout) (g : ℕ) : Stage → Action → ℕ → Stage → Option (Once Placed) → Type 0 where

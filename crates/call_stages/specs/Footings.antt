@@ -1,5 +1,5 @@
--- All that a party has at a moment, and the steps that it makes: on nodes, on its log line, the stores of prevs, and the
--- loads of words of the search layer.
+-- All that a party has at a moment, and the steps that it makes: on nodes, on its log line, the stores of prevs, the loads
+-- of words of the search layer, and the loads and stores of permutations.
 use Rattle.std.specs.Prelude.{◌≡◌, ◌≢◌, ℕ, ◌⊎◌, true, false, [], ◌∷◌, Option, Some, None, IfSome}
 use Rattle.pm_words.specs.declared.layout.Layout.{Layout}
 use Rattle.pm_words.specs.declared.action.Action.{Action}
@@ -13,7 +13,7 @@ use Rattle.call_stages.specs.Stages.{Held, Grip, Filling, Linked, Gathered, Join
 use Rattle.call_stages.specs.Stages.{IsSwitched, Tells, counted}
 use Rattle.call_stages.specs.Kinds.{Step}
 use Rattle.call_stages.specs.Lines.{HeldLine, Notes}
-use Rattle.call_stages.specs.AnySteps.{HasLeafWord, leaf_address, IsBeside}
+use Rattle.call_stages.specs.AnySteps.{HasLeafWord, leaf_address, IsOnPermutation, IsBeside}
 use Rattle.call_stages.specs.Prevs.{Debt, Deals, Prevs}
 
 -- The stage of its call, its log line, and what it knows and owes of prevs.
@@ -115,6 +115,13 @@ pub data FootStep (l : Layout) (g c : ℕ) : Footing → Action → ℕ → Foot
   on_layer : {stage : Stage} {line : Option HeldLine} {debt : Debt} {leaf offset x : ℕ} →
       counted stage ≡ None → HasLeafWord l leaf offset →
       FootStep l g c (record { stage = stage; line = line; debt = debt }) (Load (leaf_address l leaf offset)) x (record {
+        stage = stage;
+        line = line;
+        debt = debt;
+      }) None
+  on_permutation : {stage : Stage} {line : Option HeldLine} {debt : Debt} {action : Action} {x : ℕ} →
+      counted stage ≡ None → IsOnPermutation l action →
+      FootStep l g c (record { stage = stage; line = line; debt = debt }) action x (record {
         stage = stage;
         line = line;
         debt = debt;

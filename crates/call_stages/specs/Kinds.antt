@@ -432,6 +432,11 @@ pub data Step (l : Layout) (g : ℕ) : Stage → Action → ℕ → Stage → Op
   locks : {n v w x : ℕ} {k : Sight} {name : List ℕ} → x ≡ v → IsName name → k.live ≡ true →
       ((s t : Spot) → Sees k s t → IsBetween s t (key_of name)) →
       Step l g (Saw n v w k) (Exchange (version_address l n) v w) x (Holds n w (just_held name)) None
+  -- it took no lock so far, and locks the node at which its walk is, from which one can still be taken
+  locks_read : {n v w x : ℕ} {k : Sight} {name : List ℕ} → x ≡ v → IsName name → k.live ≡ true →
+      ((s t : Spot) → Sees k s t → IsBetween s t (key_of name)) → (IsWorn v g → ⊥) →
+      w ≡ locked_word g (kept_count v g) → w < 2 ^ 64 →
+      Step l g (Reads n v k None) (Exchange (version_address l n) v w) x (Holds n w (just_held name)) None
   -- it stores a word that changes nothing of what the node means, whichever of its earlier stores are durable yet
   stores : {n w x y offset : ℕ} {h : Held} {k : Known} {dirty : List (ℕ × ℕ)} → HasWordAt l n offset →
       IsContent offset → y < 2 ^ 64 → IsClean h →

@@ -11,7 +11,7 @@ use Rattle.pm_words.specs.Locations.{Line, Leaf, Volatile, Cached}
 use Rattle.pm_words.specs.Rows.{MayName}
 use Rattle.pm_words.proofs.Apart.{addresses_within}
 use Rattle.pm_words.proofs.Kept.{outside_header, keeps_header, names_cached}
-use Rattle.call_stages.specs.AnySteps.{IsBeside, loads_line, stores_line, drains_line, stores_prev, loads_leaf}
+use Rattle.call_stages.specs.AnySteps.{IsOfPermutation, IsOnPermutation, loads, stores, IsBeside, loads_line, stores_line, drains_line, stores_prev, loads_leaf, on_permutation}
 use Rattle.index_law.specs.AnySteps.{MayDo}
 use Rattle.index_law.proofs.Actions.{may_name}
 use Rattle.call_stages.specs.declared.once.Once.{Once}
@@ -114,6 +114,16 @@ free_states states quiet numbers = record {
   debts = λ i d at. let from = map_from debt_of states i d at in sym from.2 ∙ ap (λ (o : Option Running). (machine_footing o).debt) (quiet i from.0 from.1);
 }
 
+past : (offset : ℕ) → IsOfPermutation offset → offset < 16
+past offset (inl version) = omega arith
+past offset (inr word) = word.1
+
+-- a load or a store of a permutation names a place that an action may name
+permutation_names : (l : Layout) {action : Action} → IsOnPermutation l action → MayName l action
+permutation_names l (loads {n = n} {offset = offset} here of) = addresses_within l (Volatile n offset) (here, past offset of)
+permutation_names l (stores {n = n} {offset = offset} here of fits) =
+    (addresses_within l (Volatile n offset) (here, past offset of), outside_header l (Volatile n offset) (here, past offset of) (λ k lt. (λ e. cc, λ e. cc)))
+
 -- what a party may do at its stage names a place that an action may name
 pub may_do_names : (l : Layout) (stage : Stage) (action : Action) → MayDo l stage action → MayName l action
 may_do_names l stage action (inl allowed) = may_name l stage action allowed
@@ -125,3 +135,4 @@ may_do_names l stage action (inr is) = beside is
     beside (drains_line {c = c} {j = j} {offset = offset} {y = y} has fits) = (names_cached l (Line c j offset) has, keeps_header l (Line c j offset) y has (λ k lt e. cc))
     beside (stores_prev {n = n} here fits) = (addresses_within l (Volatile n 1) (here, omega arith), outside_header l (Volatile n 1) (here, omega arith) (λ k lt. (λ e. cc, λ e. cc)))
     beside (loads_leaf {leaf = leaf} {offset = offset} has) = addresses_within l (Cached (Leaf leaf offset)) has
+    beside (on_permutation on) = permutation_names l on

@@ -63,6 +63,7 @@ module _ {l : Layout} {g : ℕ} (f : Facts) (caller index : ℕ) where
   pub step_frees_none : {s : Stage} {a : Action} {x : ℕ} {t : Stage} {r : Option (Once Placed)} → (k : Step l g s a x t r) → (n : ℕ) → (fact_after k f caller index).status n ≡ free_status → f.status n ≡ free_status
   step_frees_none (kinds.looks look) n is = is
   step_frees_none (kinds.locks same named live between) n is = is
+  step_frees_none (kinds.locks_read same named live between unworn taken small) n is = is
   step_frees_none (kinds.stores has content small clean soils learnt means) n is = is
   step_frees_none (kinds.commits has content small clean durable soiled old about learnt means) n is = is
   step_frees_none (kinds.drains has small unready hand cleans) n is = is

@@ -10,7 +10,7 @@ use Rattle.call_stages.specs.declared.once.Placed.{Placed}
 use Rattle.call_stages.specs.Stages.{Held, Stage, Idle, Saw, Wears, Reads, Holds, Eyes, Splits, Leaves, Meets, Joins, IsLoose}
 use Rattle.call_stages.specs.AnySteps.{AnyStep, on_nodes, beside}
 use Rattle.index_law.proofs.Moves.{read_before}
-use Rattle.call_stages.specs.Kinds.{IsClean, Look, turns_back, is_worn, wears, roams, roams_status, sees, misses, times, learns, decides, glances, reads_on, finds_live, watches, watches_next, turns_away, steps_back, wanders, fills, lights, switches, glances_left, glances_fresh, drains_left, drains_fresh, trims, splits, meets, knows_own, knows_right, copies, takes_up, puts_down, parts, gathers, joins, glances_joined, drains_joined, retires, yields, merges, peeks, peeks_status, eyes, eyes_free, passes, loses, claims, publishes, leaves, Answers, writes, reads, is_spent, has_no_room, refuses, Step, looks, locks, stores, commits, drains, counts, unlocks}
+use Rattle.call_stages.specs.Kinds.{IsClean, Look, turns_back, is_worn, wears, roams, roams_status, sees, misses, times, learns, decides, glances, reads_on, finds_live, watches, watches_next, turns_away, steps_back, wanders, fills, lights, switches, glances_left, glances_fresh, drains_left, drains_fresh, trims, splits, meets, knows_own, knows_right, copies, takes_up, puts_down, parts, gathers, joins, glances_joined, drains_joined, retires, yields, merges, peeks, peeks_status, eyes, eyes_free, passes, loses, claims, publishes, leaves, Answers, writes, reads, is_spent, has_no_room, refuses, Step, looks, locks, locks_read, stores, commits, drains, counts, unlocks}
 use Rattle.index_law.specs.Weights.{AddsName}
 use Rattle.index_core.specs.MachineLaws.{shown_by, shows}
 
@@ -127,6 +127,7 @@ module _ {l : Layout} {g : ℕ} where
   node_shows : {s : Stage} {a : Action} {x : ℕ} {t : Stage} {r : Option (Once Placed)} → Step l g s a x t r → shows s ≤ shows t + told_new r
   node_shows (looks look) = look_shows look
   node_shows (locks same named live between) = omega arith
+  node_shows (locks_read same named live between unworn taken small) = omega arith
   node_shows (stores {h = h} has positive small clean soils knows means) = let none = clean_shows h clean in omega arith
   node_shows (commits {h = h} has positive small clean durable soiled old about knows means) = let none = clean_shows h clean in omega arith
   node_shows (drains has small unready hand cleans) = omega arith

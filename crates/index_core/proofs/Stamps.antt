@@ -1,5 +1,5 @@
 -- Which steps leave the stamps of nodes: those of calls.
-use Rattle.std.proofs.Common.{◌≡◌, ℕ, ◌<◌, inl, inr, List, slice_set, sym, ap, subst, arith}
+use Rattle.std.proofs.Common.{◌≡◌, ℕ, ◌<◌, inl, inr, List, slice_set, sym, ap, subst, arith, ◌∙◌}
 use Rattle.std.specs.Prelude.{Option, IfSome, Some}
 use Rattle.std.proofs.lemmas.List.{set-get_or}
 use mathlib.Core.Option.{some}
@@ -11,7 +11,7 @@ use Rattle.pm_words.specs.Rows.{acted}
 use Rattle.pm_words.proofs.Apart.{at-set_other}
 use Rattle.pm_words.proofs.Kept.{action_address-drain}
 use Rattle.call_stages.specs.Stages.{Stage}
-use Rattle.call_stages.specs.AnySteps.{leaf_address, IsBeside, loads_line, stores_line, drains_line, stores_prev, loads_leaf}
+use Rattle.call_stages.specs.AnySteps.{leaf_address, IsBeside, loads_line, stores_line, drains_line, stores_prev, loads_leaf, on_permutation}
 use Rattle.call_stages.specs.Lines.{line_address}
 use Rattle.node_ops.specs.declared.running.Running.{Running}
 use Rattle.node_ops.specs.RunningSteps.{Sound, running_asks}
@@ -19,6 +19,7 @@ use Rattle.node_ops.specs.CallStages.{stage_of}
 use Rattle.index_law.specs.AnySteps.{MayDo}
 use Rattle.index_law.specs.Lawful.{Sure}
 use Rattle.index_law.specs.Worlds.{facts}
+use Rattle.index_law.proofs.AnySteps.{stored_word}
 use Rattle.index_law.proofs.Beside.{nodes_leave_others}
 use Rattle.index_law.proofs.Own.{sure_within}
 use Rattle.updater_row_law.specs.Columns.{volatile_field}
@@ -34,7 +35,7 @@ abbrev offset_of : Location → ℕ
 offset_of (Volatile n offset) = offset
 offset_of _ = 0
 
--- what a call does on log lines and on prevs leaves a stamp
+-- what a call does on log lines, prevs and permutations leaves a stamp
 beside_leaves_stamp : (l : Layout) (words : List ℕ) (n : ℕ) → n < l.nodes → {a : Action} → IsBeside l a → at l (acted l words a) (Volatile n 2) ≡ at l words (Volatile n 2)
 beside_leaves_stamp l words n here (loads_line {c = c} {j = j} {offset = o} has) = ap (λ (v : List ℕ). at l v (Volatile n 2)) (set-get_or words (line_address l c j o) 0)
 beside_leaves_stamp l words n here (stores_line {c = c} {j = j} {offset = o} {y = y} has small) = at-set_other l words (Cached (Line c j o)) (Volatile n 2) y has (here, omega arith) (λ e. cc)
@@ -44,6 +45,11 @@ beside_leaves_stamp l words n here (drains_line {c = c} {j = j} {offset = o} {y 
 beside_leaves_stamp l words n here (stores_prev {n = m} {y = y} within small) =
     at-set_other l words (Volatile m 1) (Volatile n 2) y (within, omega arith) (here, omega arith) (λ e. let no : 2 ≡ 1 = ap offset_of e in omega arith)
 beside_leaves_stamp l words n here (loads_leaf {leaf = leaf} {offset = offset} has) = ap (λ (v : List ℕ). at l v (Volatile n 2)) (set-get_or words (leaf_address l leaf offset) 0)
+beside_leaves_stamp l words n here {a = a} (on_permutation on) =
+    let at_word = stored_word l words a on in
+    let least = at_word.least in
+    ap (λ (v : List ℕ). at l v (Volatile n 2)) at_word.is
+    ∙ at-set_other l words (Volatile at_word.node at_word.offset) (Volatile n 2) at_word.word (at_word.here, at_word.most) (here, omega arith) (λ e. let no : 2 ≡ at_word.offset = ap offset_of e in omega arith)
 
 -- so whatever a call may do leaves all of them
 may_leaves_stamps : (l : Layout) (words : List ℕ) (s : Stage) (a : Action) → MayDo l s a → volatile_field l (acted l words a) 2 ≡ volatile_field l words 2

@@ -23,7 +23,7 @@ use Rattle.call_stages.specs.Kinds.{Told, HasWordAt, clock_address, word_address
 use Rattle.index_law.specs.Facts.{Facts, IsListed, facts_of, version_in}
 use Rattle.index_law.specs.Worlds.{World, facts}
 use Rattle.index_law.specs.Lawful.{AreLive, IsList, Sure, SureSaw, SureHolds, SureMeets}
-use Rattle.index_law.specs.Laws.{Allowed, loads_clock, loads_word, loads_status, loads_prev, exchanges, stores_word, stores_status, drains_word, adds, claims_node, frees_fresh, frees_left, frees_met, frees_right, frees, AllowedMayName, AllowedCanAct}
+use Rattle.index_law.specs.Laws.{Allowed, loads_clock, loads_word, loads_status, loads_prev, exchanges, exchanges_read, stores_word, stores_status, drains_word, adds, claims_node, frees_fresh, frees_left, frees_met, frees_right, frees, AllowedMayName, AllowedCanAct}
 use Rattle.index_law.proofs.Rows.{version_in-here, status_in-here, spot_in-here}
 use Rattle.index_law.proofs.Versions.{own_lock, lock_fits}
 
@@ -44,6 +44,7 @@ may_name l s a (loads_status {n = n} here) = addresses_within l (Volatile n 0) (
 may_name l s a (loads_prev {n = n} here) = addresses_within l (Volatile n 1) (here, omega arith)
 may_name l s a (stores_status {n = n} holds here small) = (addresses_within l (Volatile n 0) (here, omega arith), status_outside l n here)
 may_name l s a (exchanges {n = n} here) = let has : HasWordAt l n 0 = (here, omega arith) in (addresses_within l (Cached (Node n 0)) has, node_outside l n 0 has)
+may_name l s a (exchanges_read {n = n} here small) = let has : HasWordAt l n 0 = (here, omega arith) in (addresses_within l (Cached (Node n 0)) has, node_outside l n 0 has)
 may_name l s a (stores_word {n = n} {offset = offset} holds has positive small) = (addresses_within l (Cached (Node n offset)) has, node_outside l n offset has)
 may_name l s a (drains_word {n = n} {y = y} {offset = offset} holds has small) = (names_cached l (Node n offset) has, keeps_header l (Node n offset) y has (λ k lt e. cc))
 may_name l s a adds = (addresses_within l Clock tt, clock_outside l)
@@ -68,6 +69,7 @@ can_change l g f caller index since s a word (loads_prev here) fits knows room =
 can_change l g f caller index since s a word (stores_status holds here small) fits knows room = small
 can_change l g f caller index since s a word (exchanges {v = v} {w = w} here) fits knows room =
     let most = lock_fits w g (own_lock v w g knows.known knows.unworn knows.lock) fits in omega arith
+can_change l g f caller index since s a word (exchanges_read here small) fits knows room = small
 can_change l g f caller index since s a word (stores_word holds has positive small) fits knows room = small
 can_change l g f caller index since s a word (drains_word holds has small) fits knows room = small
 can_change l g f caller index since s a word adds fits knows room = room refl
@@ -146,6 +148,7 @@ told_known l g ws s a (loads_status {n = m} here) known n is = let place : statu
 told_known l g ws s a (loads_prev {n = m} here) known n is = let place : prev_address l m ≡ version_address l n = ap loaded_from is in absurd (omega arith)
 told_known l g ws s a (stores_status holds here small) known n is = absurd cc
 told_known l g ws s a (exchanges here) known n is = absurd cc
+told_known l g ws s a (exchanges_read here small) known n is = absurd cc
 told_known l g ws s a (stores_word holds has positive small) known n is = absurd cc
 told_known l g ws s a (drains_word holds has small) known n is = absurd cc
 told_known l g ws s a adds known n is = absurd cc

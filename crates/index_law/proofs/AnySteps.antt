@@ -1,5 +1,5 @@
 -- Steps beside nodes, and with them all steps of a party.
-use Rattle.std.proofs.Common.{◌≡◌, ◌≢◌, ℕ, ◌<◌, ◌^◌, inl, inr, append-nil, List, [], ◌∷◌, ◌++◌, ◌+◌, length, set, slice_set, zero, suc, refl, sym, ap, ◌∙◌, subst, arith}
+use Rattle.std.proofs.Common.{◌≡◌, ◌≢◌, ℕ, ◌<◌, ◌^◌, inl, inr, append-nil, List, [], ◌∷◌, ◌++◌, ◌+◌, length, set, slice_index, slice_set, zero, suc, refl, sym, ap, ◌∙◌, subst, arith}
 use Rattle.std.specs.Prelude.{Option, None}
 use Rattle.std.proofs.lemmas.List.{set-get_or}
 use mathlib.Core.Option.{some, some-injective}
@@ -15,7 +15,7 @@ use Rattle.cat_history.specs.declared.op.Change.{Change}
 use Rattle.call_stages.specs.Stages.{Stage, HoldsNode, counted}
 use Rattle.call_stages.specs.Kinds.{HasWordAt, word_address, status_address, clock_address}
 use Rattle.call_stages.specs.Lines.{line_address}
-use Rattle.call_stages.specs.AnySteps.{leaf_address, IsBeside, loads_line, stores_line, drains_line, stores_prev, loads_leaf, on_nodes, beside}
+use Rattle.call_stages.specs.AnySteps.{leaf_address, IsBeside, loads_line, stores_line, drains_line, stores_prev, loads_leaf, on_permutation, IsOnPermutation, loads, stores, IsOfPermutation, volatile_address, on_nodes, beside}
 use Rattle.index_law.specs.Facts.{Facts, range_of}
 use Rattle.index_law.specs.Worlds.{Party, World, facts, stepped, written}
 use Rattle.index_law.specs.Lawful.{Lawful}
@@ -46,6 +46,28 @@ line_of _ = Line 0 0 0
 abbrev offset_in : Location → ℕ
 offset_in (Volatile n o) = o
 offset_in _ = 0
+
+-- an action on a permutation stores a volatile word of a node, past the stamp; a load stores the word that is there
+pub record IsStored (l : Layout) (words : List ℕ) (a : Action) : Type 0 where
+  pub node : ℕ
+  pub offset : ℕ
+  pub word : ℕ
+  pub here : node < l.nodes
+  pub least : 2 < offset
+  pub most : offset < 16
+  pub is : acted l words a ≡ slice_set words (address_of l (Volatile node offset)) word
+
+above : (offset : ℕ) → IsOfPermutation offset → (2 < offset) × (offset < 16)
+above offset (inl version) = (omega arith, omega arith)
+above offset (inr word) = let least = word.0 in let most = word.1 in (omega arith, omega arith)
+
+pub stored_word : (l : Layout) (words : List ℕ) (a : Action) → IsOnPermutation l a → IsStored l words a
+stored_word l words a (loads {n = n} {offset = offset} here of) =
+    let both = above offset of in
+    record { node = n; offset = offset; word = slice_index words (volatile_address l n offset); here = here; least = both.0; most = both.1; is = refl }
+stored_word l words a (stores {n = n} {offset = offset} {y = y} here of fits) =
+    let both = above offset of in
+    record { node = n; offset = offset; word = y; here = here; least = both.0; most = both.1; is = refl }
 
 module _ (w : World) (lawful : Lawful w) where
   abbrev l : Layout
@@ -82,6 +104,14 @@ module _ (w : World) (lawful : Lawful w) where
   beside_can a (stores_prev {n = n} here fits) =
       ((addresses_within l (Volatile n 1) (here, omega arith), outside_header l (Volatile n 1) (here, omega arith) (λ k lt. (λ e. cc, λ e. cc))), fits)
   beside_can a (loads_leaf {leaf = leaf} {offset = offset} has) = (addresses_within l (Cached (Leaf leaf offset)) has, tt)
+  beside_can a (on_permutation (loads {n = n} {offset = offset} here of)) = (addresses_within l (Volatile n offset) (here, (above offset of).1), tt)
+  beside_can a (on_permutation (stores {n = n} {offset = offset} here of fits)) =
+      let has : HasLocation l (Volatile n offset) = (here, (above offset of).1) in
+      ((addresses_within l (Volatile n offset) has, outside_header l (Volatile n offset) has (λ k lt. (λ e. cc, λ e. cc))), fits)
+
+  -- no permutation is a status
+  past_status : (n offset : ℕ) → 2 < offset → (m : ℕ) → Volatile n offset ≢ Volatile m 0
+  past_status n offset least m same = let no : offset ≡ 0 = ap offset_in same in omega arith
 
   beside_lawful : (a : Action) → IsBeside l a → Lawful (record w { words = acted l w.words a })
   beside_lawful a (loads_line {c = c} {j = j} {offset = offset} has) =
@@ -96,6 +126,10 @@ module _ (w : World) (lawful : Lawful w) where
       stored (Volatile n 1) y (here, omega arith) (λ e. cc) (λ v e. cc) (λ v e. cc) (λ m e. let no : 1 ≡ 0 = ap offset_in e in omega arith) a (beside_can a (stores_prev here fits)) refl
   beside_lawful a (loads_leaf {leaf = leaf} {offset = offset} has) =
       subst (λ v. Lawful (record w { words = v })) (sym (set-get_or w.words (leaf_address l leaf offset) 0)) lawful
+  beside_lawful a (on_permutation on) =
+      let at_word = stored_word l w.words a on in
+      subst (λ v. Lawful (record w { words = v })) (sym at_word.is)
+      (stored (Volatile at_word.node at_word.offset) at_word.word (at_word.here, at_word.most) (λ e. cc) (λ v e. cc) (λ v e. cc) (past_status at_word.node at_word.offset at_word.least) a (beside_can a (on_permutation on)) at_word.is)
 
   beside_facts : (a : Action) → IsBeside l a → facts (record w { words = acted l w.words a }) ≡ facts w
   beside_facts a (loads_line {c = c} {j = j} {offset = offset} has) = ap (λ v. facts (record w { words = v })) (set-get_or w.words (line_address l c j offset) 0)
@@ -107,6 +141,10 @@ module _ (w : World) (lawful : Lawful w) where
   beside_facts a (stores_prev {n = n} {y = y} here fits) =
       same_facts (Volatile n 1) y (here, omega arith) (λ e. cc) (λ v e. cc) (λ v e. cc) (λ m e. let no : 1 ≡ 0 = ap offset_in e in omega arith)
   beside_facts a (loads_leaf {leaf = leaf} {offset = offset} has) = ap (λ v. facts (record w { words = v })) (set-get_or w.words (leaf_address l leaf offset) 0)
+  beside_facts a (on_permutation on) =
+      let at_word = stored_word l w.words a on in
+      ap (λ v. facts (record w { words = v })) at_word.is
+      ∙ same_facts (Volatile at_word.node at_word.offset) at_word.word (at_word.here, at_word.most) (λ e. cc) (λ v e. cc) (λ v e. cc) (past_status at_word.node at_word.offset at_word.least)
 
 -- the world that such a step leaves
 pub beside_world : (w : World) (i : ℕ) (p : Party) (a : Action) → get_elem? w.parties i ≡ some p → counted p.stage ≡ None
@@ -144,6 +182,10 @@ beside_loads l n offset a here (stores_prev low fits) is = cc
 beside_loads l n offset a here (loads_leaf {leaf = leaf} {offset = o} has) is =
     let same : Cached (Leaf leaf o) ≡ Cached (Node n offset) = addresses_apart l (Cached (Leaf leaf o)) (Cached (Node n offset)) has here (ap loaded_from is) in
     subst IsAside (ap line_of same) tt
+beside_loads l n offset a here (on_permutation (loads {n = m} {offset = o} low of)) is =
+    let same : Volatile m o ≡ Cached (Node n offset) = addresses_apart l (Volatile m o) (Cached (Node n offset)) (low, (above o of).1) here (ap loaded_from is) in
+    absurd (cc)
+beside_loads l n offset a here (on_permutation (stores low of fits)) is = cc
 
 beside_status : (l : Layout) (n : ℕ) (a : Action) → HasLocation l (Volatile n 0) → IsBeside l a → a ≡ Load (status_address l n) → ⊥
 beside_status l n a here (loads_line {c = c} {j = j} {offset = o} has) is =
@@ -155,6 +197,13 @@ beside_status l n a here (stores_prev low fits) is = cc
 beside_status l n a here (loads_leaf {leaf = leaf} {offset = o} has) is =
     let same : Cached (Leaf leaf o) ≡ Volatile n 0 = addresses_apart l (Cached (Leaf leaf o)) (Volatile n 0) has here (ap loaded_from is) in
     absurd (cc)
+beside_status l n a here (on_permutation (loads {n = m} {offset = o} low of)) is =
+    let both = above o of in
+    let same : Volatile m o ≡ Volatile n 0 = addresses_apart l (Volatile m o) (Volatile n 0) (low, both.1) here (ap loaded_from is) in
+    let no : o ≡ 0 = ap offset_in same in
+    let least = both.0 in
+    absurd (omega arith)
+beside_status l n a here (on_permutation (stores low of fits)) is = cc
 
 -- what it gives is a word
 beside_fits : (w : World) → Lawful w → (a : Action) → IsBeside w.layout a → got w.layout w.words a < 2 ^ 64
@@ -163,6 +212,8 @@ beside_fits w lawful a (stores_line has fits) = omega arith
 beside_fits w lawful a (drains_line has fits) = omega arith
 beside_fits w lawful a (stores_prev here fits) = omega arith
 beside_fits w lawful a (loads_leaf {leaf = leaf} {offset = offset} has) = lawful.row.fits (leaf_address w.layout leaf offset)
+beside_fits w lawful a (on_permutation (loads {n = n} {offset = offset} here of)) = lawful.row.fits (volatile_address w.layout n offset)
+beside_fits w lawful a (on_permutation (stores here of fits)) = omega arith
 
 pub any_can : AnyCanAct
 any_can w i p a lawful there (inl allowed) room = action_law w i p a lawful there allowed room
@@ -196,6 +247,8 @@ beside_counts l a x count change is none = subst (Counts l count a x) (sym none)
     never (drains_line has fits) e = cc
     never (stores_prev here fits) e = cc
     never (loads_leaf has) e = cc
+    never (on_permutation (loads here of)) e = cc
+    never (on_permutation (stores here of fits)) e = cc
 
 pub any_keeps : AnyStepKeeps
 any_keeps w i p a x t r lawful there (on_nodes k) told room = step_law w i p a x t r lawful there k told room

@@ -17,7 +17,7 @@ use Rattle.data_node.specs.Spots.{bitmap_offset}
 use Rattle.data_node.specs.Lists.{next_offset}
 use Rattle.call_stages.specs.Stages.{Knows, KnowsDurable, IsAmong, Held, Grip, Phase, Filling, Linked, Parted, Pace, Gathered, Joined, Gone, Stage, Idle, Saw, Wears, Reads, Holds, Eyes, Splits, Leaves, Meets, Joins, just_held, merged_held, pended}
 use Rattle.call_stages.specs.Kinds.{IsContent, Cleans, finds_live, watches, watches_next, turns_away, steps_back, wanders, Split, fills, lights, switches, glances_left, glances_fresh, drains_left, drains_fresh, trims, splits, Merge, meets, knows_own, knows_right, copies, takes_up, puts_down, parts, gathers, joins, glances_joined, drains_joined, retires, yields, merges, peeks, peeks_status, eyes, eyes_free, passes, loses, claims, publishes, leaves}
-use Rattle.call_stages.specs.Kinds.{Look, turns_back, is_worn, wears, roams, roams_status, sees, misses, times, learns, decides, glances, Step, looks, locks, stores, commits, drains, counts, unlocks}
+use Rattle.call_stages.specs.Kinds.{Look, turns_back, is_worn, wears, roams, roams_status, sees, misses, times, learns, decides, glances, Step, looks, locks, locks_read, stores, commits, drains, counts, unlocks}
 use Rattle.index_law.specs.Facts.{Facts, map_now, range_of, durable_spot}
 use Rattle.index_law.specs.Lawful.{IsList, Sure}
 use Rattle.call_stages.specs.Stages.{HoldsNode}
@@ -451,6 +451,8 @@ module _ {l : Layout} {g : ℕ} (f : Facts) (words : List ℕ) (caller index sin
   backs_mine (looks look) e mine after drained durable backed = look_backs look after backed
   backs_mine (locks {n = n} {v = v} {w = w} {name = name} same named live between) e mine after drained durable backed =
       clean_backs l (with_version f n w) (durable_spot l words n) n (just_held name) (durable n mine.here (subst (λ (u : ℕ). IsFree u g) (sym (sym e ∙ same)) mine.free)) after.means
+  backs_mine (locks_read {n = n} {v = v} {w = w} {name = name} same named live between unworn taken small) e mine after drained durable backed =
+      clean_backs l (with_version f n w) (durable_spot l words n) n (just_held name) (durable n mine.here (subst (λ (u : ℕ). IsFree u g) (sym (sym e ∙ same)) mine.free)) after.means
   backs_mine (stores {n = n} {w = w} {y = y} {offset = offset} {h = h} {dirty = dirty} has content small clean soils learnt means) e mine after drained durable backed =
       let pended_none : (mix : Spot) → IsMix (durable_spot l words n) (f.now n) mix → Means l.slots (range_of l f n) mix (map_now f) =
       λ mix is. ⊎_elim (λ was. was) (λ shows. subst (λ (p : Option Change). Means l.slots (range_of l f n) mix (pended p (map_now f))) clean.pending shows) (backed.mixes mix is) in
@@ -532,6 +534,7 @@ module _ {l : Layout} {g : ℕ} (f : Facts) (words : List ℕ) (caller index sin
       → (m : ℕ) → HoldsNode s m → (HoldsNode t m → ⊥) → (offset : ℕ) → durable_spot l words m offset ≡ (fact_after k f caller index).now m offset
   given_durable (looks look) backed m held gone offset = absurd (gone (look_freed f caller index since look m held))
   given_durable (locks same named live between) backed m held gone offset = absurd held
+  given_durable (locks_read same named live between unworn taken small) backed m held gone offset = absurd held
   given_durable (stores has content small clean soils learnt means) backed m held gone offset = absurd (gone held)
   given_durable (commits has content small clean all_durable soiled old about learnt means) backed m held gone offset = absurd (gone held)
   given_durable (drains has small unready hand cleans) backed m held gone offset = absurd (gone held)

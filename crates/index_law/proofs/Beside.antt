@@ -9,7 +9,7 @@ use Rattle.pm_words.specs.Rows.{acted, CanAct}
 use Rattle.pm_words.proofs.Apart.{at-set_same, at-set_other, addresses_within}
 use Rattle.pm_words.proofs.Kept.{action_address-drain, acted_row, outside_header}
 use Rattle.call_stages.specs.Kinds.{word_address, status_address, clock_address, prev_address}
-use Rattle.index_law.specs.Laws.{loads_clock, loads_word, loads_status, loads_prev, exchanges, stores_word, stores_status, drains_word, adds, claims_node, frees_fresh, frees_left, frees_met, frees_right, frees}
+use Rattle.index_law.specs.Laws.{loads_clock, loads_word, loads_status, loads_prev, exchanges, exchanges_read, stores_word, stores_status, drains_word, adds, claims_node, frees_fresh, frees_left, frees_met, frees_right, frees}
 use Rattle.index_law.specs.Beside.{NodesLeaveOthers, PrevsKeep}
 use Rattle.index_law.proofs.Joint.{fit_same}
 use Rattle.index_law.proofs.Noting.{beside_law, store_leaves}
@@ -25,6 +25,7 @@ nodes_leave_others l words s a p has beside (loads_word {n = n} {offset = o} at_
 nodes_leave_others l words s a p has beside (loads_status {n = n} here) = stays l words (acted l words a) p (set-get_or words (status_address l n) 0)
 nodes_leave_others l words s a p has beside (loads_prev {n = n} here) = stays l words (acted l words a) p (set-get_or words (prev_address l n) 0)
 nodes_leave_others l words s a p has beside (exchanges {n = n} here) = at-set_other l words (Cached (Node n 0)) p _ (here, omega arith) has (beside.cached n 0)
+nodes_leave_others l words s a p has beside (exchanges_read {n = n} here small) = at-set_other l words (Cached (Node n 0)) p _ (here, omega arith) has (beside.cached n 0)
 nodes_leave_others l words s a p has beside (stores_word {n = n} {y = y} {offset = o} holds at_word positive small) = at-set_other l words (Cached (Node n o)) p y at_word has (beside.cached n o)
 nodes_leave_others l words s a p has beside (stores_status {n = n} {y = y} holds here small) = at-set_other l words (Volatile n 0) p y (here, omega arith) has (beside.status n)
 nodes_leave_others l words s a p has beside (drains_word {n = n} {y = y} {offset = o} holds at_word small) =

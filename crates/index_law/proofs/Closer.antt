@@ -14,7 +14,7 @@ use Rattle.cat_history.specs.declared.op.Write.{Write}
 use Rattle.call_stages.specs.declared.once.Once.{Once}
 use Rattle.call_stages.specs.declared.once.Placed.{Placed}
 use Rattle.call_stages.specs.Stages.{Stage}
-use Rattle.call_stages.specs.Kinds.{HasWordAt, word_address, Split, fills, lights, switches, glances_left, glances_fresh, drains_left, drains_fresh, trims, splits, Merge, meets, knows_own, knows_right, copies, takes_up, puts_down, parts, gathers, joins, glances_joined, drains_joined, retires, yields, merges, claims, publishes, leaves, Step, looks, locks, stores, commits, drains, counts, unlocks}
+use Rattle.call_stages.specs.Kinds.{HasWordAt, word_address, Split, fills, lights, switches, glances_left, glances_fresh, drains_left, drains_fresh, trims, splits, Merge, meets, knows_own, knows_right, copies, takes_up, puts_down, parts, gathers, joins, glances_joined, drains_joined, retires, yields, merges, claims, publishes, leaves, Step, looks, locks, locks_read, stores, commits, drains, counts, unlocks}
 use Rattle.index_law.specs.Facts.{facts_of, cached_word, durable_spot, spot_in}
 use Rattle.index_law.specs.Lawful.{Sure}
 use Rattle.data_node.specs.Spots.{bitmap_offset}
@@ -90,6 +90,7 @@ module _ {l : Layout} {g : ℕ} (words : List ℕ) (base : Map) (history : List 
       → Sure l g (facts_of l words base history) caller index since s → IsCloser l words (acted l words a)
   step_closer (looks look) e knows = λ w has. inl (ap (λ (v : List ℕ). at l v (Durable w)) (look_keeps look words e))
   step_closer (locks {n = n} same named live between) e knows = store_closer l words (Cached (Node n 0)) _ (knows.here, omega arith) (λ w alike. cc)
+  step_closer (locks_read {n = n} same named live between unworn taken small) e knows = store_closer l words (Cached (Node n 0)) _ (knows.here, omega arith) (λ w alike. cc)
   step_closer (stores {n = n} {y = y} {offset = offset} has content small clean soils learnt means) e knows = store_closer l words (Cached (Node n offset)) y has (λ w alike. cc)
   step_closer (commits {n = n} {y = y} {offset = offset} has content small clean durable soiled old about learnt means) e knows =
       store_closer l words (Cached (Node n offset)) y has (λ w alike. cc)
@@ -152,6 +153,7 @@ module _ {l : Layout} {g : ℕ} (words : List ℕ) (base : Map) (history : List 
       → Sure l g (facts_of l words base history) caller index since s → (w : Word) → HasWord l w → ((n offset : ℕ) → w ≡ Node n offset → ⊥) → at l (acted l words a) (Cached w) ≡ at l words (Cached w)
   step_cached (looks look) e knows w has other = ap (λ (v : List ℕ). at l v (Cached w)) (look_keeps look words e)
   step_cached (locks {n = n} same named live between) e knows w has other = at-set_other l words (Cached (Node n 0)) (Cached w) _ (knows.here, omega arith) has (λ alike. other n 0 (word_of alike))
+  step_cached (locks_read {n = n} same named live between unworn taken small) e knows w has other = at-set_other l words (Cached (Node n 0)) (Cached w) _ (knows.here, omega arith) has (λ alike. other n 0 (word_of alike))
   step_cached (stores {n = n} {y = y} {offset = offset} has_word content small clean soils learnt means) e knows w has other =
       at-set_other l words (Cached (Node n offset)) (Cached w) y has_word has (λ alike. other n offset (word_of alike))
   step_cached (commits {n = n} {y = y} {offset = offset} has_word content small clean durable soiled old about learnt means) e knows w has other =
@@ -206,6 +208,7 @@ module _ {l : Layout} {g : ℕ} (words : List ℕ) (base : Map) (history : List 
       → Sure l g (facts_of l words base history) caller index since s → Drained k (facts_of l words base history) (acted l words a)
   step_drained (looks look) knows = tt
   step_drained (locks same named live between) knows = tt
+  step_drained (locks_read same named live between unworn taken small) knows = tt
   step_drained (stores has content small clean soils learnt means) knows = tt
   step_drained (commits has content small clean durable soiled old about learnt means) knows = tt
   step_drained (drains {n = n} {y = y} {offset = offset} {h = h} has small unready hand cleans) knows =

@@ -39,7 +39,7 @@ use Rattle.index_law.proofs.Starts.{start_law, rest_law, idle_law, listed_within
 use Rattle.index_law.proofs.Twins.{IsCloser, evict_closer, evict_cached}
 
 -- a row in which the nodes, their prevs and the lines are the same, with such parties
-moved_footed : (z : Whole) (words : List ℕ) (parties : List Party) → IsFooted z → Lawful (record (z.world) { words = words; parties = parties }) → AreAlike z.world.parties parties
+pub moved_footed : (z : Whole) (words : List ℕ) (parties : List Party) → IsFooted z → Lawful (record (z.world) { words = words; parties = parties }) → AreAlike z.world.parties parties
     → facts (record (z.world) { words = words }) ≡ facts z.world → ((n : ℕ) → prev_in z.world.layout words n ≡ prev_in z.world.layout z.world.words n)
     → ((c j offset : ℕ) → LinesStay z.world.layout z.world.words words c j offset) → IsFooted (record { world = record (z.world) { words = words; parties = parties }; lines = z.lines; debts = z.debts })
 moved_footed z words parties is lawful alike same prevs stay =

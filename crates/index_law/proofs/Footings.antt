@@ -1,5 +1,5 @@
 -- The steps of a party on nodes, lines and prevs keep all that an index has.
-use Rattle.std.proofs.Common.{◌≡◌, ◌≢◌, ℕ, ◌<◌, ◌⊎◌, inl, inr, ⊎_elim, List, slice_set, refl, sym, ap, ◌∙◌, subst}
+use Rattle.std.proofs.Common.{◌≡◌, ◌≢◌, ℕ, ◌<◌, ◌⊎◌, inl, inr, ⊎_elim, List, slice_set, refl, sym, ap, ◌∙◌, subst, arith}
 use Rattle.std.specs.Prelude.{Option, Some, None, IfSome}
 use Rattle.std.proofs.lemmas.Bool.{cases_eq}
 use Rattle.std.proofs.lemmas.List.{set-get_or}
@@ -8,26 +8,30 @@ use lib.ListN.{get_elem?}
 use Rattle.pm_words.specs.declared.layout.Layout.{Layout}
 use Rattle.pm_words.specs.declared.action.Action.{Action}
 use Rattle.pm_words.specs.declared.action.Action.TheVariants.{Load}
-use Rattle.pm_words.specs.Locations.{Location, Line, Cached, Durable, at}
+use Rattle.pm_words.specs.Locations.{Location, Line, Volatile, Cached, Durable, HasLocation, at}
 use Rattle.pm_words.proofs.Apart.{at-set_other}
 use Rattle.pm_words.specs.Rows.{acted}
 use Rattle.pm_words.proofs.Kept.{action_address-drain}
 use Rattle.call_stages.specs.Stages.{Stage, counted}
 use Rattle.call_stages.specs.Kinds.{Step}
 use Rattle.call_stages.specs.Lines.{HeldLine, line_address, Notes, passes_line, takes, looks_up, notes, keeps_safe}
-use Rattle.call_stages.specs.AnySteps.{leaf_address, IsBeside, loads_leaf, on_nodes, beside}
+use Rattle.call_stages.specs.AnySteps.{leaf_address, IsOnPermutation, IsBeside, loads_leaf, on_permutation, on_nodes, beside}
 use Rattle.index_law.specs.Worlds.{Party, World, facts, stepped}
 use Rattle.index_law.specs.Laws.{Allowed}
+use Rattle.index_law.specs.Lawful.{Lawful}
+use Rattle.index_law.specs.Prevs.{prev_in}
 use Rattle.index_law.specs.Lines.{line_in, SureLine}
 use Rattle.call_stages.specs.Prevs.{Debt, Deals, Prevs}
 use Rattle.index_law.specs.Whole.{Whole, IsWhole}
 use Rattle.index_law.specs.Footings.{FootStepIsAny, IsInHand, NeedsNoParty, AreTended, stepped_whole, FootStepKeeps}
 use Rattle.call_stages.specs.Footings.{Footing, IsKnownEmpty, IsLeftToTurn, KeepsOrLetsGo, FootStep}
 use Rattle.call_stages.specs.Footings as foot
-use Rattle.index_law.proofs.AnySteps.{set_own, beside_world, beside_keeps}
-use Rattle.index_law.proofs.Noting.{line-alike, nodes_leave_lines}
+use Rattle.index_law.proofs.AnySteps.{set_own, beside_world, beside_keeps, stored_word}
+use Rattle.index_law.proofs.Footed.{moved_footed}
+use Rattle.index_law.proofs.Noting.{LinesStay, line-alike, nodes_leave_lines, store_leaves}
 use Rattle.index_law.proofs.Own.{allow_law, sure_within}
 use Rattle.index_law.proofs.Parties.{set_here, set_else}
+use Rattle.index_law.proofs.Prevs.{store_prev}
 use Rattle.index_law.proofs.Whole.{prev_leaves, whole_node, whole_line, whole_prev}
 
 pub foot_any : FootStepIsAny
@@ -35,6 +39,7 @@ foot_any l g c f t a x r (foot.on_nodes minds kept k deals) = on_nodes k
 foot_any l g c f t a x r (foot.on_line waits none is k own) = beside none is
 foot_any l g c f t a x r (foot.on_prev none is k) = beside none is
 foot_any l g c f t a x r (foot.on_layer none has) = beside none (loads_leaf has)
+foot_any l g c f t a x r (foot.on_permutation none on) = beside none (on_permutation on)
 
 -- a step on a line leaves the words of every other line
 abbrev caller_in : Location → ℕ
@@ -140,6 +145,21 @@ layer_load_stays z i p foot leaf offset there at owing stage none =
     let debts : slice_set z.debts i foot.debt ≡ z.debts = set_own z.debts i foot.debt owing in
     λ k. record { world = world k; lines = lines k; debts = debts k }
 
+-- a load or a store of a permutation leaves prevs and lines
+pub permutation_leaves : (l : Layout) (words : List ℕ) (a : Action) → IsOnPermutation l a
+    → ((n : ℕ) → prev_in l (acted l words a) n ≡ prev_in l words n) × ((c j offset : ℕ) → LinesStay l words (acted l words a) c j offset)
+permutation_leaves l words a on =
+    let at_word = stored_word l words a on in
+    let p : Location = Volatile at_word.node at_word.offset in
+    let has : HasLocation l (Volatile at_word.node at_word.offset) = (at_word.here, at_word.most) in (
+      λ n. ap (λ v. prev_in l v n) at_word.is ∙ store_prev l words p at_word.word has (λ k e. let no : 1 ≡ at_word.offset = ap volatile_offset e in let least = at_word.least in omega arith) n,
+      λ c j offset. subst (λ v. LinesStay l words v c j offset) (sym at_word.is) (store_leaves l words p at_word.word has (λ c j o. (λ e. cc, λ e. cc)) c j offset),
+    )
+  where
+    volatile_offset : Location → ℕ
+    volatile_offset (Volatile n o) = o
+    volatile_offset _ = 0
+
 pub foot_keeps : FootStepKeeps
 foot_keeps z i p f t a x r whole tended there at owing stage (foot.on_nodes {stage = s} {next = next} {line = line} {after = after} {debt = d} {debt' = d'} minds kept k deals) told room =
     let w = z.world in
@@ -194,3 +214,17 @@ foot_keeps z i p f t a x r whole tended there at owing stage (foot.on_prev {stag
 foot_keeps z i p f t a x r whole tended there at owing stage (foot.on_layer {stage = s} {line = line} {debt = d} {leaf = leaf} {offset = offset} none has) told room =
     let stays = layer_load_stays z i p (record { stage = s; line = line; debt = d }) leaf offset there at owing stage none in
     (subst IsWhole (sym stays) whole, subst AreTended (sym stays) tended)
+foot_keeps z i p f t a x r whole tended there at owing stage (foot.on_permutation {stage = s} {line = line} {debt = d} none on) told room =
+    let w = z.world in
+    let l = w.layout in
+    let words : List ℕ = acted l w.words a in
+    let none' : counted p.stage ≡ None = ap counted stage ∙ none in
+    let kept = beside_keeps w i p a whole.joint.lawful there none' (on_permutation on) in
+    let world : stepped w i p a s ≡ record w { words = words } = ap (stepped w i p a) (sym stage) ∙ beside_parties z i p a whole there none' (on_permutation on) in
+    let stays = permutation_leaves l w.words a on in
+    let moved = moved_footed z words w.parties (whole, tended) (subst Lawful kept.world kept.kept)
+    (record { forth = λ j q there. (q, there, refl, refl); back = λ j q there. (q, there, refl, refl) })
+    (sym (ap facts kept.world) ∙ kept.facts) stays.0 stays.1 in
+    let same : Path Whole (record z { world = record w { words = words } }) (stepped_whole z i p a t) =
+    λ n. record { world = sym world n; lines = sym (set_own z.lines i line at) n; debts = sym (set_own z.debts i d owing) n } in
+    (subst IsWhole same moved.0, subst AreTended same moved.1)

@@ -47,6 +47,7 @@ module _ {l : Layout} {g : ℕ} (f : Facts) (caller index since : ℕ) (list : I
       → HoldsNode s m ⊎ (IsGone f m → ⊥)
   taken (kinds.looks look) e mine m lock = inl (look_before f caller index since look m lock)
   taken (kinds.locks {n = n} same named lit between) e mine m lock = inr (listed_stays n m lock ((mine.stands (sym e ∙ same)).listed lit))
+  taken (kinds.locks_read {n = n} same named lit between unworn is_lock small) e mine m lock = inr (listed_stays n m lock ((mine.stands (sym e ∙ same)).listed lit))
   taken (kinds.stores has content small clean soils learnt means) e mine m lock = inl lock
   taken (kinds.commits has content small clean durable soiled old about learnt means) e mine m lock = inl lock
   taken (kinds.drains has small unready hand cleans) e mine m lock = inl lock

@@ -98,6 +98,7 @@ module _ {l : Layout} {g : ℕ} (f : Facts) (caller index since : ℕ) where
   goes : {s : Stage} {a : Action} {x : ℕ} {t : Stage} {r : Option (Once Placed)} → (k : Step l g s a x t r) → Sure l g f caller index since s → Goes l.nodes s t f (fact_after k f caller index)
   goes (kinds.looks look) knows = inl (λ k. refl)
   goes (kinds.locks same named live between) knows = inl (λ k. refl)
+  goes (kinds.locks_read same named live between unworn taken small) knows = inl (λ k. refl)
   goes (kinds.stores has content small clean soils learnt means) knows = inl (λ k. refl)
   goes (kinds.commits has content small clean durable soiled old about learnt means) knows = inl (λ k. refl)
   goes (kinds.drains has small unready hand cleans) knows = inl (λ k. refl)

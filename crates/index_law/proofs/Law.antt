@@ -18,7 +18,7 @@ use Rattle.version_lock.specs.Versions.{IsFree}
 use Rattle.call_stages.specs.declared.once.Once.{Once}
 use Rattle.call_stages.specs.declared.once.Placed.{Placed}
 use Rattle.call_stages.specs.Stages.{Held, Stage, Idle, Saw, Wears, Reads, Holds, Eyes, Splits, Leaves, Meets, Joins, counted}
-use Rattle.call_stages.specs.Kinds.{clock_address, Look, turns_back, is_worn, wears, roams, roams_status, sees, misses, times, learns, decides, glances, finds_live, watches, watches_next, turns_away, steps_back, wanders, fills, lights, switches, glances_left, glances_fresh, drains_left, drains_fresh, trims, splits, meets, knows_own, knows_right, copies, takes_up, puts_down, parts, gathers, joins, glances_joined, drains_joined, retires, yields, merges, peeks, peeks_status, eyes, eyes_free, passes, loses, claims, publishes, leaves, Step, looks, locks, stores, commits, drains, counts, unlocks}
+use Rattle.call_stages.specs.Kinds.{clock_address, Look, turns_back, is_worn, wears, roams, roams_status, sees, misses, times, learns, decides, glances, finds_live, watches, watches_next, turns_away, steps_back, wanders, fills, lights, switches, glances_left, glances_fresh, drains_left, drains_fresh, trims, splits, meets, knows_own, knows_right, copies, takes_up, puts_down, parts, gathers, joins, glances_joined, drains_joined, retires, yields, merges, peeks, peeks_status, eyes, eyes_free, passes, loses, claims, publishes, leaves, Step, looks, locks, locks_read, stores, commits, drains, counts, unlocks}
 use Rattle.index_law.specs.Facts.{Facts}
 use Rattle.index_law.specs.Worlds.{Party, World, facts, written, counted_write, moved_on}
 use Rattle.index_law.specs.Lawful.{HasNames, IsList, AreLive, Sure, Each, AreAlone, IsHeld, AreKnown, AreSettled, AreFreeOrHeld, Lawful}
@@ -75,6 +75,7 @@ module _ {l : Layout} {g : ℕ} where
   step_counts : {s : Stage} {a : Action} {x : ℕ} {t : Stage} {r : Option (Once Placed)} → (k : Step l g s a x t r) → (f : Facts) → Gives k f → Counts l (length f.history) a x (counted s)
   step_counts (looks look) f e = look_counts look (length f.history)
   step_counts (locks same named live between) f e = λ e. cc
+  step_counts (locks_read same named live between unworn taken small) f e = λ e. cc
   step_counts (stores {n = n} {w = w} {x = x} {h = h} has content small clean soils learnt means) f e = unready_counts l n w x (length f.history) h _ clean.ready (λ e. cc)
   step_counts (commits {n = n} {w = w} {x = x} {h = h} has content small clean durable soiled old about learnt means) f e = unready_counts l n w x (length f.history) h _ clean.ready (λ e. cc)
   step_counts (drains {n = n} {w = w} {x = x} {h = h} has small unready hand cleans) f e = unready_counts l n w x (length f.history) h _ unready (λ e. cc)

@@ -13,7 +13,7 @@ use Rattle.data_node.specs.Lists.{ListNode, next_offset, IsChain, Rise, key_of}
 use Rattle.call_stages.specs.declared.once.Once.{Once}
 use Rattle.call_stages.specs.declared.once.Placed.{Placed}
 use Rattle.call_stages.specs.Stages.{Stage}
-use Rattle.call_stages.specs.Kinds.{Step, looks, locks, stores, commits, drains, counts, unlocks, splits, claims, publishes, leaves, Split, fills, lights, switches, glances_left, glances_fresh, drains_left, drains_fresh, trims, Merge, meets, knows_own, knows_right, copies, takes_up, puts_down, parts, gathers, joins, glances_joined, drains_joined, retires, yields, merges}
+use Rattle.call_stages.specs.Kinds.{Step, looks, locks, locks_read, stores, commits, drains, counts, unlocks, splits, claims, publishes, leaves, Split, fills, lights, switches, glances_left, glances_fresh, drains_left, drains_fresh, trims, Merge, meets, knows_own, knows_right, copies, takes_up, puts_down, parts, gathers, joins, glances_joined, drains_joined, retires, yields, merges}
 use Rattle.index_law.specs.Facts.{Facts, map_now, IsListed}
 use Rattle.index_law.specs.Lawful.{IsList, AreLive, Sure}
 use Rattle.call_stages.specs.Stages.{HoldsNode}
@@ -73,6 +73,7 @@ module _ {l : Layout} {g : ℕ} (f : Facts) (caller index since : ℕ) where
       → IsList l (fact_after k f caller index)
   step_list (looks look) list mine = list
   step_list (locks same named live between) list mine = record { chain = list.chain; lowest = list.lowest; rise = list.rise; within = list.within; named = list.named }
+  step_list (locks_read same named live between unworn taken small) list mine = record { chain = list.chain; lowest = list.lowest; rise = list.rise; within = list.within; named = list.named }
   step_list (stores {n = n} {y = y} {offset = offset} has content small clean soils learnt means) list mine =
       relist l f (with_word f n offset y) refl (λ m is. links_content f.now n offset y content m) list
   step_list (commits {n = n} {y = y} {offset = offset} has content small clean durable soiled old about learnt means) list mine =
@@ -133,6 +134,7 @@ module _ {l : Layout} {g : ℕ} (f : Facts) (caller index since : ℕ) where
       ⊎ (((fact_after k f caller index).status m ≢ live_status) × (IsListed f m → ⊥) × ((fact_after k f caller index).status m ≤ gone_status)))
   status (looks look) mine m = inl refl
   status (locks same named live between) mine m = inl refl
+  status (locks_read same named live between unworn taken small) mine m = inl refl
   status (stores has content small clean soils learnt means) mine m = inl refl
   status (commits has content small clean durable soiled old about learnt means) mine m = inl refl
   status (drains has small unready hand cleans) mine m = inl refl
@@ -179,6 +181,7 @@ module _ {l : Layout} {g : ℕ} (f : Facts) (caller index since : ℕ) where
       → IsListed (fact_after k f caller index) m → IsListed f m ⊎ ((fact_after k f caller index).status m ≡ live_status)
   members (looks look) list mine m is = inl is
   members (locks same named live between) list mine m is = inl is
+  members (locks_read same named live between unworn taken small) list mine m is = inl is
   members (stores has content small clean soils learnt means) list mine m is = inl is
   members (commits has content small clean durable soiled old about learnt means) list mine m is = inl is
   members (drains has small unready hand cleans) list mine m is = inl is

@@ -18,7 +18,7 @@ use Rattle.data_node.specs.Spots.{bitmap_offset}
 use Rattle.data_node.proofs.SpotLemmas.{updated-same}
 use Rattle.call_stages.specs.Stages.{Held, Grip, Tells, Filling, Stage, Idle, Saw, Wears, Reads, Holds, Eyes, Splits, Leaves, Meets, Joins, pended}
 use Rattle.call_stages.specs.Kinds.{IsContent, IsCut, finds_live, watches, watches_next, turns_away, steps_back, wanders, Look, Split, fills, lights, switches, glances_left, glances_fresh, drains_left, drains_fresh, trims, splits, Merge, meets, knows_own, knows_right, copies, takes_up, puts_down, parts, gathers, joins, glances_joined, drains_joined, retires, yields, merges, peeks, peeks_status, eyes, eyes_free, passes, loses, claims, publishes, leaves}
-use Rattle.call_stages.specs.Kinds.{turns_back, is_worn, wears, roams, roams_status, sees, misses, times, learns, decides, glances, Step, looks, locks, stores, commits, drains, counts, unlocks}
+use Rattle.call_stages.specs.Kinds.{turns_back, is_worn, wears, roams, roams_status, sees, misses, times, learns, decides, glances, Step, looks, locks, locks_read, stores, commits, drains, counts, unlocks}
 use Rattle.index_law.specs.Facts.{Facts, map_now, range_of, IsListed}
 use Rattle.index_law.specs.Lawful.{IsOwnLock, IsList, IsSettled, AreKnown, AreSettled, SureHolds, SureSplits, Sure}
 use Rattle.call_stages.specs.Stages.{HoldsNode}
@@ -191,6 +191,7 @@ module _ {l : Layout} {g : ℕ} (f : Facts) (caller index since : ℕ) where
       → (m : ℕ) → (HoldsNode s m → ⊥) → (HoldsNode t m → ⊥) → IsSteady l f (fact_after k f caller index) m
   steady_else (looks look) list mine m before after = same_steady l f m
   steady_else (locks {n = n} {w = w} same named live between) list mine m before after = steady-version l f n w m (λ e. after (sym e))
+  steady_else (locks_read {n = n} {w = w} same named live between unworn taken small) list mine m before after = steady-version l f n w m (λ e. after (sym e))
   steady_else (stores {n = n} {y = y} {offset = offset} has content small clean soils learnt means) list mine m before after = steady-word l f n offset y m (λ e. before (sym e))
   steady_else (commits {n = n} {y = y} {offset = offset} has content small clean durable soiled old about learnt means) list mine m before after =
       steady-word l f n offset y m (λ e. before (sym e))
@@ -233,6 +234,7 @@ module _ {l : Layout} {g : ℕ} (f : Facts) (caller index since : ℕ) where
   pub goes_on : {s : Stage} {a : Action} {x : ℕ} {t : Stage} {r : Option (Once Placed)} → (k : Step l g s a x t r) → IsLater f (fact_after k f caller index)
   goes_on (looks look) = record { base = refl; more = []; few = omega arith; history = sym (append-nil f.history) }
   goes_on (locks {n = n} {w = w} same named live between) = later-version l f n w
+  goes_on (locks_read {n = n} {w = w} same named live between unworn taken small) = later-version l f n w
   goes_on (stores {n = n} {y = y} {offset = offset} has content small clean soils learnt means) = later-word l f n offset y
   goes_on (commits {n = n} {y = y} {offset = offset} has content small clean durable soiled old about learnt means) = later-word l f n offset y
   goes_on (drains has small unready hand cleans) = record { base = refl; more = []; few = omega arith; history = sym (append-nil f.history) }
@@ -281,6 +283,11 @@ module _ {l : Layout} {g : ℕ} (f : Facts) (caller index since : ℕ) where
       let is : f.version n ≡ v = sym e ∙ same in
       let rise = locked-rises v g mine.known mine.free in
       let lock = mine.lock in
+      rises-version l f n w (omega arith) m
+  rises (locks_read {n = n} {v = v} {w = w} same named live between unworn taken small) e mine m =
+      let is : f.version n ≡ v = sym e ∙ same in
+      let rise = locked-rises v g mine.known mine.free in
+      let lock = taken in
       rises-version l f n w (omega arith) m
   rises (stores has content small clean soils learnt means) e mine m = omega arith
   rises (commits has content small clean durable soiled old about learnt means) e mine m = omega arith
@@ -333,6 +340,7 @@ module _ {l : Layout} {g : ℕ} (f : Facts) (caller index since : ℕ) where
       → (other : ℕ) → 3 ≤ other → other ≤ 5 → (fact_after k f caller index).now m other ≡ f.now m other
   anchors (looks look) mine m listed other low high = refl
   anchors (locks same named live between) mine m listed other low high = refl
+  anchors (locks_read same named live between unworn taken small) mine m listed other low high = refl
   anchors (stores {n = n} {y = y} {offset = offset} has content small clean soils learnt means) mine m listed other low high =
       set_other f.now n offset y m other (λ _ e. content_anchor offset other content low high e)
   anchors (commits {n = n} {y = y} {offset = offset} has content small clean durable soiled old about learnt means) mine m listed other low high =
@@ -388,6 +396,7 @@ module _ {l : Layout} {g : ℕ} (f : Facts) (caller index since : ℕ) where
       → f.now m next_offset < l.nodes → (fact_after k f caller index).now m next_offset < l.nodes
   lead (looks look) list mine m was = was
   lead (locks same named live between) list mine m was = was
+  lead (locks_read same named live between unworn taken small) list mine m was = was
   lead (stores {n = n} {y = y} {offset = offset} has content small clean soils learnt means) list mine m was =
       leads_set f.now n offset y l.nodes (content_next offset y l.nodes content) m was
   lead (commits {n = n} {y = y} {offset = offset} has content small clean durable soiled old about learnt means) list mine m was =
@@ -461,6 +470,7 @@ module _ {l : Layout} {g : ℕ} (f : Facts) (caller index since : ℕ) where
       → (m : ℕ) → HoldsNode t m → HoldsNode s m ⊎ IsFree (f.version m) g
   lock_before (looks look) e mine m lock = inl (look_before look m lock)
   lock_before (locks {n = n} same named live between) e mine m lock = inr (subst (λ (v : ℕ). IsFree v g) (sym (ap f.version (sym lock) ∙ sym e ∙ same)) mine.free)
+  lock_before (locks_read {n = n} same named live between unworn taken small) e mine m lock = inr (subst (λ (v : ℕ). IsFree v g) (sym (ap f.version (sym lock) ∙ sym e ∙ same)) mine.free)
   lock_before (stores has content small clean soils learnt means) e mine m lock = inl lock
   lock_before (commits has content small clean durable soiled old about learnt means) e mine m lock = inl lock
   lock_before (drains has small unready hand cleans) e mine m lock = inl lock
@@ -478,6 +488,7 @@ module _ {l : Layout} {g : ℕ} (f : Facts) (caller index since : ℕ) where
       → (m : ℕ) → HoldsNode t m → HoldsNode s m ⊎ (IsWorn (f.version m) g → ⊥)
   taken_unworn (looks look) e mine m lock = inl (look_before look m lock)
   taken_unworn (locks {n = n} same named live between) e mine m lock = inr (λ worn. mine.unworn (subst (λ (v : ℕ). IsWorn v g) (ap f.version (sym lock) ∙ sym e ∙ same) worn))
+  taken_unworn (locks_read {n = n} same named live between unworn taken small) e mine m lock = inr (λ worn. unworn (subst (λ (v : ℕ). IsWorn v g) (ap f.version (sym lock) ∙ sym e ∙ same) worn))
   taken_unworn (stores has content small clean soils learnt means) e mine m lock = inl lock
   taken_unworn (commits has content small clean durable soiled old about learnt means) e mine m lock = inl lock
   taken_unworn (drains has small unready hand cleans) e mine m lock = inl lock
@@ -545,6 +556,8 @@ module _ {l : Layout} {g : ℕ} (f : Facts) (caller index since : ℕ) where
   stays_known (looks look) mine known m here = known m here
   stays_known (locks {n = n} {v = v} {w = w} same named live between) mine known m here =
       known_after l g f n w (let own = (own_lock v w g mine.known mine.unworn mine.lock).own in omega arith) known m here
+  stays_known (locks_read {n = n} {v = v} {w = w} same named live between unworn taken small) mine known m here =
+      known_after l g f n w (let own = (own_lock v w g mine.known unworn taken).own in omega arith) known m here
   stays_known (stores has content small clean soils learnt means) mine known m here = known m here
   stays_known (commits has content small clean durable soiled old about learnt means) mine known m here = known m here
   stays_known (drains has small unready hand cleans) mine known m here = known m here
@@ -630,6 +643,7 @@ module _ {l : Layout} {g : ℕ} (f : Facts) (caller index since : ℕ) where
       → (m : ℕ) → HoldsNode s m → (HoldsNode t m → ⊥) → IsGivenBack l g (fact_after k f caller index) m
   given_back (looks look) list mine m held gone = absurd (gone (look_freed look m held))
   given_back (locks same named live between) list mine m held gone = absurd held
+  given_back (locks_read same named live between unworn taken small) list mine m held gone = absurd held
   given_back (stores has content small clean soils learnt means) list mine m held gone = absurd (gone held)
   given_back (commits has content small clean durable soiled old about learnt means) list mine m held gone = absurd (gone held)
   given_back (drains has small unready hand cleans) list mine m held gone = absurd (gone held)

@@ -79,6 +79,7 @@ module _ {l : Layout} {g : ℕ} (f : Facts) (caller index since : ℕ) where
   once : {s : Stage} {a : Action} {x : ℕ} {t : Stage} {r : Option (Once Placed)} → Step l g s a x t r → Sure l g f caller index since s → Once_at s t
   once (kinds.looks look) knows = look_once look
   once (kinds.locks same named live between) knows = stay _ _ refl
+  once (kinds.locks_read same named live between unworn taken small) knows = stay _ _ refl
   once (kinds.stores has content small clean soils learnt means) knows = stay _ _ refl
   once (kinds.commits has content small clean durable soiled old about learnt means) knows = stay _ _ refl
   once (kinds.drains has small unready hand cleans) knows = stay _ _ refl

@@ -18,7 +18,7 @@ use Rattle.call_stages.specs.declared.once.Once.{Once}
 use Rattle.call_stages.specs.declared.once.Placed.{Placed}
 use Rattle.call_stages.specs.Stages.{Held, Sight, Stage, Saw, Holds, IsLoose, counted}
 use Rattle.call_stages.specs.Kinds.{Read, views, views_live, views_word, views_next, dates, notes, finds, confirms, wavers, reads_on}
-use Rattle.call_stages.specs.Kinds.{Look, turns_back, is_worn, wears, roams, roams_status, sees, misses, times, learns, decides, glances, finds_live, watches, watches_next, turns_away, steps_back, wanders, Split, fills, lights, switches, glances_left, glances_fresh, drains_left, drains_fresh, trims, splits, Merge, meets, knows_own, knows_right, copies, takes_up, puts_down, parts, gathers, joins, glances_joined, drains_joined, retires, yields, merges, peeks, peeks_status, eyes, eyes_free, passes, loses, claims, publishes, leaves, Step, looks, locks, stores, commits, drains, counts, unlocks, clock_address, word_address, version_address}
+use Rattle.call_stages.specs.Kinds.{Look, turns_back, is_worn, wears, roams, roams_status, sees, misses, times, learns, decides, glances, finds_live, watches, watches_next, turns_away, steps_back, wanders, Split, fills, lights, switches, glances_left, glances_fresh, drains_left, drains_fresh, trims, splits, Merge, meets, knows_own, knows_right, copies, takes_up, puts_down, parts, gathers, joins, glances_joined, drains_joined, retires, yields, merges, peeks, peeks_status, eyes, eyes_free, passes, loses, claims, publishes, leaves, Step, looks, locks, locks_read, stores, commits, drains, counts, unlocks, clock_address, word_address, version_address}
 use Rattle.index_law.specs.Facts.{Facts, facts_of, cached_word, spot_in, map_now, range_of}
 use Rattle.index_law.specs.Worlds.{written}
 use Rattle.data_node.specs.Spots.{bitmap_offset}
@@ -100,6 +100,7 @@ module _ {l : Layout} {g : ℕ} where
   abbrev pub fact_after : {s : Stage} {a : Action} {x : ℕ} {t : Stage} {r : Option (Once Placed)} → Step l g s a x t r → Facts → ℕ → ℕ → Facts
   fact_after (looks look) f caller index = f
   fact_after (locks {n = n} {w = w} same named live between) f caller index = with_version f n w
+  fact_after (locks_read {n = n} {w = w} same named live between unworn taken small) f caller index = with_version f n w
   fact_after (stores {n = n} {y = y} {offset = offset} has content small clean soils knows means) f caller index = with_word f n offset y
   fact_after (commits {n = n} {y = y} {offset = offset} has content small clean durable soiled old about knows means) f caller index = with_word f n offset y
   fact_after (drains has small unready hand cleans) f caller index = f
@@ -189,6 +190,7 @@ module _ {l : Layout} {g : ℕ} where
   abbrev pub Gives : {s : Stage} {a : Action} {x : ℕ} {t : Stage} {r : Option (Once Placed)} → Step l g s a x t r → Facts → Type 0
   Gives (looks look) f = Gave look f
   Gives (locks {n = n} {x = x} same named live between) f = x ≡ f.version n
+  Gives (locks_read {n = n} {x = x} same named live between unworn taken small) f = x ≡ f.version n
   Gives (stores has content small clean soils knows means) f = Unit {0}
   Gives (commits has content small clean durable soiled old about knows means) f = Unit {0}
   Gives (drains has small unready hand cleans) f = Unit {0}
@@ -358,6 +360,7 @@ module _ {l : Layout} {g : ℕ} where
         → x ≡ got l ws a → Sure l g (facts_of l ws base h) caller index since s → Gives k (facts_of l ws base h)
     gives (looks look) clock e knows = gave look clock e knows
     gives (locks {n = n} same named live between) clock e knows = e ∙ sym (version_in-here l ws n (here knows))
+    gives (locks_read {n = n} same named live between unworn taken small) clock e knows = e ∙ sym (version_in-here l ws n knows.here)
     gives (stores has content small clean soils learnt means) clock e knows = tt
     gives (commits has content small clean durable soiled old about learnt means) clock e knows = tt
     gives (drains has small unready hand cleans) clock e knows = tt
@@ -432,6 +435,12 @@ module _ {l : Layout} {g : ℕ} where
         unadded l base h (slice_set ws (version_address l n) (cond (word == v) w word)) [] refl
         ∙ ap (λ (y : ℕ). facts_of l (slice_set ws (version_address l n) y) base h) hit
         ∙ facts-version l ws base h n w row.whole (here knows)
+    facts_step (locks_read {n = n} {v = v} {w = w} {x = x} same named live between unworn taken small) row list e knows =
+        let word : ℕ = slice_index ws (version_address l n) in
+        let hit : cond (word == v) w word ≡ w = ap (λ (b : Bool). cond b w word) (eq-eqb word v (sym e ∙ same)) in
+        unadded l base h (slice_set ws (version_address l n) (cond (word == v) w word)) [] refl
+        ∙ ap (λ (y : ℕ). facts_of l (slice_set ws (version_address l n) y) base h) hit
+        ∙ facts-version l ws base h n w row.whole knows.here
     facts_step (stores {n = n} {w = w} {y = y} {offset = offset} {h = held} has content small clean soils learnt means) row list e knows =
         unadded l base h _ _ (unready_adds n w held caller index clean.ready) ∙ facts-word l ws base h n offset y row.whole has (content_positive offset content) (λ m listed. links_content (spot_in l ws) n offset y content m)
     facts_step (commits {n = n} {w = w} {y = y} {offset = offset} {h = held} has content small clean durable soiled old about learnt means) row list e knows =
@@ -504,6 +513,7 @@ module _ {l : Layout} {g : ℕ} where
     clock_step (looks look) row clock e knows =
         ap (λ (v : List ℕ). slice_index v (clock_address l)) (look_keeps look ws e) ∙ clock ∙ lengths h _ (look_adds look caller index)
     clock_step (locks {n = n} same named live between) row clock e knows = beside l ws (Cached (Node n 0)) _ (here knows, omega arith) (λ alike. cc) ∙ clock ∙ lengths h [] refl
+    clock_step (locks_read {n = n} same named live between unworn taken small) row clock e knows = beside l ws (Cached (Node n 0)) _ (knows.here, omega arith) (λ alike. cc) ∙ clock ∙ lengths h [] refl
     clock_step (stores {n = n} {w = w} {y = y} {offset = offset} {h = held} has content small clean soils learnt means) row clock e knows =
         beside l ws (Cached (Node n offset)) y has (λ alike. cc) ∙ clock ∙ lengths h _ (unready_adds n w held caller index clean.ready)
     clock_step (commits {n = n} {w = w} {y = y} {offset = offset} {h = held} has content small clean durable soiled old about learnt means) row clock e knows =

@@ -18,7 +18,7 @@ use Rattle.call_stages.specs.Lines.{HeldLine, line_address, IsEntry, IsFitLine, 
 use Rattle.index_law.specs.Facts.{Facts}
 use Rattle.index_law.specs.Worlds.{World, facts}
 use Rattle.index_law.specs.Lawful.{IsList, AreLive, AreKnown, AreSure, AreSettled, AreFreeOrHeld, AreBacked, Lawful}
-use Rattle.index_law.specs.Laws.{loads_clock, loads_word, loads_status, loads_prev, exchanges, stores_word, stores_status, drains_word, adds, claims_node, frees_fresh, frees_left, frees_met, frees_right, frees}
+use Rattle.index_law.specs.Laws.{loads_clock, loads_word, loads_status, loads_prev, exchanges, exchanges_read, stores_word, stores_status, drains_word, adds, claims_node, frees_fresh, frees_left, frees_met, frees_right, frees}
 use Rattle.index_law.specs.Twins.{IsMix, AreDurable}
 use Rattle.index_law.specs.Lines.{line_in, safe_line, AreFit, IsGiven, WaitsOrIsEmpty, IsWaiting, SureLine, NoteLaw, NotesKeep, NodesLeaveLines, EvictFits}
 use Rattle.index_law.proofs.Backing.{known_mix, before_store, before_mix, after_mix, without_mix}
@@ -83,6 +83,7 @@ nodes_leave_lines l words s a c j offset (loads_word {n = n} {offset = o} has) =
 nodes_leave_lines l words s a c j offset (loads_status {n = n} here) = load_leaves l words (acted l words a) (set-get_or words (status_address l n) 0) c j offset
 nodes_leave_lines l words s a c j offset (loads_prev {n = n} here) = load_leaves l words (acted l words a) (set-get_or words (prev_address l n) 0) c j offset
 nodes_leave_lines l words s a c j offset (exchanges {n = n} here) = store_leaves l words (Cached (Node n 0)) _ (here, omega arith) (no_line_node n 0) c j offset
+nodes_leave_lines l words s a c j offset (exchanges_read {n = n} here small) = store_leaves l words (Cached (Node n 0)) _ (here, omega arith) (no_line_node n 0) c j offset
 nodes_leave_lines l words s a c j offset (stores_word {n = n} {y = y} {offset = o} holds has positive small) = store_leaves l words (Cached (Node n o)) y has (no_line_node n o) c j offset
 nodes_leave_lines l words s a c j offset (stores_status {n = n} {y = y} holds here small) =
     store_leaves l words (Volatile n 0) y (here, omega arith) (λ d k q. (λ e. cc, λ e. cc)) c j offset

@@ -19,10 +19,10 @@ use Rattle.call_stages.specs.declared.once.Once.{Once}
 use Rattle.call_stages.specs.declared.once.Placed.{Placed}
 use Rattle.call_stages.specs.Stages.{Knows, KnowsDurable, IsAmong, Held, Stage, Idle, Saw, Wears, Reads, Holds, Eyes, Splits, Leaves, Meets, Joins, pended}
 use Rattle.call_stages.specs.Kinds.{finds_live, watches, watches_next, turns_away, steps_back, wanders, fills, lights, switches, glances_left, glances_fresh, drains_left, drains_fresh, trims, meets, knows_own, knows_right, copies, takes_up, puts_down, parts, gathers, joins, glances_joined, drains_joined, retires, yields, merges, splits, peeks, peeks_status, eyes, eyes_free, passes, loses, claims, publishes, leaves}
-use Rattle.call_stages.specs.Kinds.{Look, turns_back, is_worn, wears, roams, roams_status, sees, misses, times, learns, decides, glances, Answers, writes, reads, is_spent, has_no_room, refuses, Step, looks, locks, stores, commits, drains, counts, unlocks}
+use Rattle.call_stages.specs.Kinds.{Look, turns_back, is_worn, wears, roams, roams_status, sees, misses, times, learns, decides, glances, Answers, writes, reads, is_spent, has_no_room, refuses, Step, looks, locks, locks_read, stores, commits, drains, counts, unlocks}
 use Rattle.index_law.specs.Facts.{Facts, map_now, range_of}
 use Rattle.index_law.specs.Lawful.{IsList, AreLive, AreKnown, AreSettled, IsTime, HasWriteAt, IsPlaced, map_before, SureHolds, Sure}
-use Rattle.index_law.specs.Laws.{loads_clock, loads_word, loads_status, loads_prev, exchanges, stores_word, stores_status, drains_word, adds, claims_node, frees_fresh, frees_left, frees_met, frees_right, frees, IsWithin, StepIsAllowed, IsLegalHeld, IsLegal}
+use Rattle.index_law.specs.Laws.{loads_clock, loads_word, loads_status, loads_prev, exchanges, exchanges_read, stores_word, stores_status, drains_word, adds, claims_node, frees_fresh, frees_left, frees_met, frees_right, frees, IsWithin, StepIsAllowed, IsLegalHeld, IsLegal}
 use Rattle.index_law.proofs.Maps.{after_all-push, after-longer, after-whole, slice_get-last, means_alike}
 use Rattle.index_law.proofs.Moves.{fact_after, Gave, Gives, content_positive}
 use Rattle.index_law.proofs.Rows.{with_version, with_word}
@@ -63,6 +63,7 @@ allow_law l g s a x t r within (looks (decides has positive clean durable about 
 allow_law l g s a x t r within (looks (reads_on k)) = read_allowed k
 allow_law l g s a x t r within (looks (glances has unready)) = loads_word has
 allow_law l g s a x t r within (locks same named live between) = exchanges within
+allow_law l g s a x t r within (locks_read same named live between unworn taken small) = exchanges_read within small
 allow_law l g s a x t r within (stores {offset = offset} has content small clean soils learnt means) = stores_word refl has (content_positive offset content) small
 allow_law l g s a x t r within (commits {offset = offset} has content small clean durable soiled old about learnt means) = stores_word refl has (content_positive offset content) small
 allow_law l g s a x t r within (drains has small unready hand cleans) = drains_word refl has small
@@ -344,6 +345,23 @@ module _ {l : Layout} {g : ℕ} (f : Facts) (caller index since : ℕ) where
       old = tt;
       placed = tt;
     }
+    mine (locks_read {n = n} {v = v} {w = w} {name = name} same named live between unworn taken small) e knows = record {
+      here = knows.here;
+      stands = ap (λ (b : Bool). cond b w (f.version n)) (eq-eqb n n refl);
+      lock = own_lock v w g knows.known unworn taken;
+      named = named;
+      inside = between_inside l f list n name ((knows.stands (sym e ∙ same)).listed live) (between (f.now n) (f.now (f.now n next_offset)) (knows.stands (sym e ∙ same)).sees);
+      knows = record { seen = tt; left = tt };
+      hand = tt;
+      means = (settled n ((knows.stands (sym e ∙ same)).listed live) (subst (λ (u : ℕ). IsFree u g) (sym (sym e ∙ same)) knows.free)).means;
+      stays = (settled n ((knows.stands (sym e ∙ same)).listed live) (subst (λ (u : ℕ). IsFree u g) (sym (sym e ∙ same)) knows.free)).stays;
+      about = tt;
+      shown = tt;
+      below = tt;
+      time = tt;
+      old = tt;
+      placed = tt;
+    }
     mine (stores {n = n} {y = y} {offset = offset} {h = h} {k = k} has content small clean soils learnt means) e knows = record {
       here = knows.here;
       stands = knows.stands;
@@ -538,6 +556,7 @@ module _ {l : Layout} {g : ℕ} (f : Facts) (caller index since : ℕ) where
   legal (looks (reads_on k)) e knows = read_legal f caller index since k e knows
   legal (looks (glances has unready)) e knows = tt
   legal (locks same named live between) e knows = tt
+  legal (locks_read same named live between unworn taken small) e knows = tt
   legal (stores has content small clean soils learnt means) e knows = tt
   legal (commits has content small clean durable soiled old about learnt means) e knows = tt
   legal (drains has small unready hand cleans) e knows = tt

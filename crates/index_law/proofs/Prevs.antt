@@ -29,7 +29,7 @@ use Rattle.index_law.specs.Facts.{Facts, IsListed}
 use Rattle.index_law.specs.Worlds.{Party, World, facts, moved_on, stepped, evicted_world}
 use Rattle.index_law.specs.Lawful.{Lawful, IsList, Sure, SureJoins}
 use Rattle.call_stages.specs.Stages.{HoldsNode}
-use Rattle.index_law.specs.Laws.{Allowed, loads_clock, loads_word, loads_status, loads_prev, exchanges, stores_word, stores_status, drains_word, adds, claims_node, frees_fresh, frees_left, frees_met, frees_right, frees}
+use Rattle.index_law.specs.Laws.{Allowed, loads_clock, loads_word, loads_status, loads_prev, exchanges, exchanges_read, stores_word, stores_status, drains_word, adds, claims_node, frees_fresh, frees_left, frees_met, frees_right, frees}
 use Rattle.call_stages.specs.Prevs.{IsSwitch, IsJoin}
 use Rattle.call_stages.specs.Orders.{IsOneOf, Ordered, StandOnce, AreInOrder}
 use Rattle.index_law.specs.Prevs.{prev_in, Traced, IsOwed, IsGone, IsTraced, StepTraces, PrevTraces, EvictTraces, StartTraces, ComesOut, GoneComeOut, PrevsAreNodes, RestIsTraced, IdleFollow}
@@ -64,6 +64,7 @@ nodes_leave_prevs l words s a n (loads_word {n = m} {offset = o} has) = ap (λ v
 nodes_leave_prevs l words s a n (loads_status {n = m} here) = ap (λ v. prev_in l v n) (set-get_or words (status_address l m) 0)
 nodes_leave_prevs l words s a n (loads_prev {n = m} here) = ap (λ v. prev_in l v n) (set-get_or words (prev_address l m) 0)
 nodes_leave_prevs l words s a n (exchanges {n = m} here) = store_prev l words (Cached (Node m 0)) _ (here, omega arith) (λ k e. cc) n
+nodes_leave_prevs l words s a n (exchanges_read {n = m} here small) = store_prev l words (Cached (Node m 0)) _ (here, omega arith) (λ k e. cc) n
 nodes_leave_prevs l words s a n (stores_word {n = m} {y = y} {offset = o} holds has positive small) = store_prev l words (Cached (Node m o)) y has (λ k e. cc) n
 nodes_leave_prevs l words s a n (stores_status {n = m} {y = y} holds here small) = store_prev l words (Volatile m 0) y (here, omega arith) (λ k e. cc) n
 nodes_leave_prevs l words s a n (drains_word {n = m} {y = y} {offset = o} holds has small) =
@@ -241,6 +242,7 @@ module _ {l : Layout} {g : ℕ} (f : Facts) (caller index : ℕ) where
   goes : {s : Stage} {a : Action} {x : ℕ} {t : Stage} {r : Option (Once Placed)} → (k : Step l g s a x t r) → Goes s t f (fact_after k f caller index)
   goes (kinds.looks look) = inl (λ n is. is)
   goes (kinds.locks same named live between) = inl (λ n is. is)
+  goes (kinds.locks_read same named live between unworn taken small) = inl (λ n is. is)
   goes (kinds.stores has content small clean soils learnt means) = inl (λ n is. is)
   goes (kinds.commits has content small clean durable soiled old about learnt means) = inl (λ n is. is)
   goes (kinds.drains has small unready hand cleans) = inl (λ n is. is)

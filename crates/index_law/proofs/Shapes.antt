@@ -8,7 +8,7 @@ use Rattle.data_node.specs.Weights.{names_in}
 use Rattle.call_stages.specs.declared.once.Once.{Once}
 use Rattle.call_stages.specs.declared.once.Placed.{Placed}
 use Rattle.call_stages.specs.Stages.{Stage}
-use Rattle.call_stages.specs.Kinds.{below_key, Split, fills, lights, switches, glances_left, glances_fresh, drains_left, drains_fresh, trims, Merge, meets, knows_own, knows_right, copies, takes_up, puts_down, parts, gathers, joins, glances_joined, drains_joined, retires, yields, merges, from_key, Step, looks, locks, stores, commits, drains, counts, unlocks, splits, claims, publishes, leaves}
+use Rattle.call_stages.specs.Kinds.{below_key, Split, fills, lights, switches, glances_left, glances_fresh, drains_left, drains_fresh, trims, Merge, meets, knows_own, knows_right, copies, takes_up, puts_down, parts, gathers, joins, glances_joined, drains_joined, retires, yields, merges, from_key, Step, looks, locks, locks_read, stores, commits, drains, counts, unlocks, splits, claims, publishes, leaves}
 use Rattle.index_law.specs.Facts.{Facts, map_now, range_of}
 use Rattle.index_law.specs.Lawful.{IsList, SureJoins, Sure}
 use Rattle.index_law.proofs.Past.{range_right}
@@ -114,6 +114,7 @@ module _ {l : Layout} {g : ℕ} (f : Facts) (caller index since : ℕ) where
       ⊎ ((join : IsJoin s t) × (merged : IsMerged l f (fact_after k f caller index).list) × (merged.node ≡ join.left.node)))
   shapes (looks look) list knows = inl refl
   shapes (locks same named live between) list knows = inl refl
+  shapes (locks_read same named live between unworn taken small) list knows = inl refl
   shapes (stores has content small clean soils learnt means) list knows = inl refl
   shapes (commits has content small clean durable soiled old about learnt means) list knows = inl refl
   shapes (drains has small unready hand cleans) list knows = inl refl

@@ -22,7 +22,7 @@ use Rattle.call_stages.specs.declared.once.Placed.{Placed}
 use Rattle.data_node.specs.Spots.{bitmap_offset}
 use Rattle.data_node.specs.Lists.{ListNode, next_offset, anchor_in, key_of}
 use Rattle.call_stages.specs.Stages.{Held, Gathered, Joined, Gone, Stage, Idle, Saw, Wears, Reads, Holds, Eyes, Splits, Leaves, Meets, Joins, pended}
-use Rattle.call_stages.specs.Kinds.{Look, turns_back, is_worn, wears, roams, roams_status, sees, misses, times, learns, decides, glances, finds_live, watches, watches_next, turns_away, steps_back, wanders, from_key, below_key, Merge, meets, knows_own, knows_right, copies, takes_up, puts_down, parts, gathers, joins, glances_joined, drains_joined, retires, yields, merges, Split, fills, lights, switches, glances_left, glances_fresh, drains_left, drains_fresh, trims, splits, peeks, peeks_status, eyes, eyes_free, passes, loses, claims, publishes, leaves, Step, looks, locks, stores, commits, drains, counts, unlocks, word_address}
+use Rattle.call_stages.specs.Kinds.{Look, turns_back, is_worn, wears, roams, roams_status, sees, misses, times, learns, decides, glances, finds_live, watches, watches_next, turns_away, steps_back, wanders, from_key, below_key, Merge, meets, knows_own, knows_right, copies, takes_up, puts_down, parts, gathers, joins, glances_joined, drains_joined, retires, yields, merges, Split, fills, lights, switches, glances_left, glances_fresh, drains_left, drains_fresh, trims, splits, peeks, peeks_status, eyes, eyes_free, passes, loses, claims, publishes, leaves, Step, looks, locks, locks_read, stores, commits, drains, counts, unlocks, word_address}
 use Rattle.index_law.specs.Facts.{Facts, map_now, range_of, durable_spot, IsListed}
 use Rattle.index_law.specs.Worlds.{Party, World, facts, moved_on}
 use Rattle.index_law.specs.Lawful.{Lawful, IsLinked, IsList, Each, IsHeld, SureHolds, Sure, map_before}
@@ -305,6 +305,7 @@ module _ {l : Layout} {g : ℕ} (f : Facts) (caller index since : ℕ) where
       → Sure l g (fact_after k f caller index) caller index since t → RisesBy (AddsName l s a t) (own_sum l f s) (own_sum l (fact_after k f caller index) t)
   own_weighs list (looks look) e knows after = let same = look_lowers look e knows after in inl (omega arith)
   own_weighs list (locks same named live between) e knows after = inl (omega arith)
+  own_weighs list (locks_read same named live between unworn taken small) e knows after = inl (omega arith)
   own_weighs list (stores {n = n} {y = y} {offset = offset} {h = h} has content small clean soils learnt means) e knows after =
       let φ = with_word f n offset y in
       let one = content_weighs l f list n offset y (inside_listed l f list n h.name knows.inside) in
@@ -376,6 +377,7 @@ module _ {l : Layout} {g : ℕ} (f : Facts) (caller index since : ℕ) where
       × (gone_weight (l.slots / 2) (fact_after k f caller index).status l.nodes ≤ gone_weight (l.slots / 2) f.status l.nodes + l.slots / 2))
   gone_step (looks look) = inl (omega arith)
   gone_step (locks same named live between) = inl (omega arith)
+  gone_step (locks_read same named live between unworn taken small) = inl (omega arith)
   gone_step (stores has content small clean soils learnt means) = inl (omega arith)
   gone_step (commits has content small clean durable soiled old about learnt means) = inl (omega arith)
   gone_step (drains has small unready hand cleans) = inl (omega arith)

@@ -46,6 +46,8 @@ pub data Allowed (l : Layout) : Stage → Action → Type 0 where
   loads_prev : {s : Stage} {n : ℕ} → n < l.nodes → Allowed l s (Load (prev_address l n))
   -- to take the lock, it puts the word that it made of the version that it saw
   exchanges : {n v w : ℕ} {k : Sight} → n < l.nodes → Allowed l (Saw n v w k) (Exchange (version_address l n) v w)
+  exchanges_read : {n v w : ℕ} {k : Sight} → n < l.nodes → w < 2 ^ 64 →
+      Allowed l (Reads n v k None) (Exchange (version_address l n) v w)
   -- into the words of a node that it holds
   stores_word : {s : Stage} {n y offset : ℕ} → HoldsNode s n → HasWordAt l n offset → 0 < offset → y < 2 ^ 64 →
       Allowed l s (Store (word_address l n offset) y)

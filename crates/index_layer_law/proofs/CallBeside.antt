@@ -7,7 +7,7 @@ use lib.ListN.{get_elem?}
 use Rattle.pm_words.specs.declared.layout.Layout.{Layout}
 use Rattle.pm_words.specs.declared.action.Action.{Action}
 use Rattle.pm_words.specs.declared.action.Action.TheVariants.{Drain}
-use Rattle.pm_words.specs.Locations.{Location, Line, Leaf, Updater, Volatile, Cached, Durable, HasLocation, at}
+use Rattle.pm_words.specs.Locations.{Location, Line, Leaf, Updater, Volatile, Cached, Durable, HasLocation, address_of, at}
 use Rattle.pm_words.specs.Rows.{acted}
 use Rattle.pm_words.proofs.Apart.{at-set_other}
 use Rattle.pm_words.proofs.Kept.{action_address-drain}
@@ -16,12 +16,14 @@ use Rattle.data_node.specs.Lists.{next_offset, anchor_in, key_of}
 use Rattle.call_stages.specs.Stages.{Stage, Held, Grip, Gone, Gathered, Joined, Joins, Idle, Saw, Wears, Reads, Holds, Eyes, Splits, Leaves, Meets, HoldsNode, Tells}
 use Rattle.call_stages.specs.Kinds.{prev_address}
 use Rattle.call_stages.specs.Lines.{HeldLine, line_address, Marks, fills, opens, readies, Notes, passes_line, takes, looks_up, notes, keeps_safe}
+use Rattle.call_stages.specs.AnySteps.{IsOnPermutation}
 use Rattle.call_stages.specs.Footings.{Waits, IsRetired, IsOfMerge}
 use Rattle.call_stages.specs.Prevs.{Debt, Prevs, names, pays, renews}
 use Rattle.index_law.specs.Facts.{Facts, IsListed}
 use Rattle.index_law.specs.Worlds.{Party, World, facts}
 use Rattle.index_law.specs.Lawful.{Sure, Lawful}
 use Rattle.index_law.specs.Lines.{line_in, SureLine}
+use Rattle.index_law.proofs.AnySteps.{stored_word}
 use Rattle.index_law.proofs.Noting.{hand_word, line-here, marks_unready}
 use Rattle.index_law.proofs.Prevs.{leads_now}
 use Rattle.index_law.proofs.Starts.{listed_within}
@@ -185,24 +187,26 @@ module _ (z : Layered) (i : ℕ) (p : Party) (is : IsLayered z) (there : get_ele
   abbrev BesidesAll : List ℕ → Type 0
   BesidesAll after = Besides w is.holder after × ((o : ℕ) → o < 8 → line_field l after Cached o ≡ line_field l words Cached o)
 
-  prev_store : (n y : ℕ) → n < l.nodes → BesidesAll (slice_set words (prev_address l n) y)
-  prev_store n y within =
-      let has : HasLocation l (Volatile n 1) = (within, omega arith) in
-      let rest : rest_in l (slice_set words (prev_address l n) y) ≡ rest_in l words = rest_same l words (slice_set words (prev_address l n) y) (record {
-        stamp = λ m there_m. at-set_other l words (Volatile n 1) (Volatile m 2) y has (there_m, omega arith) (λ d. let no : 2 ≡ 1 = ap offset_of d in omega arith);
-        line = λ j o there_j small. at-set_other l words (Volatile n 1) (Cached (line_word o j)) y has (omega arith, omega arith, small) (λ d. cc);
-        safe_line = λ j o there_j small. at-set_other l words (Volatile n 1) (Durable (line_word o j)) y has (omega arith, omega arith, small) (λ d. cc);
-        leaf = λ m o there_m small. at-set_other l words (Volatile n 1) (Cached (Leaf m o)) y has (there_m, small) (λ d. cc);
-        safe_leaf = λ m o there_m small. at-set_other l words (Volatile n 1) (Durable (Leaf m o)) y has (there_m, small) (λ d. cc);
+  volatile_store : (n offset y : ℕ) → n < l.nodes → offset < 16 → offset ≢ 2 → BesidesAll (slice_set words (address_of l (Volatile n offset)) y)
+  volatile_store n offset y within most no_stamp =
+      let p : Location = Volatile n offset in
+      let after : List ℕ = slice_set words (address_of l (Volatile n offset)) y in
+      let has : HasLocation l (Volatile n offset) = (within, most) in
+      let rest : rest_in l after ≡ rest_in l words = rest_same l words after (record {
+        stamp = λ m there_m. at-set_other l words p (Volatile m 2) y has (there_m, omega arith) (λ d. no_stamp (sym (ap offset_of d)));
+        line = λ j o there_j small. at-set_other l words p (Cached (line_word o j)) y has (omega arith, omega arith, small) (λ d. cc);
+        safe_line = λ j o there_j small. at-set_other l words p (Durable (line_word o j)) y has (omega arith, omega arith, small) (λ d. cc);
+        leaf = λ m o there_m small. at-set_other l words p (Cached (Leaf m o)) y has (there_m, small) (λ d. cc);
+        safe_leaf = λ m o there_m small. at-set_other l words p (Durable (Leaf m o)) y has (there_m, small) (λ d. cc);
       }) in
-      let lines : (o : ℕ) → o < 8 → line_field l (slice_set words (prev_address l n) y) Cached o ≡ line_field l words Cached o =
-      λ o small. column-same l words (slice_set words (prev_address l n) y) (line_count l) (λ m. Cached (line_word o m))
-      (λ j there_j. at-set_other l words (Volatile n 1) (Cached (line_word o j)) y has (omega arith, omega arith, small) (λ d. cc)) in (
+      let lines : (o : ℕ) → o < 8 → line_field l after Cached o ≡ line_field l words Cached o =
+      λ o small. column-same l words after (line_count l) (λ m. Cached (line_word o m))
+      (λ j there_j. at-set_other l words p (Cached (line_word o j)) y has (omega arith, omega arith, small) (λ d. cc)) in (
         record {
           cached = ap (λ (r : Rest). r.leaves) rest;
           durable = ap (λ (r : Rest). r.safe_leaves) rest;
           lines = λ j two o small. ap (λ (column : ℕ → ℕ). column j) (lines o small);
-          lock = at-set_other l words (Volatile n 1) Updater y has tt (λ d. cc);
+          lock = at-set_other l words p Updater y has tt (λ d. cc);
           moved = inl (ap (known l g f is.holder) rest);
         },
         lines,
@@ -211,6 +215,16 @@ module _ (z : Layered) (i : ℕ) (p : Party) (is : IsLayered z) (there : get_ele
       offset_of : Location → ℕ
       offset_of (Volatile m o) = o
       offset_of _ = 0
+
+  prev_store : (n y : ℕ) → n < l.nodes → BesidesAll (slice_set words (prev_address l n) y)
+  prev_store n y within = volatile_store n 1 y within (omega arith) (λ e. omega arith)
+
+  -- or a load or a store of a permutation
+  pub permutation_beside : (a : Action) → IsOnPermutation l a → BesidesAll (acted l words a)
+  permutation_beside a on =
+      let at_word = stored_word l words a on in
+      let least = at_word.least in
+      subst BesidesAll (sym at_word.is) (volatile_store at_word.node at_word.offset at_word.word at_word.here at_word.most (λ e. omega arith))
 
   pub prev_beside : (d d' : Debt) (a : Action) → get_elem? z.whole.debts i ≡ some d → Prevs l p.stage d a d' → BesidesAll (acted l words a)
   prev_beside d d' a owing prevs = of p.stage a d d' refl owing prevs

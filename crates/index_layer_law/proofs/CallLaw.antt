@@ -15,7 +15,7 @@ use Rattle.data_node.specs.Lists.{anchor_in}
 use Rattle.call_stages.specs.Stages.{Stage, Held, Grip, Gone, Joins, HoldsNode, IsSwitched, counted}
 use Rattle.call_stages.specs.Kinds.{Step}
 use Rattle.call_stages.specs.Lines.{HeldLine, line_address, Marks, Notes, passes_line, takes, looks_up, notes, keeps_safe}
-use Rattle.call_stages.specs.AnySteps.{IsBeside}
+use Rattle.call_stages.specs.AnySteps.{IsBeside, on_permutation}
 use Rattle.call_stages.specs.Footings.{Footing, Minds, Waits, HasLine, IsOfMerge, FootStep}
 use Rattle.call_stages.specs.Footings as foot
 use Rattle.call_stages.specs.Prevs.{Debt, Prevs}
@@ -46,7 +46,7 @@ use Rattle.index_layer_law.proofs.CallNotes.{stored, field_else, field_other, st
 use Rattle.index_layer_law.proofs.CallRows.{row_after}
 use Rattle.index_layer_law.proofs.CallNodes.{moved_along}
 use Rattle.index_layer_law.proofs.CallLayered.{nodes_keep}
-use Rattle.index_layer_law.proofs.CallBeside.{Besides, marks_ready, own_ready, line_beside, prev_beside}
+use Rattle.index_layer_law.proofs.CallBeside.{Besides, marks_ready, own_ready, line_beside, prev_beside, permutation_beside}
 use Rattle.index_layer_law.proofs.TurnWalks.{found_target}
 
 -- A step beside nodes leaves the stages of the parties.
@@ -310,3 +310,11 @@ call_step_keeps z i p f next a x r is there at owing stage (foot.on_prev {stage 
 call_step_keeps z i p f next a x r is there at owing stage (foot.on_layer {stage = s} {line = line} {debt = d} {leaf = leaf} {offset = offset} none has) told room =
     let stays = layer_load_stays z.whole i p (record { stage = s; line = line; debt = d }) leaf offset there at owing stage none in
     subst (λ (whole : Whole). IsLayered (record { whole = whole; turns = z.turns })) (sym stays) is
+call_step_keeps z i p f next a x r is there at owing stage (foot.on_permutation {stage = s} {line = line} {debt = d} none on) told room =
+    let whole = foot_keeps z.whole i p f next a x r is.whole is.tended there at owing stage (foot.on_permutation none on) told room in
+    let goal : Stage → Type 0 = λ u. IsLayered (record { whole = stepped_whole z.whole i p a (record { stage = u; line = line; debt = d }); turns = z.turns }) in
+    let none' : counted p.stage ≡ None = ap counted stage ∙ none in
+    let whole' = subst (λ (u : Stage). IsWhole (stepped_whole z.whole i p a (record { stage = u; line = line; debt = d })) × AreTended (stepped_whole z.whole i p a (record { stage = u; line = line; debt = d }))) (sym stage) whole in
+    let both = permutation_beside z i p is there a on in
+    subst goal stage (beside_layered z i p is there a line line d none' (on_permutation on) whole' both.0 at (λ n is_switched P has. has)
+    (same_retiring z i p is there a line line d none' (on_permutation on) whole' both.0 both.1 at (λ right f was. was)))

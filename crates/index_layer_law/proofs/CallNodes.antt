@@ -11,7 +11,7 @@ use Rattle.version_lock.proofs.WordTests.{free_is}
 use Rattle.call_stages.specs.declared.once.Once.{Once}
 use Rattle.call_stages.specs.declared.once.Placed.{Placed}
 use Rattle.call_stages.specs.Stages.{Stage, Held, Grip, Gone, Joined, Gathered, Joins, HoldsNode}
-use Rattle.call_stages.specs.Kinds.{Look, turns_back, wears, roams, roams_status, is_worn, sees, finds_live, watches, watches_next, turns_away, steps_back, wanders, peeks, peeks_status, eyes, eyes_free, passes, loses, misses, times, learns, decides, glances, Step, looks, locks, stores, commits, drains, counts, unlocks, splits, merges, claims, publishes, leaves, meets, knows_own, knows_right, copies, takes_up, puts_down, parts, gathers, joins, glances_joined, drains_joined, retires, yields, Merge, Split, fills, lights, switches, glances_left, glances_fresh, drains_left, drains_fresh, trims}
+use Rattle.call_stages.specs.Kinds.{Look, turns_back, wears, roams, roams_status, is_worn, sees, finds_live, watches, watches_next, turns_away, steps_back, wanders, peeks, peeks_status, eyes, eyes_free, passes, loses, misses, times, learns, decides, glances, Step, looks, locks, locks_read, stores, commits, drains, counts, unlocks, splits, merges, claims, publishes, leaves, meets, knows_own, knows_right, copies, takes_up, puts_down, parts, gathers, joins, glances_joined, drains_joined, retires, yields, Merge, Split, fills, lights, switches, glances_left, glances_fresh, drains_left, drains_fresh, trims}
 use Rattle.call_stages.specs.Lines.{HeldLine}
 use Rattle.call_stages.specs.Footings.{Minds, HasLine}
 use Rattle.index_law.specs.Facts.{Facts, version_in}
@@ -67,6 +67,7 @@ module _ (l : Layout) (g : ℕ) (f : Facts) (holder : ℕ → ℕ) (i caller ind
   pub mine_after : {s : Stage} {a : Action} {x : ℕ} {t : Stage} {r : Option (Once Placed)} (k : Step l g s a x t r) → ((m : ℕ) → HoldsNode s m → holder m ≡ i) → (m : ℕ) → HoldsNode t m → holder_after k holder i m ≡ i
   mine_after {s = s} {a = a} {x = x} {t = t} {r = r} (looks look) own m held = own m (look_before f caller index since look m held)
   mine_after (locks {n = n} same named live between) own m held = here holder n m i (sym held)
+  mine_after (locks_read {n = n} same named live between unworn taken small) own m held = here holder n m i (sym held)
   mine_after (stores has content small clean soils learnt means) own m held = own m held
   mine_after (commits has content small clean durable soiled old about learnt means) own m held = own m held
   mine_after (drains has small unready hand cleans) own m held = own m held
@@ -101,6 +102,7 @@ module _ (l : Layout) (g : ℕ) (f : Facts) (holder : ℕ → ℕ) (i caller ind
   pub others_after : {s : Stage} {a : Action} {x : ℕ} {t : Stage} {r : Option (Once Placed)} (k : Step l g s a x t r) → Gives k f → Sure l g f caller index since s → (m : ℕ) → (IsFree (f.version m) g → ⊥) → holder_after k holder i m ≡ holder m
   others_after (looks look) given sure m held = refl
   others_after (locks {n = n} {v = v} {x = x} same named live between) given sure m held = apart_lock n m v x given same sure.free held
+  others_after (locks_read {n = n} {v = v} {x = x} same named live between unworn taken small) given sure m held = apart_lock n m v x given same sure.free held
   others_after (stores has content small clean soils learnt means) given sure m held = refl
   others_after (commits has content small clean durable soiled old about learnt means) given sure m held = refl
   others_after (drains has small unready hand cleans) given sure m held = refl
@@ -187,6 +189,7 @@ comes step line minds h left right is = of step minds is
     of : {l : Layout} {g : ℕ} {s : Stage} {a : Action} {x : ℕ} {t : Stage} {r : Option (Once Placed)} → Step l g s a x t r → Minds s t line → t ≡ Joins h left right Gone → Comes s line right
     of (looks look) minds is = absurd (no_look look is)
     of (locks same named live between) minds is = absurd (cc)
+    of (locks_read same named live between unworn taken small) minds is = absurd (cc)
     of (stores has content small clean soils learnt means) minds is = absurd (cc)
     of (commits has content small clean durable soiled old about learnt means) minds is = absurd (cc)
     of (drains has small unready hand cleans) minds is = absurd (cc)

@@ -13,7 +13,7 @@ use Rattle.data_node.specs.Lists.{StaysIn, next_offset, anchor_in}
 use Rattle.call_stages.specs.declared.once.Once.{Once}
 use Rattle.call_stages.specs.declared.once.Placed.{Placed}
 use Rattle.call_stages.specs.Stages.{Stage, Held, Grip, Filling, Gathered, Gone, Splits, Joins, Holds, HoldsNode, Tells}
-use Rattle.call_stages.specs.Kinds.{IsCut, Step, looks, locks, stores, commits, drains, counts, unlocks, splits, merges, claims, publishes, leaves, Split, fills, lights, switches, glances_left, glances_fresh, drains_left, drains_fresh, trims, Merge, meets, knows_own, knows_right, copies, takes_up, puts_down, parts, gathers, joins, glances_joined, drains_joined, retires, yields}
+use Rattle.call_stages.specs.Kinds.{IsCut, Step, looks, locks, locks_read, stores, commits, drains, counts, unlocks, splits, merges, claims, publishes, leaves, Split, fills, lights, switches, glances_left, glances_fresh, drains_left, drains_fresh, trims, Merge, meets, knows_own, knows_right, copies, takes_up, puts_down, parts, gathers, joins, glances_joined, drains_joined, retires, yields}
 use Rattle.call_stages.specs.Lines.{HeldLine}
 use Rattle.call_stages.specs.Footings.{Minds, HasLine, IsOfMerge, IsOpenOf}
 use Rattle.index_law.specs.Facts.{Facts, facts_of, map_now, IsListed, range_of}
@@ -38,6 +38,7 @@ use Rattle.index_layer_law.proofs.CallLines.{IsOpenNumber, named_words, open_cov
 -- the step of a lock makes its party the holder
 abbrev pub holder_after : {l : Layout} {g : ℕ} {s : Stage} {a : Action} {x : ℕ} {t : Stage} {r : Option (Once Placed)} → Step l g s a x t r → (ℕ → ℕ) → ℕ → ℕ → ℕ
 holder_after (locks {n = n} same named live between) holder i = set_at holder n i
+holder_after (locks_read {n = n} same named live between unworn taken small) holder i = set_at holder n i
 holder_after (claims {m = m} unplaced here same) holder i = set_at holder m i
 holder_after (merges (meets {m = m} here same untimed leads)) holder i = set_at holder m i
 holder_after _ holder i = holder
@@ -220,6 +221,10 @@ module _ (l : Layout) (g : ℕ) (words : List ℕ) (base : Map) (history : List 
       let sure = context.sure in
       let version : f.version n ≡ v = sym given ∙ same in
       lock context n w ((sure.stands version).listed live) (subst (λ u. IsFree u g) (sym version) sure.free) (λ worn. sure.unworn (subst (λ u. IsWorn u g) version worn)) (own_lock v w g sure.known sure.unworn sure.lock)
+  moved (locks_read {n = n} {v = v} {w = w} same named live between unworn taken small) given context line sure_line minds gives =
+      let sure = context.sure in
+      let version : f.version n ≡ v = sym given ∙ same in
+      lock context n w ((sure.stands version).listed live) (subst (λ u. IsFree u g) (sym version) sure.free) (λ worn. unworn (subst (λ u. IsWorn u g) version worn)) (own_lock v w g sure.known unworn taken)
   moved (stores {n = n} {y = y} {offset = offset} has content small clean soils learnt means) given context line sure_line minds gives = inl (content_path l g f (rest_in l words) holder n offset y content)
   moved (commits {n = n} {y = y} {offset = offset} has content small clean durable soiled old about learnt means) given context line sure_line minds gives = inl (content_path l g f (rest_in l words) holder n offset y content)
   moved (drains has small unready hand cleans) given context line sure_line minds gives = inl refl

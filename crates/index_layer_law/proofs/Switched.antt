@@ -11,7 +11,7 @@ use Rattle.data_node.specs.Lists.{next_offset, anchor_in, key_of}
 use Rattle.call_stages.specs.declared.once.Once.{Once}
 use Rattle.call_stages.specs.declared.once.Placed.{Placed}
 use Rattle.call_stages.specs.Stages.{Stage, Held, Grip, Phase, Filling, Linked, Parted, Pace, Gathered, Joined, Gone, Idle, Saw, Wears, Reads, Holds, Eyes, Splits, Leaves, Meets, Joins, IsSwitched}
-use Rattle.call_stages.specs.Kinds.{Look, turns_back, wears, roams, roams_status, is_worn, sees, finds_live, watches, watches_next, turns_away, steps_back, wanders, peeks, peeks_status, eyes, eyes_free, passes, loses, misses, times, learns, decides, glances, Step, looks, locks, stores, commits, drains, counts, unlocks, splits, merges, claims, publishes, leaves, Split, fills, lights, switches, glances_left, glances_fresh, drains_left, drains_fresh, trims, Merge, meets, knows_own, knows_right, copies, takes_up, puts_down, parts, gathers, joins, glances_joined, drains_joined, retires, yields}
+use Rattle.call_stages.specs.Kinds.{Look, turns_back, wears, roams, roams_status, is_worn, sees, finds_live, watches, watches_next, turns_away, steps_back, wanders, peeks, peeks_status, eyes, eyes_free, passes, loses, misses, times, learns, decides, glances, Step, looks, locks, locks_read, stores, commits, drains, counts, unlocks, splits, merges, claims, publishes, leaves, Split, fills, lights, switches, glances_left, glances_fresh, drains_left, drains_fresh, trims, Merge, meets, knows_own, knows_right, copies, takes_up, puts_down, parts, gathers, joins, glances_joined, drains_joined, retires, yields}
 use Rattle.call_stages.specs.Lines.{HeldLine, Notes, passes_line, takes, looks_up, notes, keeps_safe}
 use Rattle.call_stages.specs.Footings.{Minds, Waits, HasLine, IsOpenOf, IsOfMerge, IsKnownEmpty, IsLeftToTurn, KeepsOrLetsGo}
 use Rattle.index_law.specs.Facts.{Facts, facts_of, map_now, range_of}
@@ -213,6 +213,7 @@ module _ (l : Layout) (g : ℕ) (words : List ℕ) (base : Map) (history : List 
   pub arrives : {s t : Stage} {a : Action} {x : ℕ} {r : Option (Once Placed)} → Step l g s a x t r → Around s → (line : Option HeldLine) → IfSome line (SureLine l words) → Minds s t line → (n : ℕ) → IsSwitched t n → Arrives s line n
   arrives (looks look) context line sure_line minds n is = absurd (no_look look n is)
   arrives (locks same named live between) context line sure_line minds n is = absurd is
+  arrives (locks_read same named live between unworn taken small) context line sure_line minds n is = absurd is
   arrives (stores has content small clean soils learnt means) context line sure_line minds n is = absurd is
   arrives (commits has content small clean durable soiled old about learnt means) context line sure_line minds n is = absurd is
   arrives (drains has small unready hand cleans) context line sure_line minds n is = absurd is

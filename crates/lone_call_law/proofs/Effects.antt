@@ -11,7 +11,7 @@ use Rattle.call_stages.specs.declared.once.Once.TheVariants as once
 use Rattle.call_stages.specs.declared.once.Placed.{Placed}
 use Rattle.call_stages.specs.Stages.{Held, Grip, Stage, Idle, Saw, Wears, Holds, Eyes, Splits, Leaves, Meets, Joins, Filling, Linked, Parted, Phase, IsLoose, counted, placed_in}
 use Rattle.call_stages.specs.Prevs.{IsJoin, IsRetire}
-use Rattle.call_stages.specs.Kinds.{below_key, from_key, Look, turns_back, is_worn, wears, roams, roams_status, sees, misses, times, learns, decides, glances, finds_live, watches, watches_next, turns_away, steps_back, wanders, fills, lights, switches, glances_left, glances_fresh, drains_left, drains_fresh, trims, splits, meets, knows_own, knows_right, copies, takes_up, puts_down, parts, gathers, joins, glances_joined, drains_joined, retires, yields, merges, peeks, peeks_status, eyes, eyes_free, passes, loses, claims, publishes, leaves, Step, looks, locks, stores, commits, drains, counts, unlocks, GivesUp, Answers, writes, reads, is_spent, has_no_room, refuses}
+use Rattle.call_stages.specs.Kinds.{below_key, from_key, Look, turns_back, is_worn, wears, roams, roams_status, sees, misses, times, learns, decides, glances, finds_live, watches, watches_next, turns_away, steps_back, wanders, fills, lights, switches, glances_left, glances_fresh, drains_left, drains_fresh, trims, splits, meets, knows_own, knows_right, copies, takes_up, puts_down, parts, gathers, joins, glances_joined, drains_joined, retires, yields, merges, peeks, peeks_status, eyes, eyes_free, passes, loses, claims, publishes, leaves, Step, looks, locks, locks_read, stores, commits, drains, counts, unlocks, GivesUp, Answers, writes, reads, is_spent, has_no_room, refuses}
 use Rattle.data_node.specs.Lists.{ListNode, target_from, key_of, with_member, without_member}
 use Rattle.data_node.specs.Weights.{names_in}
 use Rattle.cat_history.specs.Maps.{at}
@@ -136,6 +136,7 @@ module _ {l : Layout} {g : ℕ} (f : Facts) (list : IsList l f) (caller index si
   pub step_does : {s : Stage} {a : Action} {x : ℕ} {t : Stage} {r : Option (Once Placed)} → (k : Step l g s a x t r) → Sure l g f caller index since s → Effect l f (fact_after k f caller index) s x t r
   step_does (looks look) knows = look_does look knows
   step_does (locks same named live between) knows = stays refl refl refl (inr (refl, refl)) refl
+  step_does (locks_read same named live between unworn taken small) knows = stays refl refl refl (inr (refl, refl)) refl
   step_does (stores {n = n} {w = w} {h = h} has content small clean soils learnt means) knows = stays (unready n w h clean.ready) refl refl (inr (refl, refl)) refl
   step_does (commits {n = n} {w = w} {h = h} has content small clean durable soiled old about learnt means) knows = stays (unready n w h clean.ready) refl refl (inr (refl, refl)) refl
   step_does (drains {n = n} {w = w} {h = h} has small is hand cleans) knows = stays (unready n w h is) refl refl (inr (refl, refl)) refl
@@ -239,6 +240,7 @@ look_idle (glances has unready) is = absurd (cc)
 pub answers_idle : {l : Layout} {g : ℕ} {s : Stage} {a : Action} {x : ℕ} {t : Stage} {r : Option (Once Placed)} {answer : Once Placed} → Step l g s a x t r → r ≡ Some answer → t ≡ Idle
 answers_idle (looks look) is = look_idle look is
 answers_idle (locks same named live between) is = absurd (cc)
+answers_idle (locks_read same named live between unworn taken small) is = absurd (cc)
 answers_idle (stores has content small clean soils learnt means) is = absurd (cc)
 answers_idle (commits has content small clean durable soiled old about learnt means) is = absurd (cc)
 answers_idle (drains has small unready hand cleans) is = absurd (cc)

@@ -10,7 +10,7 @@ use Rattle.version_lock.proofs.VersionFacts.{kept_count-same, kept_count-earlier
 use Rattle.call_stages.specs.declared.once.Once.{Once}
 use Rattle.call_stages.specs.declared.once.Placed.{Placed}
 use Rattle.call_stages.specs.Stages.{Held, Stage, Idle, Saw, Wears, Reads, Holds, Eyes, Splits, Leaves, Meets, Joins, IsLoose}
-use Rattle.call_stages.specs.Kinds.{Look, turns_back, is_worn, wears, roams, roams_status, sees, misses, times, learns, decides, glances, finds_live, watches, watches_next, turns_away, steps_back, wanders, fills, lights, switches, glances_left, glances_fresh, drains_left, drains_fresh, trims, splits, meets, knows_own, knows_right, copies, takes_up, puts_down, parts, gathers, joins, glances_joined, drains_joined, retires, yields, merges, peeks, peeks_status, eyes, eyes_free, passes, loses, claims, publishes, leaves, Step, looks, locks, stores, commits, drains, counts, unlocks}
+use Rattle.call_stages.specs.Kinds.{Look, turns_back, is_worn, wears, roams, roams_status, sees, misses, times, learns, decides, glances, finds_live, watches, watches_next, turns_away, steps_back, wanders, fills, lights, switches, glances_left, glances_fresh, drains_left, drains_fresh, trims, splits, meets, knows_own, knows_right, copies, takes_up, puts_down, parts, gathers, joins, glances_joined, drains_joined, retires, yields, merges, peeks, peeks_status, eyes, eyes_free, passes, loses, claims, publishes, leaves, Step, looks, locks, locks_read, stores, commits, drains, counts, unlocks}
 use Rattle.index_law.specs.Facts.{Facts}
 use Rattle.index_law.specs.Worlds.{facts}
 use Rattle.index_law.specs.Lawful.{Sure, SureEyes, IsOwnLock}
@@ -177,6 +177,12 @@ module _ {l : Layout} {g : ℕ} (before : ℕ → ℕ) (f : Facts) (caller index
       let was : v ≡ before n = sym same ∙ e ∙ has n in
       holds_once g before (λ m. if m == n then w else f.version m) after n w (record {
         taken = taken_from v (before n) w g was knows.known knows.unworn knows.lock;
+        others = λ m other. passes_by f.version n w m other ∙ has m;
+      })
+  step_locks (locks_read {n = n} {v = v} {w = w} same named live between unworn taken small) e knows has one =
+      let was : v ≡ before n = sym same ∙ e ∙ has n in
+      holds_once g before (λ m. if m == n then w else f.version m) after n w (record {
+        taken = taken_from v (before n) w g was knows.known unworn taken;
         others = λ m other. passes_by f.version n w m other ∙ has m;
       })
   step_locks (stores {n = n} {w = w} at content small clean soils learnt means) e knows has one = holds_once g before f.version after n w (still_once g before f.version leaving n w _ _ after one has)

@@ -20,7 +20,7 @@ use Rattle.call_stages.specs.declared.once.Placed.{Placed}
 use Rattle.call_stages.specs.Stages.{Stage, Filling, Gathered, Gone, Idle, Saw, Wears, Reads, Holds, Eyes, Splits, Leaves, Meets, Joins, HoldsNode, counted}
 use Rattle.call_stages.specs.Kinds.{Step, Look, Split, Merge, prev_address}
 use Rattle.call_stages.specs.Kinds as kinds
-use Rattle.call_stages.specs.AnySteps.{leaf_address, loads_leaf}
+use Rattle.call_stages.specs.AnySteps.{leaf_address, loads_leaf, on_permutation}
 use Rattle.call_stages.specs.Lines.{HeldLine, line_address, Notes, passes_line, takes, looks_up, notes, keeps_safe}
 use Rattle.call_stages.specs.Footings.{Footing, FootStep}
 use Rattle.call_stages.specs.Footings as foot
@@ -33,6 +33,7 @@ use Rattle.index_law.specs.Prevs.{prev_in, IsGone}
 use Rattle.index_law.specs.Whole.{Whole, IsWhole}
 use Rattle.index_law.specs.Worlds.{Party, World, facts, stepped, moved_on}
 use Rattle.index_law.proofs.AnySteps.{beside_keeps}
+use Rattle.index_law.proofs.Footings.{permutation_leaves}
 use Rattle.index_law.proofs.Law.{step_law}
 use Rattle.index_law.proofs.Loose.{out_unmerged}
 use Rattle.index_law.proofs.Moves.{fact_after, split_after, merge_after, facts_step}
@@ -88,6 +89,7 @@ module _ {l : Layout} {g : ℕ} (f : Facts) (caller index since : ℕ) where
   gone_stays : {s : Stage} {a : Action} {x : ℕ} {t : Stage} {r : Option (Once Placed)} → (k : Step l g s a x t r) → Sure l g f caller index since s → (n : ℕ) → IsGone f n → IsGone (fact_after k f caller index) n
   gone_stays (kinds.looks look) knows n is = is
   gone_stays (kinds.locks same named live between) knows n is = is
+  gone_stays (kinds.locks_read same named live between unworn taken small) knows n is = is
   gone_stays (kinds.stores has content small clean soils learnt means) knows n is = is
   gone_stays (kinds.commits has content small clean durable soiled old about learnt means) knows n is = is
   gone_stays (kinds.drains has small unready hand cleans) knows n is = is
@@ -141,6 +143,7 @@ look_own n m (kinds.glances has unready) = tt
 step_own : {l : Layout} {g : ℕ} {s : Stage} {a : Action} {x : ℕ} {t : Stage} {r : Option (Once Placed)} (n m : ℕ) → Step l g s a x t r → has_merged s ≡ true → has_merged t ≡ true → IsOwn s n m → IsOwn t n m
 step_own n m (kinds.looks look) was is own = look_own n m look
 step_own n m (kinds.locks same named live between) was is own = tt
+step_own n m (kinds.locks_read same named live between unworn taken small) was is own = tt
 step_own n m (kinds.stores has content small clean soils learnt means) was is own = tt
 step_own n m (kinds.commits has content small clean durable soiled old about learnt means) was is own = tt
 step_own n m (kinds.drains has small unready hand cleans) was is own = tt
@@ -419,6 +422,11 @@ nodes_go name own w0 z i p f next a x whole o at_line owing stage stands (foot.o
     subst (λ (u : Stage). NodesStand w0 (stepped z.world i p a u) u) stage
     (beside_on name own w0 z i p whole o a (beside_keeps z.world i p a o.lawful o.there uncounted (loads_leaf has)).facts
     (λ n gone. ap (λ (v : List ℕ). prev_in l v n) (set-get_or words (leaf_address l leaf offset) 0)) stands)
+nodes_go name own w0 z i p f next a x whole o at_line owing stage stands (foot.on_permutation {stage = s} none on) told room =
+    let uncounted : counted p.stage ≡ None = ap counted stage ∙ none in
+    subst (λ (u : Stage). NodesStand w0 (stepped z.world i p a u) u) stage
+    (beside_on name own w0 z i p whole o a (beside_keeps z.world i p a o.lawful o.there uncounted (on_permutation on)).facts
+    (λ n gone. (permutation_leaves z.world.layout z.world.words a on).0 n) stands)
 
 pub nodes_end : NodesEnd
 nodes_end name own w0 z i p f debt a x answer whole o stage stands (foot.on_nodes {stage = s} minds kept k deals) told room =

@@ -38,7 +38,7 @@ use Rattle.updater_row_law.specs.Columns.{line_field}
 use Rattle.index_layer_law.specs.Turnings.{line_number}
 use Rattle.index_layer_law.specs.Layers.{Layered, IsLayered}
 use Rattle.index_layer_law.proofs.FactTies.{Rest, rest_in, node_rest}
-use Rattle.index_layer_law.proofs.CallBeside.{line_beside, prev_beside}
+use Rattle.index_layer_law.proofs.CallBeside.{line_beside, prev_beside, permutation_beside}
 use Rattle.index_layer_law.proofs.CallDrains.{drained, drained_path}
 use Rattle.index_layer_law.proofs.CallLines.{line_tie}
 use Rattle.index_layer_law.proofs.CallNotes.{stored, field_else, state_lines}
@@ -393,6 +393,13 @@ log_goes name own w0 z i p f next a x is o o' at_line owing stage stands (foot.o
     record {
       layer = layer_on name own w0 z i p is o (acted l words a) (ap (λ (v : List ℕ). (rest_in l v).leaves) same) stands.layer;
       lines = moment p.caller w0 z.whole.world (stepped z.whole.world i p a s) s line (ap (λ (v : List ℕ). line_field l v Cached 0) same) stands.lines;
+    }
+log_goes name own w0 z i p f next a x is o o' at_line owing stage stands (foot.on_permutation {stage = s} {line = line} none on) told in_step =
+    let l = z.whole.world.layout in
+    let both = permutation_beside z i p is o.there a on in
+    record {
+      layer = layer_on name own w0 z i p is o (acted l z.whole.world.words a) both.0.cached stands.layer;
+      lines = moment p.caller w0 z.whole.world (stepped z.whole.world i p a s) s line (both.1 0 (omega arith)) stands.lines;
     }
 
 pub log_ends : LogEnds

@@ -10,7 +10,7 @@ use Rattle.call_stages.specs.declared.once.Once.TheVariants as once
 use Rattle.call_stages.specs.declared.once.Placed.{Placed}
 use Rattle.call_stages.specs.Stages.{Held, Grip, Stage, Idle, Saw, Wears, Holds, Eyes, Splits, Leaves, Meets, Joins, Filling, Linked, Parted, Phase, IsLoose, placed_in}
 use Rattle.call_stages.specs.Prevs.{IsSwitch}
-use Rattle.call_stages.specs.Kinds.{Look, turns_back, is_worn, wears, roams, roams_status, sees, misses, times, learns, decides, glances, finds_live, watches, watches_next, turns_away, steps_back, wanders, Split, fills, lights, switches, glances_left, glances_fresh, drains_left, drains_fresh, trims, splits, Merge, meets, knows_own, knows_right, copies, takes_up, puts_down, parts, gathers, joins, glances_joined, drains_joined, retires, yields, merges, peeks, peeks_status, eyes, eyes_free, passes, loses, claims, publishes, leaves, Step, looks, locks, stores, commits, drains, counts, unlocks, GivesUp, Answers, writes, reads, is_spent, has_no_room, refuses, IsRefusal}
+use Rattle.call_stages.specs.Kinds.{Look, turns_back, is_worn, wears, roams, roams_status, sees, misses, times, learns, decides, glances, finds_live, watches, watches_next, turns_away, steps_back, wanders, Split, fills, lights, switches, glances_left, glances_fresh, drains_left, drains_fresh, trims, splits, Merge, meets, knows_own, knows_right, copies, takes_up, puts_down, parts, gathers, joins, glances_joined, drains_joined, retires, yields, merges, peeks, peeks_status, eyes, eyes_free, passes, loses, claims, publishes, leaves, Step, looks, locks, locks_read, stores, commits, drains, counts, unlocks, GivesUp, Answers, writes, reads, is_spent, has_no_room, refuses, IsRefusal}
 use Rattle.index_law.specs.LoneShapes.{has_merged}
 use Rattle.index_law.proofs.Loose.{out_unmerged, loose_out}
 use Rattle.lone_call_law.specs.Tries.{is_cut}
@@ -84,6 +84,7 @@ merge_cut (yields freed durable) = refl
 pub cut_moves : {l : Layout} {g : ℕ} {s : Stage} {a : Action} {x : ℕ} {t : Stage} {r : Option (Once Placed)} → Step l g s a x t r → r ≡ None → (is_cut t ≡ is_cut s) ⊎ IsSwitch s t
 cut_moves (looks look) none = inl (look_cut look)
 cut_moves (locks same named live between) none = inl refl
+cut_moves (locks_read same named live between unworn taken small) none = inl refl
 cut_moves (stores has content small clean soils learnt means) none = inl refl
 cut_moves (commits has content small clean durable soiled old about learnt means) none = inl refl
 cut_moves (drains has small unready hand cleans) none = inl refl
@@ -182,6 +183,7 @@ holds_told l n w h answer merged (refuses {why = why} none refusal) = why_told w
 pub answer_told : {l : Layout} {g : ℕ} {s : Stage} {a : Action} {x : ℕ} {t : Stage} {r : Option (Once Placed)} → Step l g s a x t r → (has_merged s ≡ true → placed_in s ≢ None) → (answer : Once Placed) → r ≡ Some answer → Told answer s
 answer_told (looks look) merged answer is = look_told look answer is
 answer_told (locks same named live between) merged answer is = absurd (cc)
+answer_told (locks_read same named live between unworn taken small) merged answer is = absurd (cc)
 answer_told (stores has content small clean soils learnt means) merged answer is = absurd (cc)
 answer_told (commits has content small clean durable soiled old about learnt means) merged answer is = absurd (cc)
 answer_told (drains has small unready hand cleans) merged answer is = absurd (cc)

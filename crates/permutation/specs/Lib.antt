@@ -1,0 +1,4 @@
+pub mod Permutations
+pub mod Sortings
+pub mod Stores
+pub mod Loads

@@ -1,0 +1,2 @@
+pub mod Permuted
+pub mod Laws
