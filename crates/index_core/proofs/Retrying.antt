@@ -51,7 +51,7 @@ use Rattle.index_core.specs.CoreCalls.{op_of, limit_of, count_of}
 use Rattle.index_core.specs.PartyStates.{party_of}
 use Rattle.lone_hops_law.proofs.Short.{empty_is_short}
 use Rattle.index_core.specs.Indexes.{Index, IsIndex, layered, map_of_index, world}
-use Rattle.index_core.specs.Lone.{HasNoCalls, HasShortWays, IsQuiet, IsStill, ComesFree, LacksNode, FindsFullNode, FindsNoRoom, FindsWornNode, HasSameList, IsMadeAgain, NeedsNoTurn, IsOver, IsWholeAnswer, KeepsStamps, LeavesList, LoseAtMost, MergesFor, MergesNothing, SplitsFor, SplitsNothing, TriesAlone, TriesBehindTurn, alone_writes, lacks_line, lacks_node, locks_left, most_tries, needs_split, node_for, state_tried, whole_of}
+use Rattle.index_core.specs.Lone.{HasNoCalls, HasShortWays, IsQuiet, IsStill, ComesFree, LacksNode, FindsFullNode, FindsNoRoom, FindsWornNode, HasSameList, IsMadeAgain, NeedsNoTurn, IsOver, IsWholeAnswer, KeepsStamps, LeavesList, LoseAtMost, MergesFor, MergesNothing, SplitsFor, SplitsNothing, TakesEachLock, TakesLocks, TriesAlone, TriesBehindTurn, alone_writes, lacks_line, lacks_node, locks_left, most_tries, needs_split, node_for, state_tried, whole_of}
 use Rattle.index_core.specs.Turns.{TurnsAlone}
 use Rattle.index_core.specs.Weights.{weight_of, added_by}
 use Rattle.cat_history.specs.declared.op.NameOp.{NameOp}
@@ -818,6 +818,58 @@ split_is_full w w' c p (once.Again (again.Epoch first second)) end is = absurd e
 split_is_full w w' c p (once.Done placed) end is = absurd (cc)
 split_is_full w w' c p (once.Spent clock) end is = absurd (cc)
 split_is_full w w' c p (once.Worn node word) end is = absurd (cc)
+
+-- what so many tries took of the locks, and the last of them one more
+tried_takes : (s0 s : Index) (i : ℕ) (c : CoreCall) (answer : Once Placed) (tries : ℕ) → Tried s0 s i c answer tries → LoseAtMost (tries + 1) s0 s × (locks_left s0 ≤ locks_left s + (tries + 1))
+tried_takes s0 s i c answer tries t = of t.before tries t.begun t.each t.locks
+  where
+    of : (v : Index) (n : ℕ) → Begun s0 i c v n → LoseAtMost 1 v s → locks_left v ≤ locks_left s + 1 → LoseAtMost (n + 1) s0 s × (locks_left s0 ≤ locks_left s + (n + 1))
+    of v n at_first each locks = (each, locks)
+    of v n (behind_turn o sweeps) each locks = ((λ k. let a = o.each k in let b = each k in omega (arith, a, b)), (let a = o.locks in omega (arith, a, locks)))
+
+-- one that was turned back, or has split its node, is made again
+tried_is_again : (s0 s : Index) (i : ℕ) (c : CoreCall) (answer : Once Placed) (tries : ℕ) → Tried s0 s i c answer tries → Lacks answer ⊎ (needs_split answer ≡ true) → IsMadeAgain i c s0
+tried_is_again s0 s i c answer tries t back = of t.before tries t.begun t.index_before t.still_before.calls t.last
+  where
+    of : (v : Index) (n : ℕ) → Begun s0 i c v n → IsIndex v → HasNoCalls v → TriesAlone v i c s answer → IsMadeAgain i c s0
+    of v n at_first is idle u = ⊎_elim
+        (λ (lacks : Lacks answer). (turned_back s0 s i c is idle u.state (is.states i u.state u.there).caller answer lacks u.answered).again)
+        (λ (split : needs_split answer ≡ true). full_again_if s0 i c (rests s0 is idle) (split_is_full (world s0) (world s) c (party_of u.state) answer u.answered split))
+        back
+    of v n (behind_turn o sweeps) is idle u = o.again
+
+-- So a call that is cut off behind such tries, and takes one lock of each node more, takes no more than an answered one.
+module _ (s0 s s' : Index) (i : ℕ) (c : CoreCall) (answer : Once Placed) (each : LoseAtMost 1 s s') (locks : locks_left s ≤ locks_left s' + 1) where
+  takes_more : (tries : ℕ) → Tried s0 s i c answer tries → tries + 2 ≤ most_tries c → Lacks answer ⊎ (needs_split answer ≡ true) → TakesEachLock i c s0 s' × TakesLocks i c s0 s'
+  takes_more tries t few back =
+      let before = tried_takes s0 s i c answer tries t in
+      let again = tried_is_again s0 s i c answer tries t back in (
+        inr (again, (λ n. let a = before.0 n in let b = each n in omega (arith, a, b, few))),
+        inr (again, (let a = before.1 in omega (arith, a, locks, few))),
+      )
+
+  pub takes_behind_line : Tried s0 s i c answer 0 → lacks_line answer ≡ true → TakesEachLock i c s0 s' × TakesLocks i c s0 s'
+  takes_behind_line t lacks =
+      let again = tried_is_again s0 s i c answer 0 t (inl (inl lacks)) in
+      let some_turn = may_turn c s0 i again in
+      let most = turns_and_one c in
+      takes_more 0 t (omega (arith, some_turn, most)) (inl (inl lacks))
+
+  pub takes_behind_node : HasItsLine s0 s i c answer → lacks_node answer ≡ true → TakesEachLock i c s0 s' × TakesLocks i c s0 s'
+  takes_behind_node h lacks =
+      let t = h.tried in
+      let few = h.few in
+      let put = full_is_put c (world t.before) (lacks_node_full (world t.before) (world s) c (party_of t.last.state) answer t.last.answered lacks) in
+      let two = put.0 in
+      let most = put.1 in
+      takes_more h.tries t (omega (arith, few, two, most)) (inl (inr lacks))
+
+  pub takes_behind_split : HasItsNode s0 s i c answer → needs_split answer ≡ true → TakesEachLock i c s0 s' × TakesLocks i c s0 s'
+  takes_behind_split h again =
+      let t = h.tried in
+      let allowed = h.allowed in
+      let most = (full_is_put c (world t.before) (split_is_full (world t.before) (world s) c (party_of t.last.state) answer t.last.answered again)).1 in
+      takes_more h.tries t (omega (arith, allowed, most)) (inr again)
 
 -- a put that has split its node isn't turned back
 pub twice_answered : (s0 s s' : Index) (i : ℕ) (c : CoreCall) (answer then : Once Placed) → count_of c ≡ None → HasItsNode s0 s i c answer → needs_split answer ≡ true → IsIndex s → TriesAlone s i c s' then → LoseAtMost 1 s s'

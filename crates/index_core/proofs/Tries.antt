@@ -33,7 +33,7 @@ use Rattle.lone_call_law.specs.LoneCalls.{LoneCall, IsAnswered, LosesLocks, Afte
 use Rattle.lone_call_law.specs.There.{CanWalk}
 use Rattle.lone_call_law.specs.Tries.{Trying, IsHalvedSince}
 use Rattle.lone_call_law.proofs.Locks.{fewest_lose}
-use Rattle.lone_call_law.proofs.LoneCalls.{lone_calls_begin, lone_parts_begin, lone_calls_go}
+use Rattle.lone_call_law.proofs.LoneCalls.{lone_calls_begin, lone_parts_begin, lone_calls_go, lone_calls_lose}
 use Rattle.index_core.specs.declared.party.PartyState.{PartyState}
 use Rattle.index_core.specs.declared.party.CoreCall.{CoreCall}
 use Rattle.index_core.specs.declared.party.CoreCall.TheVariants as call
@@ -246,6 +246,25 @@ some_same e = cc
 pub lone_machine : (s0 s : Index) (i : ℕ) (c : CoreCall) (o : Lone s0 s i c) (state : PartyState) (machine : Running) → get_elem? s.states i ≡ some state → state.machine ≡ Some machine → machine ≡ o.machine
 lone_machine s0 s i c o state machine there flies =
     some_same (sym flies ∙ ap (λ (d : PartyState). d.machine) (some-injective _ _ (sym there ∙ lone_there s0 s i c o)))
+
+-- where each node has lost one lock at most, so have the fewest
+loses_each : (s0 s : Index) → s.generation ≡ s0.generation → LosesLocks (world s0) (world s) → LoseAtMost 1 s0 s
+loses_each s0 s generation loses n =
+    subst (λ (g : ℕ). locks_of s0.generation ((facts (world s0)).version n) ≤ locks_of g ((facts (world s)).version n) + 1) (sym generation) (loses n)
+
+loses_fewest : (s0 s : Index) → s.layout ≡ s0.layout → s.generation ≡ s0.generation → LosesLocks (world s0) (world s) → locks_left s0 ≤ locks_left s + 1
+loses_fewest s0 s layout generation loses =
+    subst (λ (q : ℕ × ℕ). locks_left s0 ≤ fewest_locks q.0 (facts (world s)).version q.1 + 1) (λ k. (sym generation k, (sym layout k).nodes))
+    (fewest_lose s0.generation (facts (world s0)).version (facts (world s)).version s0.layout.nodes loses)
+
+-- so it is wherever a call in flight has come
+pub flight_each : (s0 s : Index) (i : ℕ) (c : CoreCall) → Lone s0 s i c → LoseAtMost 1 s0 s
+flight_each s0 s i c o = loses_each s0 s o.call.trying.generation (lone_calls_lose (world s0) i (op_of c) (limit_of c) (world s) (party_of (state_with o.state (length s0.history) o.machine)) o.machine o.call)
+
+pub flight_locks : (s0 s : Index) (i : ℕ) (c : CoreCall) → Lone s0 s i c → locks_left s0 ≤ locks_left s + 1
+flight_locks s0 s i c o =
+    loses_fewest s0 s o.call.trying.layout o.call.trying.generation
+    (lone_calls_lose (world s0) i (op_of c) (limit_of c) (world s) (party_of (state_with o.state (length s0.history) o.machine)) o.machine o.call)
 
 module _ (s0 s s' : Index) (i : ℕ) (c : CoreCall) (result : Option (Once Placed)) (o : Lone s0 s i c) (t : TurnsTo s i s' result) (is' : IsIndex s') (room : room_of s ≤ room_of s') where
   abbrev e : PartyState
@@ -521,13 +540,10 @@ module _ (s0 s s' : Index) (i : ℕ) (c : CoreCall) (result : Option (Once Place
       (subst (AfterCall (world s0) i (op_of c) (limit_of c) (world s) p o.machine) (done answer answered) goes).2
 
   pub lone_locks : (answer : Once Placed) → result ≡ Some answer → locks_left s0 ≤ locks_left s' + 1
-  lone_locks answer answered =
-      subst (λ (q : ℕ × ℕ). locks_left s0 ≤ fewest_locks q.0 (facts (world s')).version q.1 + 1) (λ k. (sym same_generation k, (sym same_layout k).nodes))
-      (fewest_lose s0.generation (facts (world s0)).version (facts (world s')).version s0.layout.nodes (locks_after answer answered))
+  lone_locks answer answered = loses_fewest s0 s' same_layout same_generation (locks_after answer answered)
 
   pub lone_each : (answer : Once Placed) → result ≡ Some answer → LoseAtMost 1 s0 s'
-  lone_each answer answered n =
-      subst (λ (g : ℕ). locks_of s0.generation ((facts (world s0)).version n) ≤ locks_of g ((facts (world s')).version n) + 1) (sym same_generation) (locks_after answer answered n)
+  lone_each answer answered = loses_each s0 s' same_generation (locks_after answer answered)
 
 -- what a try leaves spare
 pub spare_left : (s0 s s' : Index) (i : ℕ) (c : CoreCall) → Lone s0 s i c → room_of s ≤ room_of s' → HasNoCalls s' → s0.spare + length s0.history ≤ s'.spare + length s'.history

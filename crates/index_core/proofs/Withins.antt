@@ -31,19 +31,19 @@ use Rattle.index_core.specs.declared.party.PartyState.{PartyState}
 use Rattle.index_core.specs.CoreCalls.{op_of, limit_of}
 use Rattle.index_core.specs.PartyStates.{party_of, state_with}
 use Rattle.index_core.specs.Indexes.{Index, IsIndex, world}
-use Rattle.index_core.specs.Lone.{HasNoCalls, IsQuiet, IsStill, TriesAlone, lacks_line, lacks_node, locks_left, needs_split, node_locks, state_tried}
+use Rattle.index_core.specs.Lone.{HasNoCalls, IsQuiet, IsStill, LoseAtMost, TakesEachLock, TakesLocks, TriesAlone, lacks_line, lacks_node, locks_left, needs_split, node_locks, state_tried}
 use Rattle.index_core.specs.MachineLaws.{put_shows, shows}
 use Rattle.index_core.specs.Turns.{TurnsAlone}
 use Rattle.index_core.specs.Weights.{added_by, put_count, weight_of}
 use Rattle.index_core.specs.CoreCalls.{most_writes}
-use Rattle.index_core.specs.Withins.{ComesTo, flight_place, HasWritten, CutsOff, CutsTurnOff, TriedAlone, TriedBehindTurn}
+use Rattle.index_core.specs.Withins.{ComesTo, flight_place, HasWritten, CutsOff, CutsTryOff, CutsTurnOff, TriedAlone, TriedBehindTurn}
 use Rattle.index_core.proofs.Alone.{tried_was}
 use Rattle.index_core.proofs.Crashing.{placed_since}
 use Rattle.index_core.proofs.Lists.{set_twice}
 use Rattle.index_core.proofs.Shown.{shows_few}
 use Rattle.index_core.proofs.LoneTurning.{LoneTurn}
 use Rattle.index_core.proofs.Quiet.{quiet_is_still}
-use Rattle.index_core.proofs.Tries.{Lone, lone_flies, lone_there}
+use Rattle.index_core.proofs.Tries.{Lone, flight_each, flight_locks, lone_flies, lone_there}
 
 -- what a call in flight has written
 has_written : (s0 s : Index) (i : ℕ) (c : CoreCall) (o : Lone s0 s i c) → HasWritten s0 o.state.caller o.state.index c (Some o.machine) s
@@ -71,8 +71,8 @@ shows_at_most (asked.Put name value) stage = shows_few stage
 shows_at_most (asked.Get name) stage = omega arith
 shows_at_most (asked.Del name) stage = omega arith
 
-pub lone_cut : (s0 s : Index) (i : ℕ) (c : CoreCall) → Lone s0 s i c → CutsOff s0 i c s
-lone_cut s0 s i c o = record {
+flight_cut : (s0 s : Index) (i : ℕ) (c : CoreCall) → Lone s0 s i c → CutsOff s0 i c s
+flight_cut s0 s i c o = record {
   state = o.state;
   there = o.there;
   cut = state_with o.state (length s0.history) o.machine;
@@ -90,7 +90,12 @@ lone_cut s0 s i c o = record {
       let one = subst (λ (a : NameOp). put_shows (op_in o.machine) (shows (stage_of o.machine)) ≤ put_count a) op (shows_at_most (op_in o.machine) (stage_of o.machine)) in
       let light = o.weighs in
       omega (arith, one, light);
+  each_lock = inl (flight_each s0 s i c o);
+  locks = inl (flight_locks s0 s i c o);
 }
+
+pub lone_cut : (s0 s : Index) (i : ℕ) (c : CoreCall) → Lone s0 s i c → CutsTryOff s0 i c s
+lone_cut s0 s i c o = record { off = flight_cut s0 s i c o; each_lock = flight_each s0 s i c o; locks = flight_locks s0 s i c o }
 
 pub turn_cut : (s0 s : Index) (i stamp release : ℕ) → LoneTurn s0 s i stamp release → CutsTurnOff s0 i s
 turn_cut s0 s i stamp release o = record {
@@ -113,9 +118,15 @@ turn_cut s0 s i stamp release o = record {
   weighs = o.weighs;
 }
 
--- whichever call wanted the turn
-pub turn_cuts_call : (s0 s : Index) (i : ℕ) (c : CoreCall) → HasNoCalls s0 → CutsTurnOff s0 i s → CutsOff s0 i c s
-turn_cuts_call s0 s i c idle t =
+-- it has taken no lock
+turn_each : (s0 s : Index) (i : ℕ) → CutsTurnOff s0 i s → LoseAtMost 1 s0 s
+turn_each s0 s i t n = let kept = t.each_lock n in omega (arith, kept)
+
+turn_locks : (s0 s : Index) (i : ℕ) → CutsTurnOff s0 i s → locks_left s0 ≤ locks_left s + 1
+turn_locks s0 s i t = let kept = t.locks in omega (arith, kept)
+
+turn_cuts_off : (s0 s : Index) (i : ℕ) (c : CoreCall) → HasNoCalls s0 → CutsTurnOff s0 i s → CutsOff s0 i c s
+turn_cuts_off s0 s i c idle t =
     let cut : PartyState = record (t.state) { turn = Some t.making } in
     let none = idle i t.state t.there in
     record {
@@ -132,7 +143,13 @@ turn_cuts_call s0 s i c idle t =
       base = t.base;
       busy = inr (record { state = cut; making = t.making; there = ap (λ (l : List PartyState). get_elem? l i) t.states ∙ set_here s0.states i cut t.state t.there; turns = refl });
       weighs = let light = t.weighs in omega (arith, light);
+      each_lock = inl (turn_each s0 s i t);
+      locks = inl (turn_locks s0 s i t);
     }
+
+-- whichever call wanted the turn
+pub turn_cuts_call : (s0 s : Index) (i : ℕ) (c : CoreCall) → HasNoCalls s0 → CutsTurnOff s0 i s → CutsTryOff s0 i c s
+turn_cuts_call s0 s i c idle t = record { off = turn_cuts_off s0 s i c idle t; each_lock = turn_each s0 s i t; locks = turn_locks s0 s i t }
 
 -- An index to which a call has come by tries that were turned back, and by turns: but for words and its party's own
 -- state nothing has changed.
@@ -231,9 +248,9 @@ backs_first s0 v new i c answer why same t is =
     (λ state there. record { state = state; there = there; now = state; at = there; states = λ cut. refl; own = refl; index = refl; history = refl; layout = refl; generation = refl; base = refl; weighs = omega arith })
     t.state t.there) t is
 
--- what is cut off behind them
-pub cut_behind : (s0 v s : Index) (i : ℕ) (c : CoreCall) → Backs s0 v i → CutsOff v i c s → CutsOff s0 i c s
-cut_behind s0 v s i c b t =
+-- what is cut off behind them, which has taken so many locks
+pub cut_behind : (s0 v s : Index) (i : ℕ) (c : CoreCall) → Backs s0 v i → CutsOff v i c s → TakesEachLock i c s0 s × TakesLocks i c s0 s → CutsOff s0 i c s
+cut_behind s0 v s i c b t takes =
     let same : t.state ≡ b.now = some-injective _ _ (sym t.there ∙ b.at) in
     let own : t.state.caller ≡ b.state.caller = ap (λ (e : PartyState). e.caller) same ∙ b.own in
     let index : t.state.index ≡ b.state.index = ap (λ (e : PartyState). e.index) same ∙ b.index in
@@ -255,6 +272,8 @@ cut_behind s0 v s i c b t =
       base = t.base ∙ b.base;
       busy = t.busy;
       weighs = let light = t.weighs in let before = b.weighs in omega (arith, light, before);
+      each_lock = takes.0;
+      locks = takes.1;
     }
 
 -- How a whole call stands behind some of its tries.
@@ -308,12 +327,30 @@ stood_spare s0 s i c answer why b told room =
 
 -- a turn that is cut off, or a try behind one
 pub behind_turn : (s0 between s : Index) (i : ℕ) (c : CoreCall) (turned : Turned) (result : Option (Once Placed)) → IsIndex s0 → IsQuiet s0 → i < s0.layout.callers → TurnsAlone s0 1 1 turned between → IsQuiet between → IsIndex between
-    → ComesTo result (λ answer. TriedAlone between i c s answer) (CutsOff between i c s) → (state : PartyState) → get_elem? s0.states i ≡ some state → ComesTo result (λ answer. TriedBehindTurn s0 i c s answer) (CutsOff s0 i c s)
+    → ComesTo result (λ answer. TriedAlone between i c s answer) (CutsTryOff between i c s) → (state : PartyState) → get_elem? s0.states i ≡ some state → ComesTo result (λ answer. TriedBehindTurn s0 i c s answer) (CutsTryOff s0 i c s)
 behind_turn s0 between s i c turned (Some answer) is quiet here turn still index t state there = record {
   tries = record { between = between; turned = turned; turn = turn; quiet = still; index = index; tries = t.tries; each_lock = t.each_lock; locks = t.locks };
   before = quiet;
   quiet = t.quiet still;
   spare = let same = ap (λ (v : Index). v.spare + length v.history) turn.is in let more = t.spare in omega arith;
 }
-behind_turn s0 between s i c turned None is quiet here turn still index t state there =
-    cut_behind s0 between s i c (backs_turn s0 s0 between i 1 1 turned (record { state = state; there = there; now = state; at = there; states = λ cut. refl; own = refl; index = refl; history = refl; layout = refl; generation = refl; base = refl; weighs = omega arith }) turn) t
+behind_turn s0 between s i c turned None is quiet here turn still index t state there = record { off = off; each_lock = each; locks = fewest }
+  where
+    -- the turn took no lock
+    each : LoseAtMost 1 s0 s
+    each n =
+        let same : node_locks between n ≡ node_locks s0 n = λ k. locks_of (turn.is k).generation ((turn.lone.kept.facts k).version n) in
+        let one = t.each_lock n in
+        omega (arith, same, one)
+
+    fewest : locks_left s0 ≤ locks_left s + 1
+    fewest =
+        let same : locks_left between ≡ locks_left s0 = λ k. fewest_locks (turn.is k).generation (turn.lone.kept.facts k).version (turn.is k).layout.nodes in
+        let one = t.locks in
+        omega (arith, same, one)
+
+    off : CutsOff s0 i c s
+    off =
+        cut_behind s0 between s i c
+        (backs_turn s0 s0 between i 1 1 turned (record { state = state; there = there; now = state; at = there; states = λ cut. refl; own = refl; index = refl; history = refl; layout = refl; generation = refl; base = refl; weighs = omega arith }) turn)
+        t.off (inl each, inl fewest)

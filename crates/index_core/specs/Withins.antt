@@ -59,6 +59,15 @@ pub record CutsOff (old : Index) (caller : ℕ) (c : CoreCall) (new : Index) : T
   pub busy : IsBusy new caller
   -- with what deletes that aren't counted yet have lowered it by, it weighs one more at most, and that for a put
   pub weighs : weight_sum (world new) ≤ weight_of old + put_count (op_of c)
+  -- it has taken no more locks than if it were answered
+  pub each_lock : TakesEachLock caller c old new
+  pub locks : TakesLocks caller c old new
+
+-- One try of a call is cut off, or the turn is behind which it was to be made: of each node one lock is taken at most.
+pub record CutsTryOff (old : Index) (caller : ℕ) (c : CoreCall) (new : Index) : Type 0 where
+  pub off : CutsOff old caller c new
+  pub each_lock : LoseAtMost 1 old new
+  pub locks : locks_left old ≤ locks_left new + 1
 
 -- A turn of this party is cut off. The map and the list are as they were, and so are the locks that nodes have left.
 pub record CutsTurnOff (old : Index) (party : ℕ) (new : Index) : Type 0 where

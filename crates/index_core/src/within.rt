@@ -16,8 +16,8 @@ ghost use Rattle.index_core.specs.Costs.{WithMost, turn_actions};
 ghost use Rattle.index_core.specs.Indexes.{IsIndex};
 ghost use Rattle.index_core.specs.Lone.{IsQuiet, IsStill, part_whole, whole_of};
 ghost use Rattle.index_core.specs.Turns.{IsTurnedAnd, StartsTurn, TurnsAlone};
-ghost use Rattle.index_core.specs.Withins.{ComesInTime, ComesTo, CutsOff, CutsTurnOff, EndsInTime, EndsWithin};
-ghost use Rattle.index_core.specs.Withins.{RanAlone, TriedAlone, TriedBehindTurn, TriesInTime};
+ghost use Rattle.index_core.specs.Withins.{ComesInTime, ComesTo, CutsOff, CutsTryOff, CutsTurnOff, EndsInTime};
+ghost use Rattle.index_core.specs.Withins.{EndsWithin, RanAlone, TriedAlone, TriedBehindTurn, TriesInTime};
 
 use crate::index::Core;
 use crate::party::{CoreCall, Whole, Within, lacks_line, lacks_node, needs_split};
@@ -35,7 +35,7 @@ impl Core {
     /// A whole call of a party, with no other in flight, as `run_alone` makes it, within a budget of events, of which
     /// it takes one for each that it makes. It is `Unstarted` exactly where the budget was 0, and then nothing changes.
     /// It is `Cut` only where the budget is used up: then the call is in flight, or a turn of the updater is that it
-    /// wanted, by the same party.
+    /// wanted, by the same party, and it has taken no more locks than one that is answered.
     ///
     /// A turn of another party may have stopped under the updater lock: beside it each turn is `Cut`, and each call
     /// that wants one. So a turn is `Turned`, and a put `Full`, only with nothing else in flight; and where a turn is
@@ -240,7 +240,7 @@ impl Core {
         requires spare { most_writes call.now ≤ self.old.spare }
         requires still { IsStill caller self.old }
         ensures tries { ComesTo result (λ answer. TriedBehindTurn self.old caller call.now self.new answer)
-            (CutsOff self.old caller call.now self.new) }
+            (CutsTryOff self.old caller call.now self.new) }
         ensures spent { result ≡ None → budget.new ≡ 0 }
         ensures events { steps.new + budget.new ≡ steps.old + budget.old }
         ensures before { IsIndex self.old }
@@ -265,7 +265,7 @@ impl Core {
         requires spare { most_writes call.now ≤ self.old.spare }
         requires still { IsStill caller self.old }
         ensures tries { ComesTo result (λ answer. TriedAlone self.old caller call.now self.new answer)
-            (CutsOff self.old caller call.now self.new) }
+            (CutsTryOff self.old caller call.now self.new) }
         ensures spent { result ≡ None → budget.new ≡ 0 }
         ensures events { steps.new + budget.new ≡ steps.old + budget.old }
         ensures in_time { TriesInTime self.old call.now result budget.old steps.old steps.new }

@@ -1,12 +1,12 @@
 -- What a try takes of the locks that nodes have left.
-use Rattle.std.proofs.Common.{◌≡◌, ◌≢◌, ◌==◌, ℕ, zero, suc, ◌+◌, ◌<◌, ◌≤◌, ⊎_elim, Bool, true, false, cond, if◌then◌else◌, refl, sym, ap, ◌∙◌, subst, arith}
+use Rattle.std.proofs.Common.{◌≡◌, ◌≢◌, ◌==◌, ℕ, zero, suc, ◌+◌, ◌-◌, ◌<◌, ◌≤◌, ⊎_elim, Bool, true, false, cond, if◌then◌else◌, refl, sym, ap, ◌∙◌, subst, arith}
 use Rattle.std.specs.Prelude.{Option, Some, None}
 use Rattle.std.proofs.lemmas.Bool.{cases_eq, cases_lt, eq-eqb, ne_eqb}
 use Rattle.pm_words.specs.declared.layout.Layout.{Layout}
 use Rattle.pm_words.specs.declared.action.Action.{Action}
 use Rattle.version_lock.specs.declared.TheConstants.{LAST_COUNT}
 use Rattle.version_lock.specs.Versions.{generation_of, kept_count, locked_word, version_word, IsFree, IsWorn}
-use Rattle.version_lock.proofs.VersionFacts.{kept_count-same, kept_count-earlier, count_of-le, generation_of-version_word, count_of-version_word, freed-locked_word}
+use Rattle.version_lock.proofs.VersionFacts.{kept_count-same, kept_count-earlier, count_of-le, count_of-locked_word, generation_of-locked_word, generation_of-version_word, count_of-version_word, freed-locked_word}
 use Rattle.call_stages.specs.declared.once.Once.{Once}
 use Rattle.call_stages.specs.declared.once.Placed.{Placed}
 use Rattle.call_stages.specs.Stages.{Held, Stage, Idle, Saw, Wears, Reads, Holds, Eyes, Splits, Leaves, Meets, Joins, IsLoose}
@@ -18,7 +18,7 @@ use Rattle.index_law.proofs.Moves.{fact_after, facts_step, Gives, gives}
 use Rattle.call_stages.specs.AnySteps.{on_nodes, beside}
 use Rattle.index_law.proofs.AnySteps.{beside_keeps}
 use Rattle.index_law.proofs.Versions.{unfree}
-use Rattle.lone_call_law.specs.Locks.{locks_of, IsTaken, IsLockedOnce, AreLocked, IsLeft, HoldsLocked, HasLocked, PartsOnce, AfterLocks, LocksGo, FewestLose, WornHasNone}
+use Rattle.lone_call_law.specs.Locks.{locks_of, IsTaken, IsLockedOnce, AreLocked, IsLeft, HoldsLocked, HasLocked, PartsOnce, AfterLocks, LocksGo, StagesLose, FewestLose, WornHasNone}
 use Rattle.call_stages.specs.Kinds.{reads_on}
 use Rattle.index_law.proofs.Moves.{read_before, read_after}
 use Rattle.call_stages.specs.Stages.{IsLoose}
@@ -43,6 +43,18 @@ locks_after v g w taken =
     let word : w + 1 ≡ version_word g (k + 1) = ap (λ (n : ℕ). n + 1) lock ∙ freed-locked_word g k in
     let kept : kept_count (w + 1) g ≡ k + 1 = ap (λ (n : ℕ). kept_count n g) word ∙ kept_count-same (version_word g (k + 1)) g (generation_of-version_word g (k + 1) some_left) ∙ count_of-version_word g (k + 1) some_left in
     omega arith
+
+-- while it is held it has taken none yet
+lock_keeps : (v g w : ℕ) → IsTaken g v w → locks_of g w ≡ locks_of g v
+lock_keeps v g w taken =
+    let k = kept_count v g in
+    let known = taken.known in
+    let most : k ≤ LAST_COUNT = ⊎_elim
+    (λ (same : generation_of v ≡ g). let kept = kept_count-same v g same in let most = count_of-le v in omega arith)
+    (λ (other : generation_of v ≢ g). let kept = kept_count-earlier v g (omega arith) in omega arith)
+    (cases_eq (generation_of v) g) in
+    let kept : kept_count w g ≡ k = ap (λ (n : ℕ). kept_count n g) taken.lock ∙ kept_count-same (locked_word g k) g (generation_of-locked_word g k most) ∙ count_of-locked_word g k most in
+    ap (λ (n : ℕ). LAST_COUNT - n) kept
 
 -- where the words are the same nothing is lost
 keeps : (g : ℕ) (before now : ℕ → ℕ) → ((m : ℕ) → now m ≡ before m) → (m : ℕ) → locks_of g (before m) ≤ locks_of g (now m) + 1
@@ -246,6 +258,37 @@ locks_go before w i p leaving action x next after answer lawful there has one (b
     on_still g before now leaving after (Leaves left) once has = has
     on_still g before now leaving after (Meets n w h right) once has = has
     on_still g before now leaving after (Joins h left right pace) once has = has
+
+-- The words of the nodes that it holds are those with which it took their locks.
+module _ (g : ℕ) (before now : ℕ → ℕ) where
+  taken_now : (n w m : ℕ) → now n ≡ w → IsTaken g (before n) w → m ≡ n → locks_of g (before m) ≤ locks_of g (now m) + 1
+  taken_now n w m stands taken mine =
+      let same : locks_of g (now m) ≡ locks_of g (before m) = ap (locks_of g) (ap now mine ∙ stands) ∙ lock_keeps (before n) g w taken ∙ ap (λ (k : ℕ). locks_of g (before k)) (sym mine) in
+      omega (arith, same)
+
+  left_now : (n w : ℕ) → now n ≡ w → IsLeft g before now n w → (m : ℕ) → locks_of g (before m) ≤ locks_of g (now m) + 1
+  left_now n w stands left m = ⊎_elim (λ (mine : m ≡ n). taken_now n w m stands left.taken mine) (λ (other : m ≢ n). left.others m other) (cases_eq m n)
+
+  both_now : (n w r u : ℕ) → now n ≡ w → now r ≡ u → AreLocked g before now n w r u → (m : ℕ) → locks_of g (before m) ≤ locks_of g (now m) + 1
+  both_now n w r u stands stands' both m = ⊎_elim
+      (λ (mine : m ≡ n). taken_now n w m stands both.one mine)
+      (λ (other : m ≢ n). ⊎_elim
+      (λ (mine : m ≡ r). taken_now r u m stands' both.two mine)
+      (λ (third : m ≢ r). let same = ap (locks_of g) (both.others m other third) in omega (arith, same))
+      (cases_eq m r))
+      (cases_eq m n)
+
+pub stages_lose : StagesLose
+stages_lose l g before f caller index since leaving Idle knows has m = keeps g before f.version has m
+stages_lose l g before f caller index since leaving (Saw n v w k) knows has m = keeps g before f.version has m
+stages_lose l g before f caller index since leaving (Wears n v) knows has m = keeps g before f.version has m
+stages_lose l g before f caller index since leaving (Reads n v sight told) knows has m = keeps g before f.version has m
+stages_lose l g before f caller index since leaving (Holds n w h) knows has m = left_now g before f.version n w knows.stands (holds_left g before f.version leaving n w has) m
+stages_lose l g before f caller index since leaving (Eyes n w h e v u free) knows has m = left_now g before f.version n w knows.0.stands (once_left has) m
+stages_lose l g before f caller index since leaving (Splits left fresh phase) knows has m = both_now g before f.version left.node left.lock fresh.node fresh.lock knows.full.stands knows.new.stands has m
+stages_lose l g before f caller index since leaving (Leaves left) knows has m = left_now g before f.version left.node left.lock knows.grip.stands has m
+stages_lose l g before f caller index since leaving (Meets n w h right) knows has m = both_now g before f.version n w right.node right.lock knows.0.stands knows.1.grip.stands has m
+stages_lose l g before f caller index since leaving (Joins h left right pace) knows has m = both_now g before f.version left.node left.lock right.node right.lock knows.one.stands knows.other.stands has m
 
 pub fewest_lose : FewestLose
 fewest_lose g before now zero each = omega arith

@@ -113,10 +113,10 @@ use Rattle.lone_call_law.specs.Merging.{LeavesShape}
 use Rattle.lone_call_law.specs.MergeStands.{merge_leaves}
 use Rattle.lone_call_law.specs.Splitting.{HasLine, LacksLine, HoldsAlone}
 use Rattle.lone_call_law.specs.Tries.{IsFor, is_same, Trying, HasKeptOrMerged, Says, LeavesHistory}
-use Rattle.lone_call_law.specs.LoneCalls.{HasLimit, HasClaimed, IsPast, IsThere, Foresees, is_leaving, LoneCall, FindsFull, NeedsLine, FindsWorn, IsLate, IsAnswered, AfterCall, LoneCallsGo, LoneCallsBegin, LonePartsBegin}
+use Rattle.lone_call_law.specs.LoneCalls.{HasLimit, HasClaimed, IsPast, IsThere, Foresees, is_leaving, LoneCall, FindsFull, NeedsLine, FindsWorn, IsLate, IsAnswered, AfterCall, LoneCallsGo, LoneCallsLose, LoneCallsBegin, LonePartsBegin}
 use Rattle.node_ops.specs.Endings.{limit_in, IsPutOp}
 use Rattle.lone_call_law.proofs.Foreseeing.{DelForeseesSo, EndsSo, del_foresees, del_ends, del_had_line, PutForeseesSo, put_foresees}
-use Rattle.lone_call_law.proofs.Locks.{locks_go}
+use Rattle.lone_call_law.proofs.Locks.{locks_go, stages_lose}
 use Rattle.lone_call_law.proofs.MergeStands.{merge_is_for, MergeParts, merge_parts}
 use Rattle.lone_call_law.proofs.Standing.{both}
 use Rattle.node_ops.proofs.MergeFacts.{merging_stage}
@@ -836,6 +836,13 @@ lone_calls_go w0 i asked limit w p machine x o rest told room =
     (turns_stay_sound w.layout w.generation machine x o.sound is_told led) (turns_keep_op w.layout w.generation asked machine x o.sound is_told led o.of)
     (call_kept machine x o.sound.here own_told led) (not_past machine x)
     (foresees_so w0 i asked limit w p machine x o rest told room) (locks_so w0 i asked limit w p machine x o rest told room) (went w0 i asked limit w p machine x o rest told room)
+
+-- it takes few locks, wherever it is cut off
+pub lone_calls_lose : LoneCallsLose
+lone_calls_lose w0 i asked limit w p machine o n =
+    let knows = subst (Sure w.layout w.generation (facts w) p.caller p.index p.since) o.stage (o.trying.lawful.sure i p o.trying.there) in
+    subst (λ (g : ℕ). locks_of g ((facts w0).version n) ≤ locks_of g ((facts w).version n) + 1) o.trying.generation
+    (stages_lose w.layout w.generation (facts w0).version (facts w) p.caller p.index p.since (is_leaving machine) (stage_of machine) knows o.locks n)
 
 module _ (w0 : World) (i : ℕ) (limit : Option ℕ) (p : Party) (index : ℕ) (view : View) (name : List ℕ) (rest : IsAtRest w0) (can : CanWalk w0.layout w0.generation w0.words) (there : get_elem? w0.parties i ≡ some p)
     (is_view : IsView view) (layout : view.layout ≡ w0.layout) (generation : view.generation ≡ w0.generation) (named : IsName name) (most : IfSome limit (λ m. m ≤ 2 ^ 62)) where

@@ -10,8 +10,10 @@ use Rattle.call_stages.specs.declared.once.Once.{Once}
 use Rattle.call_stages.specs.declared.once.Placed.{Placed}
 use Rattle.call_stages.specs.Stages.{Stage, Idle, Saw, Wears, Reads, Holds, Eyes, Splits, Leaves, Meets, Joins}
 use Rattle.call_stages.specs.AnySteps.{AnyStep}
+use Rattle.pm_words.specs.declared.layout.Layout.{Layout}
+use Rattle.index_law.specs.Facts.{Facts}
 use Rattle.index_law.specs.Worlds.{Party, World, facts, stepped}
-use Rattle.index_law.specs.Lawful.{Lawful}
+use Rattle.index_law.specs.Lawful.{Lawful, Sure}
 
 -- How many more times the lock of a node with this version word can be taken in the run of this generation.
 abbrev pub locks_of : ℕ → ℕ → ℕ
@@ -100,6 +102,12 @@ LocksGo = (before : ℕ → ℕ) (w : World) (i : ℕ) (p : Party) (leaving : Bo
     AnyStep w.layout w.generation p.stage action x next answer →
     x ≡ got w.layout w.words action →
     AfterLocks w.generation before (facts (stepped w i p action next)).version after next answer
+
+-- So it is between two steps, too: at each stage of a try each node has lost one lock at most.
+abbrev pub StagesLose : Type 0
+StagesLose = (l : Layout) (g : ℕ) (before : ℕ → ℕ) (f : Facts) (caller index since : ℕ) (leaving : Bool) (s : Stage) →
+    Sure l g f caller index since s → HasLocked g before f.version leaving s → (m : ℕ) →
+    locks_of g (before m) ≤ locks_of g (f.version m) + 1
 
 -- Where each node has lost one at most, so have the fewest.
 abbrev pub FewestLose : Type 0

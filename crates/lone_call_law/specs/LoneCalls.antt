@@ -223,6 +223,11 @@ abbrev pub LosesLocks : World → World → Type 0
 LosesLocks w0 w = (n : ℕ) → locks_of w0.generation ((facts w0).version n) ≤
     locks_of w0.generation ((facts w).version n) + 1
 
+-- So it is at each moment of a try, however far it has come.
+abbrev pub LoneCallsLose : Type 0
+LoneCallsLose = (w0 : World) (i : ℕ) (asked : NameOp) (limit : Option ℕ) (w : World) (p : Party) (machine : Running) →
+    LoneCall w0 i asked limit w p machine → LosesLocks w0 w
+
 abbrev pub AfterCall : World → ℕ → NameOp → Option ℕ → World → Party → Running → Turn Running (Once Placed) → Type 0
 AfterCall w0 i asked limit w p machine (Go next) =
     LoneCall w0 i asked limit (stepped w i p (running_asks machine) (stage_of next)) (moved_on p (stage_of next)) next

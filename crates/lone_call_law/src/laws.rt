@@ -30,8 +30,8 @@ pub fn rooms()
     ensures first { FullIsFirst }
 {}
 
-ghost use Rattle.lone_call_law.specs.LoneCalls.{LoneCallsBegin, LonePartsBegin, LoneCallsGo};
-ghost use Rattle.lone_call_law.specs.Locks.{LocksGo, FewestLose, WornHasNone};
+ghost use Rattle.lone_call_law.specs.LoneCalls.{LoneCallsBegin, LoneCallsGo, LoneCallsLose, LonePartsBegin};
+ghost use Rattle.lone_call_law.specs.Locks.{FewestLose, LocksGo, StagesLose, WornHasNone};
 
 /// Each turn of a lone call, whatever its op, and how it is answered. To this law a part of a range scan is a get of its
 /// low name.
@@ -39,11 +39,13 @@ pub fn lone_calls()
     ensures begins { LoneCallsBegin }
     ensures parts_begin { LonePartsBegin }
     ensures goes { LoneCallsGo }
+    ensures loses { LoneCallsLose }
 {}
 
-/// A try of a call that is made with no other in flight takes one lock of each node at most.
+/// A try of a call that is made with no other in flight takes one lock of each node at most, wherever it is cut off.
 pub fn lone_locks()
     ensures goes { LocksGo }
+    ensures stages { StagesLose }
     ensures fewest { FewestLose }
     ensures worn { WornHasNone }
 {}

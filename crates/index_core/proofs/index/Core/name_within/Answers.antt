@@ -8,7 +8,7 @@ use Rattle.index_core.specs.Costs.{most_actions}
 use Rattle.index_core.specs.Indexes.{Index, world}
 use Rattle.index_core.specs.Lone.{lacks_node, needs_split, whole_of}
 use Rattle.index_core.proofs.Alone.{ran_runs, ran_each, ran_locks, full_runs, full_again, counted_each, counted_locks, ran_quiet, ran_still}
-use Rattle.index_core.proofs.Retrying.{HasItsLine, HasItsNode, RanAll, tried_first, line_at_once, line_behind_turn, node_at_once, node_behind_turn, answered_at_once, ran_once, ran_twice, twice_answered}
+use Rattle.index_core.proofs.Retrying.{HasItsLine, HasItsNode, RanAll, tried_first, line_at_once, line_behind_turn, node_at_once, node_behind_turn, answered_at_once, ran_once, ran_twice, takes_behind_line, takes_behind_node, takes_behind_split, twice_answered}
 use Rattle.index_core.proofs.Withins.{Stood, stood_first, stood_behind, stood_again, stood_spare, cut_behind, back_line, back_node, back_split}
 use Rattle.index_core.proofs.Costs.{needs_none}
 use Rattle.index_core.proofs.InTime.{again_so, try_in_time}
@@ -33,6 +33,9 @@ try_behind_turn_within-requires-then-lacks_node-clause-still g c =
     ] in
     line.still
 
+pub returns-in_default-clause-runs : goal.returns-in_default-clause-runs
+returns-in_default-clause-runs g c = c.in_default.ensures.tries.off
+
 pub returns-in_default-try_behind_turn_within-clause-runs : goal.returns-in_default-try_behind_turn_within-clause-runs
 returns-in_default-try_behind_turn_within-clause-runs g c =
     let s0 = c.args.self.now in
@@ -40,7 +43,10 @@ returns-in_default-try_behind_turn_within-clause-runs g c =
     let d = c.args.call in
     let one = stood_first s0 c.try_within.new.self i d c.in-Some.answer c.requires.still c.in-Some.ensures.tries c.try_within.ensures.index in
     let back = back_line c.in-Some.answer (sym c.lacks_line.ensures ∙ c.if-lacks_line.true) in
-    cut_behind s0 c.try_within.new.self c.try_behind_turn_within.new.self i d (one.back back.0 back.1) c.in_default-try_behind_turn_within.ensures.tries
+    let tried = tried_first s0 c.try_within.new.self i d c.in-Some.answer c.try_within.ensures.before c.requires.still c.in-Some.ensures.tries.tries c.in-Some.ensures.tries.each_lock c.in-Some.ensures.tries.locks in
+    let cut = c.in_default-try_behind_turn_within.ensures.tries in
+    cut_behind s0 c.try_within.new.self c.try_behind_turn_within.new.self i d (one.back back.0 back.1) cut.off
+    (takes_behind_line s0 c.try_within.new.self c.try_behind_turn_within.new.self i d c.in-Some.answer cut.each_lock cut.locks tried (sym c.lacks_line.ensures ∙ c.if-lacks_line.true))
 
 pub returns-in_default-try_behind_turn_within-2-clause-runs : goal.returns-in_default-try_behind_turn_within-2-clause-runs
 returns-in_default-try_behind_turn_within-2-clause-runs g c =
@@ -56,7 +62,17 @@ returns-in_default-try_behind_turn_within-2-clause-runs g c =
       | else-lacks_line w ↦ subst (λ (q : Index × Once Placed). Stood s0 q.0 i d q.1) (λ k. (sym w.self-is k, sym w.answer-is k)) one
     ] in
     let back = back_node c.if-lacks_line.answer (sym c.lacks_node.ensures ∙ c.if-lacks_node.true) in
-    cut_behind s0 c.if-lacks_line.self c.try_behind_turn_within-then-lacks_node.new.self i d (line.back back.0 back.1) c.in_default-try_behind_turn_within-2.ensures.tries
+    let tried = tried_first s0 c.try_within.new.self i d c.in-Some.answer c.try_within.ensures.before c.requires.still c.in-Some.ensures.tries.tries c.in-Some.ensures.tries.each_lock c.in-Some.ensures.tries.locks in
+    let has_line : HasItsLine s0 c.if-lacks_line.self i d c.if-lacks_line.answer =
+    elim c.if-lacks_line.branch [
+      | then-lacks_line+in-Some-try_behind_turn_within w ↦ subst (λ (q : Index × Once Placed). HasItsLine s0 q.0 i d q.1) (λ k. (sym w.self-is k, sym w.answer-is k))
+          (line_behind_turn s0 _ _ i d _ _ tried (sym c.lacks_line.ensures ∙ w.if-lacks_line.true) w.in-Some-try_behind_turn_within.ensures.tries.tries c.requires.caller)
+      | else-lacks_line w ↦ subst (λ (q : Index × Once Placed). HasItsLine s0 q.0 i d q.1) (λ k. (sym w.self-is k, sym w.answer-is k))
+          (line_at_once s0 _ i d _ tried (sym c.lacks_line.ensures ∙ w.if-lacks_line.false))
+    ] in
+    let cut = c.in_default-try_behind_turn_within-2.ensures.tries in
+    cut_behind s0 c.if-lacks_line.self c.try_behind_turn_within-then-lacks_node.new.self i d (line.back back.0 back.1) cut.off
+    (takes_behind_node s0 c.if-lacks_line.self c.try_behind_turn_within-then-lacks_node.new.self i d c.if-lacks_line.answer cut.each_lock cut.locks has_line (sym c.lacks_node.ensures ∙ c.if-lacks_node.true))
 
 pub try_within-requires-then-needs_split-clause-spare : goal.try_within-requires-then-needs_split-clause-spare
 try_within-requires-then-needs_split-clause-spare g c =
@@ -124,7 +140,24 @@ returns-in_default-try_within-clause-runs g c =
       | else-lacks_node w ↦ subst (λ (q : Index × Once Placed). Stood s0 q.0 i d q.1) (λ k. (sym w.self-is k, sym w.answer-is k)) line
     ] in
     let back = back_split c.if-lacks_node.answer (sym c.needs_split.ensures ∙ c.if-needs_split.true) in
-    cut_behind s0 c.if-lacks_node.self c.try_within-then-needs_split.new.self i d (node.back back.0 back.1) c.in_default-try_within.ensures.tries
+    let tried = tried_first s0 c.try_within.new.self i d c.in-Some.answer c.try_within.ensures.before c.requires.still c.in-Some.ensures.tries.tries c.in-Some.ensures.tries.each_lock c.in-Some.ensures.tries.locks in
+    let has_line : HasItsLine s0 c.if-lacks_line.self i d c.if-lacks_line.answer =
+    elim c.if-lacks_line.branch [
+      | then-lacks_line+in-Some-try_behind_turn_within w ↦ subst (λ (q : Index × Once Placed). HasItsLine s0 q.0 i d q.1) (λ k. (sym w.self-is k, sym w.answer-is k))
+          (line_behind_turn s0 _ _ i d _ _ tried (sym c.lacks_line.ensures ∙ w.if-lacks_line.true) w.in-Some-try_behind_turn_within.ensures.tries.tries c.requires.caller)
+      | else-lacks_line w ↦ subst (λ (q : Index × Once Placed). HasItsLine s0 q.0 i d q.1) (λ k. (sym w.self-is k, sym w.answer-is k))
+          (line_at_once s0 _ i d _ tried (sym c.lacks_line.ensures ∙ w.if-lacks_line.false))
+    ] in
+    let has_node : HasItsNode s0 c.if-lacks_node.self i d c.if-lacks_node.answer =
+    elim c.if-lacks_node.branch [
+      | then-lacks_node+in-Some-try_behind_turn_within-2 w ↦ subst (λ (q : Index × Once Placed). HasItsNode s0 q.0 i d q.1) (λ k. (sym w.self-is k, sym w.answer-is k))
+          (node_behind_turn s0 _ _ i d _ _ has_line (sym c.lacks_node.ensures ∙ w.if-lacks_node.true) w.in-Some-try_behind_turn_within-2.ensures.tries.tries c.requires.caller)
+      | else-lacks_node w ↦ subst (λ (q : Index × Once Placed). HasItsNode s0 q.0 i d q.1) (λ k. (sym w.self-is k, sym w.answer-is k))
+          (node_at_once s0 _ i d _ has_line (sym c.lacks_node.ensures ∙ w.if-lacks_node.false))
+    ] in
+    let cut = c.in_default-try_within.ensures.tries in
+    cut_behind s0 c.if-lacks_node.self c.try_within-then-needs_split.new.self i d (node.back back.0 back.1) cut.off
+    (takes_behind_split s0 c.if-lacks_node.self c.try_within-then-needs_split.new.self i d c.if-lacks_node.answer cut.each_lock cut.locks has_node (sym c.needs_split.ensures ∙ c.if-needs_split.true))
 
 pub count_call-requires-clause-party : goal.count_call-requires-clause-party
 count_call-requires-clause-party g c =

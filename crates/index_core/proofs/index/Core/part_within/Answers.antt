@@ -25,7 +25,7 @@ steps-init g c = (
 )
 
 pub returns-then-budget-eq0-clause-runs : goal.returns-then-budget-eq0-clause-runs
-returns-then-budget-eq0-clause-runs g c = lone_cut c.args.self.now c.steps.self c.args.caller (call.Part c.args.low c.args.count) c.steps.invariant.0
+returns-then-budget-eq0-clause-runs g c = (lone_cut c.args.self.now c.steps.self c.args.caller (call.Part c.args.low c.args.count) c.steps.invariant.0).off
 
 pub returns-then-budget-eq0-clause-in_time : goal.returns-then-budget-eq0-clause-in_time
 returns-then-budget-eq0-clause-in_time g c = λ short none.
