@@ -138,6 +138,12 @@ was_quiet s new caller c r runs none quiet = record {
       sym (ap (λ (d : PartyState). d.turn) same) ∙ quiet.turns caller done (ap (λ (l : List PartyState). get_elem? l caller) runs.states ∙ set_here s.states caller done runs.state runs.there))
       (λ (other : i ≢ caller). quiet.turns i e (ap (λ (l : List PartyState). get_elem? l i) runs.states ∙ set_else s.states caller i done other ∙ at))
       (cases_eq i caller);
+  rechecks = λ i e at. ⊎_elim
+      (λ (mine : i ≡ caller).
+      let same : runs.state ≡ e = some-injective runs.state e (sym runs.there ∙ ap (get_elem? s.states) (sym mine) ∙ at) in
+      sym (ap (λ (d : PartyState). d.recheck) same) ∙ quiet.rechecks caller done (ap (λ (l : List PartyState). get_elem? l caller) runs.states ∙ set_here s.states caller done runs.state runs.there))
+      (λ (other : i ≢ caller). quiet.rechecks i e (ap (λ (l : List PartyState). get_elem? l i) runs.states ∙ set_else s.states caller i done other ∙ at))
+      (cases_eq i caller);
 }
   where
     done : PartyState

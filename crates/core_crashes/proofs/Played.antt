@@ -86,7 +86,7 @@ module _ (core round mid : Index) (begins : BeginsRound core round) (kept : mid 
   begun_index index quiet = subst IsIndex (sym round_path) (round_is core index quiet mid.spare)
 
   pub begun_quiet : IsQuiet round → IsQuiet mid
-  begun_quiet quiet = subst IsQuiet (sym kept) (record { calls = quiet.calls; turns = quiet.turns })
+  begun_quiet quiet = subst IsQuiet (sym kept) (record { calls = quiet.calls; turns = quiet.turns; rechecks = quiet.rechecks })
 
   -- stamps stand in words of their own
   same_stamps : stamp_in (world (round_index core 0)) ≡ stamp_in (world core)
@@ -233,7 +233,7 @@ module _ (core mid stopped next : Index) (plan : RoundPlan) (crash : CrashPlan) 
   light =
       let found = behind.weighs in
       let cut = stops.weighs in
-      let rests = idle_weigh mid still in
+      let rests = idle_weigh mid still.calls in
       let same = begun.weighs in
       omega (arith, found, cut, rests, same)
 

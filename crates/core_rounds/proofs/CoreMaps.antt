@@ -291,6 +291,7 @@ few_writes (call.Recheck node version) (whole.Placed placed) caller index = omeg
 few_writes (call.Turn stamp release) (whole.Placed placed) caller index = omega arith
 few_writes c (whole.Part words) caller index = omega arith
 few_writes c (whole.Spent clock) caller index = omega arith
+few_writes c (whole.Same place) caller index = omega arith
 few_writes c (whole.Turned turned) caller index = omega arith
 few_writes c whole.Full caller index = omega arith
 few_writes c (whole.Worn node word) caller index = omega arith
@@ -484,6 +485,7 @@ listed_adds : (low : List ℕ) (count : ℕ) (r : Whole) → added_whole (op_of 
 listed_adds low count (whole.Placed placed) = no_put_adds placed.old (op_of (call.Part low count)) refl
 listed_adds low count (whole.Part words) = refl
 listed_adds low count (whole.Spent clock) = refl
+listed_adds low count (whole.Same place) = refl
 listed_adds low count (whole.Turned turned) = refl
 listed_adds low count whole.Full = refl
 listed_adds low count (whole.Worn node word) = refl

@@ -103,24 +103,24 @@ late_was (Some limit) n over = le-leb limit n over
 
 -- to count a call of a quiet index is no call in flight
 pub count_quiet : (s : Index) (i : ℕ) (new : Index) → IsQuiet s → CountsCall s i new → IsQuiet new
-count_quiet s i new quiet t = quiet_then s new i t.state (state_counted t.state) t.there (ap (λ (v : Index). v.states) t.is) (quiet.calls i t.state t.there) refl quiet
+count_quiet s i new quiet t = quiet_then s new i t.state (state_counted t.state) t.there (ap (λ (v : Index). v.states) t.is) (quiet.calls i t.state t.there) refl refl quiet
 
 -- nor is one try
 pub tried_quiet : (s new : Index) (i : ℕ) (c : CoreCall) (answer : Once Placed) → TriesAlone s i c new answer → IsQuiet s → IsQuiet new
-tried_quiet s new i c answer t = quiet_then s new i t.state (state_tried t.state (length s.history) answer) t.there t.states refl refl
+tried_quiet s new i c answer t = quiet_then s new i t.state (state_tried t.state (length s.history) answer) t.there t.states refl refl refl
 
 pub tried_was : (s new : Index) (i : ℕ) (c : CoreCall) (answer : Once Placed) → TriesAlone s i c new answer → HasNoCalls s → IsQuiet new → IsQuiet s
-tried_was s new i c answer t = quiet_was s new i t.state (state_tried t.state (length s.history) answer) t.there t.states refl refl
+tried_was s new i c answer t = quiet_was s new i t.state (state_tried t.state (length s.history) answer) t.there t.states refl refl refl
 
 pub tried_still : (s new : Index) (i : ℕ) (c : CoreCall) (answer : Once Placed) → TriesAlone s i c new answer → (party : ℕ) → IsStill party s → IsStill party new
-tried_still s new i c answer t = still_then s new i t.state (state_tried t.state (length s.history) answer) t.there t.states refl refl
+tried_still s new i c answer t = still_then s new i t.state (state_tried t.state (length s.history) answer) t.there t.states refl refl refl
 
 -- nor is a whole call
 pub ran_quiet : (s new : Index) (i : ℕ) (c : CoreCall) (r : Whole) → RunsAlone s i c new r → IsQuiet s → IsQuiet new
-ran_quiet s new i c r t = quiet_then s new i t.state (state_done t.state (length s.history)) t.there t.states refl refl
+ran_quiet s new i c r t = quiet_then s new i t.state (state_done t.state (length s.history)) t.there t.states refl refl refl
 
 pub ran_still : (s new : Index) (i : ℕ) (c : CoreCall) (r : Whole) → RunsAlone s i c new r → (party : ℕ) → IsStill party s → IsStill party new
-ran_still s new i c r t = still_then s new i t.state (state_done t.state (length s.history)) t.there t.states refl refl
+ran_still s new i c r t = still_then s new i t.state (state_done t.state (length s.history)) t.there t.states refl refl refl
 
 -- What so many tries of a whole call answer and leave, before it is counted where it was turned back.
 pub record Ran (s0 s : Index) (i : ℕ) (c : CoreCall) (answer : Once Placed) (tries : ℕ) : Type 0 where

@@ -245,6 +245,7 @@ module _ (first : Index) (begun : List BegunCall) (calls : List AnsweredCall) (s
           subst (λ (o : Option Change). TookPlace base (s.history ++ written e.caller e.index o) e.caller e.index (length s.history) (op_of c) (limit_of c) (words_placed words)) part.1
           (took (op_of c) (words_placed words) below counted.2.old counted.2.place) in
           (both, both.within)
+      tells (whole.Same place') why = absurd why
       tells (whole.Turned turned) why = absurd why
       tells whole.Full why = λ full. lacked_room c why.2
       tells (whole.Spent clock) why =
@@ -260,6 +261,7 @@ module _ (first : Index) (begun : List BegunCall) (calls : List AnsweredCall) (s
           let counted = counts_is (count_of c) why.1 in
           subst (λ (o : Option ℕ). CallLists base (s.history ++ []) (op_of c) o (once.Done (words_placed words)) (Some words)) (sym counted.1)
           (record { placed_so = refl; lists = subst (λ (m : Map). ListsRange m (name_asked (op_of c)) counted.0 words) (sym (map_is [] words.place counted.2.place)) counted.2.lists })
+      lists (whole.Same place') why = absurd why
       lists (whole.Turned turned) why = absurd why
       lists whole.Full why = none_lists base _ (op_of c) (count_of c) _ (λ placed is. cc)
       lists (whole.Spent clock) why = none_lists base _ (op_of c) (count_of c) _ (λ placed is. cc)
@@ -280,6 +282,7 @@ module _ (first : Index) (begun : List BegunCall) (calls : List AnsweredCall) (s
               inr (placed, refl, why.3 ∙ sym last.0, ap (λ (w : Write). w.caller) (sym last.1), ap (λ (w : Write). w.index) (sym last.1), asks ∙ ap (λ (w : Write). Some w.change) last.1))
               (got_end s.history (record { caller = e.caller; index = e.index; change = change }) write place stands)
       last_write (whole.Part words) why place write stands = inl (subst (λ (h : List Write). slice_get h place ≡ Some write) (append-nil s.history) stands)
+      last_write (whole.Same place') why place write stands = absurd why
       last_write (whole.Turned turned) why place write stands = absurd why
       last_write whole.Full why place write stands = inl (subst (λ (h : List Write). slice_get h place ≡ Some write) (append-nil s.history) stands)
       last_write (whole.Spent clock) why place write stands = inl (subst (λ (h : List Write). slice_get h place ≡ Some write) (append-nil s.history) stands)
@@ -289,6 +292,7 @@ module _ (first : Index) (begun : List BegunCall) (calls : List AnsweredCall) (s
       next_alone : (r : Whole) → IsNext e.index (next_index e.index) true (once_of r)
       next_alone (whole.Placed placed) = went_up
       next_alone (whole.Part words) = went_up
+      next_alone (whole.Same place') = went_up
       next_alone (whole.Turned turned) = went_up
       next_alone whole.Full = went_up
       next_alone (whole.Spent clock) = went_up

@@ -6,43 +6,60 @@ use lib.ListN.{get_elem?}
 use Rattle.node_ops.specs.declared.running.Running.{Running}
 use Rattle.updater.specs.declared.making.MakeTurn.{MakeTurn}
 use Rattle.index_core.specs.declared.party.PartyState.{PartyState}
+use Rattle.index_core.specs.declared.party.Rechecking.{Rechecking}
 use Rattle.index_core.specs.PartyStates.{is_busy}
 use Rattle.index_core.specs.Indexes.{Index, IsBusy}
 use Rattle.index_core.specs.Lone.{HoldsLock, IsQuiet, IsStill}
 
 pub busy_told : (s : Index) (i : ℕ) (e : PartyState) → get_elem? s.states i ≡ some e → is_busy e ≡ true → IsBusy s i
-busy_told s i e there busy = by_calls e.machine e.turn refl refl busy
+busy_told s i e there busy = by_calls e.machine e.turn e.recheck refl refl refl busy
   where
-    by_calls : (m : Option Running) (t : Option MakeTurn) → e.machine ≡ m → e.turn ≡ t → (is_some m || is_some t) ≡ true → IsBusy s i
-    by_calls (Some m) t flies turns is = inl (record { state = e; machine = m; there = there; flies = flies })
-    by_calls None (Some t) flies turns is = inr (record { state = e; making = t; there = there; turns = turns })
-    by_calls None None flies turns is = absurd (cc)
+    by_calls : (m : Option Running) (t : Option MakeTurn) (r : Option Rechecking) → e.machine ≡ m → e.turn ≡ t → e.recheck ≡ r → ((is_some m || is_some t) || is_some r) ≡ true → IsBusy s i
+    by_calls (Some m) t r flies turns checks is = inl (record { state = e; machine = m; there = there; flies = flies })
+    by_calls None (Some t) r flies turns checks is = inr (inl (record { state = e; making = t; there = there; turns = turns }))
+    by_calls None None (Some r) flies turns checks is = inr (inr (record { state = e; rechecking = r; there = there; checks = checks }))
+    by_calls None None None flies turns checks is = absurd (cc)
 
-pub idle_told : (e : PartyState) → is_busy e ≡ false → (e.machine ≡ None) × (e.turn ≡ None)
-idle_told e idle = by_calls e.machine e.turn idle
+pub idle_told : (e : PartyState) → is_busy e ≡ false → (e.machine ≡ None) × (e.turn ≡ None) × (e.recheck ≡ None)
+idle_told e idle = by_calls e.machine e.turn e.recheck idle
   where
-    by_calls : (m : Option Running) (t : Option MakeTurn) → (is_some m || is_some t) ≡ false → (m ≡ None) × (t ≡ None)
-    by_calls (Some m) t is = absurd (cc)
-    by_calls None (Some t) is = absurd (cc)
-    by_calls None None is = (refl, refl)
+    by_calls : (m : Option Running) (t : Option MakeTurn) (r : Option Rechecking) → ((is_some m || is_some t) || is_some r) ≡ false → (m ≡ None) × (t ≡ None) × (r ≡ None)
+    by_calls (Some m) t r is = absurd (cc)
+    by_calls None (Some t) r is = absurd (cc)
+    by_calls None None (Some r) is = absurd (cc)
+    by_calls None None None is = (refl, refl, refl)
+
+-- a party that is idle so isn't busy
+pub idle_is_not_busy : (s : Index) (i : ℕ) (e : PartyState) → get_elem? s.states i ≡ some e → (e.machine ≡ None) × (e.turn ≡ None) × (e.recheck ≡ None) → IsBusy s i → ⊥
+idle_is_not_busy s i e there (none, rests, unchecked) (inl f) = let both : None ≡ Some f.machine = sym none ∙ ap (λ (d : PartyState). d.machine) (some-injective _ _ (sym there ∙ f.there)) ∙ f.flies in cc
+idle_is_not_busy s i e there (none, rests, unchecked) (inr (inl f)) = let both : None ≡ Some f.making = sym rests ∙ ap (λ (d : PartyState). d.turn) (some-injective _ _ (sym there ∙ f.there)) ∙ f.turns in cc
+idle_is_not_busy s i e there (none, rests, unchecked) (inr (inr f)) = let both : None ≡ Some f.rechecking = sym unchecked ∙ ap (λ (d : PartyState). d.recheck) (some-injective _ _ (sym there ∙ f.there)) ∙ f.checks in cc
 
 pub quiet_is_idle : (s : Index) (i : ℕ) → IsQuiet s → IsBusy s i → ⊥
 quiet_is_idle s i quiet (inl f) = let both : None ≡ Some f.machine = sym (quiet.calls i f.state f.there) ∙ f.flies in cc
-quiet_is_idle s i quiet (inr f) = let both : None ≡ Some f.making = sym (quiet.turns i f.state f.there) ∙ f.turns in cc
+quiet_is_idle s i quiet (inr (inl f)) = let both : None ≡ Some f.making = sym (quiet.turns i f.state f.there) ∙ f.turns in cc
+quiet_is_idle s i quiet (inr (inr f)) = let both : None ≡ Some f.rechecking = sym (quiet.rechecks i f.state f.there) ∙ f.checks in cc
 
 -- a still index has nothing in flight of this party
 pub still_is_idle : (s : Index) (i : ℕ) → IsStill i s → IsBusy s i → ⊥
 still_is_idle s i still (inl f) = let both : None ≡ Some f.machine = sym (still.calls i f.state f.there) ∙ f.flies in cc
-still_is_idle s i still (inr f) = ⊎_elim
+still_is_idle s i still (inr (inr f)) = let both : None ≡ Some f.rechecking = sym (still.rechecks i f.state f.there) ∙ f.checks in cc
+still_is_idle s i still (inr (inl f)) = ⊎_elim
     (λ (none : f.state.turn ≡ None). let both : None ≡ Some f.making = sym none ∙ f.turns in absurd (cc))
     (λ (stopped : (i ≢ i) × HoldsLock f.state.turn). absurd (stopped.0 refl))
     (still.turns i f.state f.there)
 
 pub busy_tells : (s : Index) (i : ℕ) (e : PartyState) → get_elem? s.states i ≡ some e → IsBusy s i → is_busy e ≡ true
 busy_tells s i e there (inl f) =
-    ap (λ (m : Option Running). is_some m || is_some e.turn) (ap (λ (d : PartyState). d.machine) (some-injective _ _ (sym there ∙ f.there)) ∙ f.flies)
-busy_tells s i e there (inr f) = by_calls e.machine (ap (λ (d : PartyState). d.turn) (some-injective _ _ (sym there ∙ f.there)) ∙ f.turns)
+    ap (λ (m : Option Running). (is_some m || is_some e.turn) || is_some e.recheck) (ap (λ (d : PartyState). d.machine) (some-injective _ _ (sym there ∙ f.there)) ∙ f.flies)
+busy_tells s i e there (inr (inl f)) = by_calls e.machine (ap (λ (d : PartyState). d.turn) (some-injective _ _ (sym there ∙ f.there)) ∙ f.turns)
   where
-    by_calls : (m : Option Running) → (e.turn ≡ Some f.making) → (is_some m || is_some e.turn) ≡ true
+    by_calls : (m : Option Running) → (e.turn ≡ Some f.making) → ((is_some m || is_some e.turn) || is_some e.recheck) ≡ true
     by_calls (Some m) is = refl
-    by_calls None is = ap is_some is
+    by_calls None is = ap (λ (t : Option MakeTurn). is_some t || is_some e.recheck) is
+busy_tells s i e there (inr (inr f)) = by_calls e.machine e.turn (ap (λ (d : PartyState). d.recheck) (some-injective _ _ (sym there ∙ f.there)) ∙ f.checks)
+  where
+    by_calls : (m : Option Running) (t : Option MakeTurn) → (e.recheck ≡ Some f.rechecking) → ((is_some m || is_some t) || is_some e.recheck) ≡ true
+    by_calls (Some m) t is = refl
+    by_calls None (Some t) is = refl
+    by_calls None None is = ap is_some is

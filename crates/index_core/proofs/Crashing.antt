@@ -46,6 +46,7 @@ evict_keeps s word is within =
       ordered = is.ordered;
       bounded = is.bounded;
       named = is.named;
+      rechecks = is.rechecks;
     }
 
 -- the index with this row

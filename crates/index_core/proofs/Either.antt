@@ -1,5 +1,5 @@
 -- Calls that are on a name or turns of the updater: which of the two a call is, and what either leaves.
-use Rattle.std.proofs.Common.{◌≡◌, ℕ, ◌<◌, ◌≤◌, inl, inr, length, refl, sym, ap, ◌∙◌, subst, arith}
+use Rattle.std.proofs.Common.{◌≡◌, ℕ, ◌<◌, ◌≤◌, inl, inr, ⊎_elim, length, refl, sym, ap, ◌∙◌, subst, arith}
 use Rattle.std.specs.Prelude.{Option, Some, None, true, is_some}
 use mathlib.Core.Option.{some, some-injective}
 use lib.ListN.{get_elem?}
@@ -9,6 +9,10 @@ use Rattle.call_stages.specs.declared.once.Once.{Once}
 use Rattle.call_stages.specs.declared.once.Placed.{Placed}
 use Rattle.node_ops.specs.declared.running.Running.{Running}
 use Rattle.node_ops.specs.RunningSteps.{running_turned}
+use Rattle.node_ops.specs.declared.recheck.Recheck.{Recheck}
+use Rattle.node_ops.specs.declared.recheck.Recheck.TheVariants.{Dating}
+use Rattle.node_ops.specs.declared.recheck.Same.{Same}
+use Rattle.node_ops.specs.RecheckSteps.{recheck_turned}
 use Rattle.index_law.proofs.Parties.{set_here}
 use Rattle.updater.specs.declared.making.MakeTurn.{MakeTurn}
 use Rattle.pm_words.specs.declared.layout.Layout.{Layout}
@@ -16,28 +20,44 @@ use Rattle.updater.specs.declared.making.TurnReply.{TurnReply}
 use Rattle.updater.specs.Makings.{making_from, making_turned}
 use Rattle.index_core.specs.declared.party.CoreCall.{CoreCall}
 use Rattle.index_core.specs.declared.party.CoreCall.TheVariants as call
-use Rattle.index_core.specs.CoreCalls.{IfTurn, MayBegin, MayStart}
+use Rattle.index_core.specs.CoreCalls.{IfRecheck, IfTurn, MayBegin, MayStart}
 use Rattle.index_core.specs.declared.party.PartyState.{PartyState}
+use Rattle.index_core.specs.declared.party.Rechecking.{Rechecking}
 use Rattle.index_core.specs.declared.party.Stepped.{Stepped}
 use Rattle.index_core.specs.declared.party.Stepped.TheVariants.{Going}
-use Rattle.index_core.specs.Indexes.{Index, IsBusy, IsInFlight, IsTurning, KeepsRoom, Starts, StepsTo, told, view_of}
+use Rattle.index_core.specs.Indexes.{Index, IsBusy, IsInFlight, IsRechecking, IsTurning, KeepsRoom, Starts, StepsTo, told, view_of}
 use Rattle.index_core.specs.CoreCalls.{machine_of}
-use Rattle.index_core.specs.PartyStates.{state_after, state_turned, state_with, stepped_of, turn_after, turn_reply, turn_stepped}
+use Rattle.index_core.specs.Lone.{MayRunAlone}
+use Rattle.index_law.specs.Facts.{version_in}
+use Rattle.index_core.specs.PartyStates.{recheck_after, recheck_reply, recheck_stepped, state_after, state_rechecked, state_turned, state_with, stepped_of, turn_after, turn_reply, turn_stepped}
+use Rattle.index_core.specs.Rechecks.{RecheckSteps, RecheckStepsTo, StartsRecheck, recheck_told}
 use Rattle.index_core.specs.Turns.{StartsTurn, TurnSteps, TurnStepsTo, turn_told}
+use Rattle.index_core.proofs.Checks.{recheck_owes}
 use Rattle.index_core.proofs.TurnReading.{turn_owes}
 
 abbrev pub IsNoTurn : CoreCall → Type 0
 IsNoTurn c = (stamp release : ℕ) → c ≡ call.Turn stamp release → ⊥
 
--- a call that may start and is no turn is a caller's, on a name
-pub on_name : (l : Layout) (i : ℕ) (c : CoreCall) → MayStart l i c → IsNoTurn c → (i < l.callers) × MayBegin c
-on_name l i c (inl may) none = may
-on_name l i (call.Put name value limit) (inr turn) none = absurd turn
-on_name l i (call.Get name) (inr turn) none = absurd turn
-on_name l i (call.Del name limit) (inr turn) none = absurd turn
-on_name l i (call.Part low count) (inr turn) none = absurd turn
-on_name l i (call.Recheck node version) (inr turn) none = absurd turn
-on_name l i (call.Turn stamp release) (inr turn) none = absurd (none stamp release refl)
+abbrev pub IsNoRecheck : CoreCall → Type 0
+IsNoRecheck c = (node version : ℕ) → c ≡ call.Recheck node version → ⊥
+
+-- a call that may start and is neither a turn nor a recheck is a caller's, on a name
+pub on_name : (l : Layout) (i : ℕ) (c : CoreCall) → MayStart l i c → IsNoTurn c → IsNoRecheck c → (i < l.callers) × MayBegin c
+on_name l i c (inl may) none unchecked = may
+on_name l i (call.Put name value limit) (inr other) none unchecked = absurd (⊎_elim (λ (never : ⊥). never) (λ (never : ⊥). never) other)
+on_name l i (call.Get name) (inr other) none unchecked = absurd (⊎_elim (λ (never : ⊥). never) (λ (never : ⊥). never) other)
+on_name l i (call.Del name limit) (inr other) none unchecked = absurd (⊎_elim (λ (never : ⊥). never) (λ (never : ⊥). never) other)
+on_name l i (call.Part low count) (inr other) none unchecked = absurd (⊎_elim (λ (never : ⊥). never) (λ (never : ⊥). never) other)
+on_name l i (call.Recheck node version) (inr other) none unchecked = absurd (unchecked node version refl)
+on_name l i (call.Turn stamp release) (inr other) none unchecked = absurd (none stamp release refl)
+
+pub no_recheck : (c : CoreCall) (P : ℕ → ℕ → Type 0) → IsNoRecheck c → IfRecheck c P
+no_recheck (call.Put name value limit) P none = tt
+no_recheck (call.Get name) P none = tt
+no_recheck (call.Del name limit) P none = tt
+no_recheck (call.Part low count) P none = tt
+no_recheck (call.Recheck node version) P none = absurd (none node version refl)
+no_recheck (call.Turn stamp release) P none = tt
 
 pub no_turn : (c : CoreCall) (P : ℕ → ℕ → Type 0) → IsNoTurn c → IfTurn c P
 no_turn (call.Put name value limit) P none = tt
@@ -53,7 +73,39 @@ on_turn l i c stamp release may is = of_turn (subst (MayStart l i) is may)
   where
     of_turn : MayStart l i (call.Turn stamp release) → (i ≤ l.callers) × (1 ≤ stamp)
     of_turn (inl name) = absurd name.1
-    of_turn (inr turn) = turn
+    of_turn (inr (inl turn)) = turn
+    of_turn (inr (inr never)) = absurd never
+
+-- one that may be made with nothing else in flight may start
+pub alone_may : (s : Index) (i : ℕ) (c : CoreCall) → MayRunAlone s i c → MayStart s.layout i c
+alone_may s i c (inl may) = inl may
+alone_may s i c (inr (inl turn)) = inr (inl turn)
+alone_may s i (call.Put name value limit) (inr (inr never)) = absurd never
+alone_may s i (call.Get name) (inr (inr never)) = absurd never
+alone_may s i (call.Del name limit) (inr (inr never)) = absurd never
+alone_may s i (call.Part low count) (inr (inr never)) = absurd never
+alone_may s i (call.Recheck node version) (inr (inr recheck)) = inr (inr (recheck.0, recheck.1))
+alone_may s i (call.Turn stamp release) (inr (inr never)) = absurd never
+
+pub alone_finds : (s : Index) (i : ℕ) (c : CoreCall) (node version : ℕ) → MayRunAlone s i c → c ≡ call.Recheck node version → version_in s.layout s.words node ≡ version
+alone_finds s i c node version may is = of_recheck (subst (MayRunAlone s i) is may)
+  where
+    of_recheck : MayRunAlone s i (call.Recheck node version) → version_in s.layout s.words node ≡ version
+    of_recheck (inl name) = absurd name.1
+    of_recheck (inr (inl never)) = absurd never
+    of_recheck (inr (inr recheck)) = recheck.2
+
+-- so is one that is a recheck
+pub on_recheck : (l : Layout) (i : ℕ) (c : CoreCall) (node version : ℕ) → MayStart l i c → c ≡ call.Recheck node version → (i < l.callers) × (node < l.nodes)
+on_recheck l i c node version may is = of_recheck (subst (MayStart l i) is may)
+  where
+    of_recheck : MayStart l i (call.Recheck node version) → (i < l.callers) × (node < l.nodes)
+    of_recheck (inl name) = absurd name.1
+    of_recheck (inr (inl never)) = absurd never
+    of_recheck (inr (inr recheck)) = recheck
+
+pub a_recheck : (c : CoreCall) (P : ℕ → ℕ → Type 0) (node version : ℕ) → c ≡ call.Recheck node version → P node version → IfRecheck c P
+a_recheck c P node version is holds = subst (λ (d : CoreCall). IfRecheck d P) (sym is) holds
 
 pub no_name : (c : CoreCall) (stamp release : ℕ) → c ≡ call.Turn stamp release → MayBegin c → ⊥
 no_name c stamp release is may = subst MayBegin is may
@@ -61,10 +113,11 @@ no_name c stamp release is may = subst MayBegin is may
 pub a_turn : (c : CoreCall) (P : ℕ → ℕ → Type 0) (stamp release : ℕ) → c ≡ call.Turn stamp release → P stamp release → IfTurn c P
 a_turn c P stamp release is holds = subst (λ (d : CoreCall). IfTurn d P) (sym is) holds
 
--- a party whose call isn't answered, and which has none on a name in flight, makes a turn
-pub turning : (s : Index) (i : ℕ) → IsBusy s i → (IsInFlight s i → ⊥) → IsTurning s i
-turning s i (inl flies) none = absurd (none flies)
-turning s i (inr turns) none = turns
+-- a party whose call isn't answered, which has none on a name in flight and makes no turn, makes a recheck
+pub checking : (s : Index) (i : ℕ) → IsBusy s i → (IsInFlight s i → ⊥) → (IsTurning s i → ⊥) → IsRechecking s i
+checking s i (inl flies) none rests = absurd (none flies)
+checking s i (inr (inl turns)) none rests = absurd (rests turns)
+checking s i (inr (inr checks)) none rests = checks
 
 -- a step of a turn takes no room for writes
 pub turn_keeps_room : (old new : Index) (i : ℕ) (answer : Option TurnReply) → TurnSteps old i new answer → KeepsRoom old new
@@ -83,7 +136,13 @@ pub turn_flies : (old new : Index) (i stamp release : ℕ) → StartsTurn old i 
 turn_flies old new i stamp release begun =
     let m = making_from old.layout old.generation stamp release in
     let now : PartyState = record (begun.state) { turn = Some m } in
-    inr (record { state = now; making = m; there = ap (λ (v : Index). get_elem? v.states i) begun.is ∙ set_here old.states i now begun.state begun.there; turns = refl })
+    inr (inl (record { state = now; making = m; there = ap (λ (v : Index). get_elem? v.states i) begun.is ∙ set_here old.states i now begun.state begun.there; turns = refl }))
+
+pub recheck_flies : (old new : Index) (i node version : ℕ) → StartsRecheck old i node version new → IsBusy new i
+recheck_flies old new i node version begun =
+    let r : Rechecking = record { since = length old.history; machine = Dating (view_of old i) node version } in
+    let now : PartyState = record (begun.state) { recheck = Some r } in
+    inr (inr (record { state = now; rechecking = r; there = ap (λ (v : Index). get_elem? v.states i) begun.is ∙ set_here old.states i now begun.state begun.there; checks = refl }))
 
 -- and so has one whose step goes on
 name_on : (m : Running) (turn : Turn Running (Once Placed)) → Going ≡ stepped_of m turn → (next : Running) × (turn ≡ Go next)
@@ -111,17 +170,42 @@ turn_goes_on old new i result step is =
     let t = step.steps in
     let go = turn_on (making_turned t.making (turn_told old t.making)) (sym is ∙ step.comes_to ∙ ap turn_stepped t.answers) in
     let now = state_turned t.state (making_turned t.making (turn_told old t.making)) in
-    inr (record {
+    inr (inl (record {
       state = now;
       making = go.0;
       there = ap (λ (v : Index). get_elem? v.states i) t.is ∙ set_here old.states i now t.state t.there;
       turns = ap (λ (turn : Turn MakeTurn TurnReply). (state_turned t.state turn).turn) go.1;
-    })
+    }))
 
--- the state of a party whose call isn't answered, and whether that call is on a name
+recheck_on : (turn : Turn Recheck (Once Same)) → Going ≡ recheck_stepped (recheck_reply turn) → (next : Recheck) × (turn ≡ Go next)
+recheck_on (Go next) is = (next, refl)
+recheck_on (Done answer) is = absurd cc
+
+pub recheck_goes_on : (old new : Index) (i : ℕ) (result : Stepped) → RecheckStepsTo old i new result → result ≡ Going → IsBusy new i
+recheck_goes_on old new i result step is =
+    let t = step.steps in
+    let turn = recheck_turned t.rechecking.machine (recheck_told old t.rechecking.machine) in
+    let go = recheck_on turn (sym is ∙ step.comes_to ∙ ap recheck_stepped t.answers) in
+    let now = state_rechecked t.state t.rechecking.since turn in
+    inr (inr (record {
+      state = now;
+      rechecking = record { since = t.rechecking.since; machine = go.0 };
+      there = ap (λ (v : Index). get_elem? v.states i) t.is ∙ set_here old.states i now t.state t.there;
+      checks = ap (λ (turn : Turn Recheck (Once Same)). recheck_after t.rechecking.since turn) go.1;
+    }))
+
+-- a step of a recheck takes no room for writes
+pub recheck_keeps_room : (old new : Index) (i : ℕ) (answer : Option (Once Same)) → RecheckSteps old i new answer → KeepsRoom old new
+recheck_keeps_room old new i answer t =
+    let now = recheck_after t.rechecking.since (recheck_turned t.rechecking.machine (recheck_told old t.rechecking.machine)) in
+    let owing = recheck_owes old.states i t.state now t.there in
+    subst (KeepsRoom old) (sym t.is) (record { spare = omega arith; all = omega arith })
+
+-- the state of a party whose call isn't answered, and whether that call is on a name, or a turn
 pub busy_there : (s : Index) (i : ℕ) → IsBusy s i → (e : PartyState) × (get_elem? s.states i ≡ some e)
 busy_there s i (inl flies) = (flies.state, flies.there)
-busy_there s i (inr turns) = (turns.state, turns.there)
+busy_there s i (inr (inl turns)) = (turns.state, turns.there)
+busy_there s i (inr (inr checks)) = (checks.state, checks.there)
 
 pub flies_told : (s : Index) (i : ℕ) (e : PartyState) → get_elem? s.states i ≡ some e → is_some e.machine ≡ true → IsInFlight s i
 flies_told s i e there = by_machine e.machine refl
@@ -134,3 +218,15 @@ pub tells_flight : (s : Index) (i : ℕ) (e : PartyState) → get_elem? s.states
 tells_flight s i e there f =
     let same : e ≡ f.state = some-injective _ _ (sym there ∙ f.there) in
     ap (λ (d : PartyState). is_some d.machine) same ∙ ap is_some f.flies
+
+pub turns_told : (s : Index) (i : ℕ) (e : PartyState) → get_elem? s.states i ≡ some e → is_some e.turn ≡ true → IsTurning s i
+turns_told s i e there = by_turn e.turn refl
+  where
+    by_turn : (t : Option MakeTurn) → e.turn ≡ t → is_some t ≡ true → IsTurning s i
+    by_turn (Some t) turns is = record { state = e; making = t; there = there; turns = turns }
+    by_turn None turns is = absurd cc
+
+pub tells_turn : (s : Index) (i : ℕ) (e : PartyState) → get_elem? s.states i ≡ some e → IsTurning s i → is_some e.turn ≡ true
+tells_turn s i e there f =
+    let same : e ≡ f.state = some-injective _ _ (sym there ∙ f.there) in
+    ap (λ (d : PartyState). is_some d.turn) same ∙ ap is_some f.turns

@@ -1,5 +1,5 @@
 -- What a whole call comes to within a budget, from what it was made of.
-use Rattle.std.proofs.Common.{◌≡◌, ◌≢◌, ℕ, ◌<◌, refl, sym, subst}
+use Rattle.std.proofs.Common.{◌≡◌, ◌≢◌, ℕ, ◌<◌, refl, sym, ◌∙◌, subst}
 use Rattle.std.specs.Prelude.{Option, Some, None, IfSome}
 use Rattle.updater.specs.declared.terms.Turned.{Turned}
 use Rattle.index_core.specs.declared.party.CoreCall.{CoreCall}
@@ -13,9 +13,11 @@ use Rattle.index_core.specs.Lone.{IsQuiet, IsStill}
 use Rattle.index_core.specs.Turns.{IsTurnedAnd, TurnsAlone}
 use Rattle.index_core.specs.Withins.{ComesInTime, ComesTo, CutsOff, CutsTurnOff, EndsInTime, EndsWithin, RanAlone}
 use Rattle.index_core.proofs.Either.{IsNoTurn, no_turn, no_name}
+use Rattle.node_ops.specs.declared.recheck.Same.{Same}
+use Rattle.index_core.specs.Rechecks.{same_whole}
 use Rattle.index_core.specs.declared.party.CoreCall.TheVariants as call
 
-ends_by : (T : Type 0) (answer : Option T) (to : T → Whole) (result : Within) (A : Whole → Type 0) (C U : Type 0) → ComesTo answer (λ given. result ≡ within.Answered (to given)) (result ≡ within.Cut) → ComesTo answer (λ given. A (to given)) C → EndsWithin result A C U
+pub ends_by : (T : Type 0) (answer : Option T) (to : T → Whole) (result : Within) (A : Whole → Type 0) (C U : Type 0) → ComesTo answer (λ given. result ≡ within.Answered (to given)) (result ≡ within.Cut) → ComesTo answer (λ given. A (to given)) C → EndsWithin result A C U
 ends_by T (Some given) to result A C U is runs = subst (λ (r : Within). EndsWithin r A C U) (sym is) runs
 ends_by T None to result A C U is runs = subst (λ (r : Within). EndsWithin r A C U) (sym is) runs
 
@@ -47,6 +49,22 @@ turn_ends answer result s0 s i stamp release d same is runs =
     (comes_to Turned (λ turned. TurnsAlone s0 stamp release turned s) (λ turned. Ran s0 i d s (whole.Turned turned)) (CutsTurnOff s0 i s) (Cuts s0 i d s) answer
     (λ turned ran. (λ may. absurd (no_name d stamp release same may), subst (λ (e : CoreCall). IfTurn e (λ stamp release. TurnsAlone s0 stamp release turned s)) (sym same) ran))
     (λ cut. (λ may. absurd (no_name d stamp release same may), subst (λ (e : CoreCall). IfTurn e (λ stamp release. CutsTurnOff s0 i s)) (sym same) cut)) runs)
+
+-- a recheck, which is neither
+pub recheck_no_turn : (d : CoreCall) (node version : ℕ) → d ≡ call.Recheck node version → IsNoTurn d
+recheck_no_turn d node version is stamp release same = let no : call.Recheck node version ≡ call.Turn stamp release = sym is ∙ same in cc
+
+pub recheck_no_name : (d : CoreCall) (node version : ℕ) → d ≡ call.Recheck node version → MayBegin d → ⊥
+recheck_no_name d node version is may = subst MayBegin is may
+
+pub recheck_ends : (answer : Option Same) (result : Within) (s0 s : Index) (i node version : ℕ) (d : CoreCall) → d ≡ call.Recheck node version → ComesTo answer (λ given. result ≡ within.Answered (same_whole given)) (result ≡ within.Cut)
+    → EndsWithin result (Ran s0 i d s) (Cuts s0 i d s) (s ≡ s0)
+recheck_ends answer result s0 s i node version d same is =
+    ends_by Same answer same_whole result (Ran s0 i d s) (Cuts s0 i d s) (s ≡ s0) is (of answer)
+  where
+    of : (a : Option Same) → ComesTo a (λ given. Ran s0 i d s (same_whole given)) (Cuts s0 i d s)
+    of (Some given) = ((λ may. absurd (recheck_no_name d node version same may)), no_turn d _ (recheck_no_turn d node version same))
+    of None = ((λ may. absurd (recheck_no_name d node version same may)), no_turn d _ (recheck_no_turn d node version same))
 
 -- what it finds in flight, and leaves
 pub stays_end : (answer : Option Turned) (result : Within) (s0 s : Index) (i before : ℕ) → 0 < before → IfSome answer (λ _. IsQuiet s0 × IsQuiet s) → (answer ≡ None → IsQuiet s0 → 0 < before → (party : ℕ) → party ≢ i → IsStill party s)

@@ -19,7 +19,7 @@ use Rattle.index_core.specs.declared.party.PartyState.{PartyState}
 use Rattle.index_core.specs.PartyStates.{state_after, turn_after}
 use Rattle.index_core.specs.Indexes.{Index, told}
 use Rattle.index_core.specs.Lone.{IsQuiet, state_done}
-use Rattle.index_core.specs.Schedules.{BegunCall, AnsweredCall, Runs, begins, starts, goes_on, answers, alone, evicts, reserves, begins_turn, steps_turn, turns_alone}
+use Rattle.index_core.specs.Schedules.{BegunCall, AnsweredCall, Runs, begins, starts, goes_on, answers, alone, evicts, reserves, begins_recheck, steps_recheck, begins_turn, steps_turn, turns_alone}
 use Rattle.index_core.specs.Turns.{IsToFree, turn_told}
 use Rattle.index_core.specs.Freeing.{WasReleased, FreedWereReleased, StepsFreeReleased}
 
@@ -78,6 +78,12 @@ was first quiet (evicts {old = old} run within same index) i making n makes free
     was first quiet run i making n (subst (λ (s : Index). Makes s.states i making) same makes) frees
 was first quiet (reserves {old = old} run same) i making n makes frees =
     was first quiet run i making n (subst (λ (s : Index). Makes s.states i making) same makes) frees
+was first quiet (begins_recheck {old = old} {party = party} run free start index) i making n makes frees =
+    was first quiet run i making n
+    (made_before old.states party i start.state _ making start.there refl (subst (λ (s : Index). Makes s.states i making) start.is makes)) frees
+was first quiet (steps_recheck {old = old} {party = party} run step index) i making n makes frees =
+    was first quiet run i making n
+    (made_before old.states party i step.state _ making step.there refl (subst (λ (s : Index). Makes s.states i making) step.is makes)) frees
 was first quiet (begins_turn {old = old} {party = party} {stamp = stamp} {release = release} run free start index) i making n makes frees =
     let made = subst (λ (s : Index). Makes s.states i making) start.is makes in
     let begun : PartyState = record (start.state) { turn = Some (making_from old.layout old.generation stamp release) } in

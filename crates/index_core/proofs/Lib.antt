@@ -4,6 +4,9 @@ pub mod Owing
 pub mod Ordering
 pub mod Bounds
 pub mod Footings
+pub mod Checks
+pub mod RecheckReading
+pub mod LoneRechecks
 pub mod PartFacts
 pub mod Ranges
 pub mod Freeing

@@ -281,6 +281,10 @@ module _ (s0 s s' : Index) (i stamp release : ℕ) (o : LoneTurn s0 s i stamp re
         (λ (mine : (j ≡ i) × (now ≡ e)). ap (λ (d : PartyState). d.turn) (sym mine.1) ∙ done)
         (λ (other : (j ≢ i) × (get_elem? s0.states j ≡ some e)). o.quiet.turns j e other.1)
         (was j e at);
+    rechecks = λ j e at. ⊎_elim
+        (λ (mine : (j ≡ i) × (now ≡ e)). ap (λ (d : PartyState). d.recheck) (sym mine.1) ∙ o.quiet.rechecks i o.state o.there)
+        (λ (other : (j ≢ i) × (get_elem? s0.states j ≡ some e)). o.quiet.rechecks j e other.1)
+        (was j e at);
   }
     where
       now : PartyState

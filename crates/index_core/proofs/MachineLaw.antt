@@ -29,6 +29,7 @@ use Rattle.index_core.specs.declared.party.PartyState.{PartyState}
 use Rattle.index_core.specs.CoreCalls.{machine_of}
 use Rattle.index_core.specs.PartyStates.{IsPartyState, IsTurnOf, state_after, state_with, machine_stage, party_of}
 use Rattle.updater.specs.declared.making.MakeTurn.{MakeTurn}
+use Rattle.index_core.proofs.Checks.{checks_none, checks_set}
 use Rattle.index_core.proofs.Layering.{one_layered, idle_layered}
 use Rattle.index_core.specs.Indexes.{Index, IsIndex, footed, world, told, view_of, stepped_index}
 use Rattle.index_core.specs.Lone.{HasNoCalls}
@@ -191,6 +192,7 @@ module _ (s : Index) (i : ℕ) (e : PartyState) (index : ℕ) (is : IsIndex s) (
           late = is.bounded.late;
         };
         named = is.named;
+        rechecks = checks_set s.layout s.generation s.history s.history (omega arith) s.states i e now there refl is.rechecks;
       }
 
 pub begin_law : BeginKeeps
@@ -213,7 +215,7 @@ pub none_weigh : (s : Index) → HasNoCalls s → weight_sum (world s) ≡ weigh
 none_weigh s none = idle_weighs (world s) (λ i p at. let from = map_from party_of s.states i p at in sym (ap (λ (q : Party). q.stage) from.2) ∙ ap machine_stage (none i from.0 from.1))
 
 pub idle_weigh : IdleWeigh
-idle_weigh s quiet = none_weigh s quiet.calls
+idle_weigh s none = none_weigh s none
 
 pub first_ready : FirstIsReady
 first_ready v (call.Put name value limit) here = ready_idle v.layout v.generation (machine_of v (call.Put name value limit)) here.0.call.view.layout.nodes.0 (record { layout = refl; generation = refl; here = here }) refl
@@ -225,8 +227,8 @@ first_ready v (call.Turn stamp release) here = ready_idle v.layout v.generation 
 
 -- an index with no call in flight is one with any other idle parties
 pub with_idle : IdleKeep
-with_idle s states is quiet idle =
-    let each = λ (i : ℕ) (p : Party) (at : get_elem? (map party_of s.states) i ≡ some p). let from = map_from party_of s.states i p at in sym (ap (λ (q : Party). q.stage) from.2) ∙ ap machine_stage (quiet.calls i from.0 from.1) in
+with_idle s states is calls rests idle =
+    let each = λ (i : ℕ) (p : Party) (at : get_elem? (map party_of s.states) i ≡ some p). let from = map_from party_of s.states i p at in sym (ap (λ (q : Party). q.stage) from.2) ∙ ap machine_stage (calls i from.0 from.1) in
     let rest = idle_law (world s) is.lawful each in
     let w : World = world (record s { states = states }) in
     let at_rest : IsAtRest w = record {
@@ -246,12 +248,12 @@ with_idle s states is quiet idle =
       idle = λ i p at. let from = map_from party_of states i p at in sym (ap (λ (q : Party). q.stage) from.2) ∙ ap machine_stage (idle.idle i from.0 from.1);
       begun = λ i p at. let from = map_from party_of states i p at in let zero_since = sym (ap (λ (q : Party). q.since) from.2) ∙ idle.begun i from.0 from.1 in omega arith;
     } in
-    let footed = rest_footed (footed s) w.parties (map line_of states) (map debt_of states) (is.whole, is.tended) (free_states s.states quiet.calls (λ i e at. (is.states i e at).caller)) (free_states states idle.idle idle.numbers) (rest_law w at_rest) in
+    let footed = rest_footed (footed s) w.parties (map line_of states) (map debt_of states) (is.whole, is.tended) (free_states s.states calls (λ i e at. (is.states i e at).caller)) (free_states states idle.idle idle.numbers) (rest_law w at_rest) in
     record {
       lawful = rest_law w at_rest;
       whole = footed.0;
       tended = footed.1;
-      layered = idle_layered s states is.layered quiet.turns idle.idle idle.resting (subst (λ n. 0 < n) (sym idle.count) (omega arith)) footed;
+      layered = idle_layered s states is.layered rests idle.idle idle.resting (subst (λ n. 0 < n) (sym idle.count) (omega arith)) footed;
       parties = idle.count;
       states = λ i e at. record { caller = idle.numbers i e at; machine = subst (λ (o : Option Running). IfSome o (Sound s.layout s.generation)) (sym (idle.idle i e at)) tt; op = subst (λ (o : Option Running). IfSome o (λ m. IsOf (op_in m) m)) (sym (idle.idle i e at)) tt; own = subst (λ (o : Option Running). IfSome o (λ m. (running_call m).view.caller ≡ i)) (sym (idle.idle i e at)) tt; turn = subst (λ (o : Option MakeTurn). IfSome o (IsTurnOf s.layout s.generation)) (sym (idle.resting i e at)) tt };
       ordered = λ i place e m w at flies stands caller. absurd (let both : None ≡ Some m = sym (idle.idle i e at) ∙ flies in cc);
@@ -261,6 +263,7 @@ with_idle s states is quiet idle =
         late = is.bounded.late;
       };
       named = is.named;
+      rechecks = checks_none s.layout s.generation s.history states idle.unchecked;
     }
 
 -- a step's place, and that a step which counts had none before

@@ -28,10 +28,14 @@ use Rattle.index_core.specs.declared.party.Stepped.{Stepped}
 use Rattle.index_core.specs.declared.party.Stepped.TheVariants.{Answered}
 use Rattle.node_ops.specs.CallStages.{stage_of}
 use Rattle.index_core.specs.declared.party.PartyState.{PartyState}
+use Rattle.index_core.specs.declared.party.Rechecking.{Rechecking}
+use Rattle.node_ops.specs.declared.recheck.Recheck.TheVariants.{Dating}
+use Rattle.node_ops.specs.RecheckSteps.{recheck_turned}
+use Rattle.index_core.specs.Rechecks.{recheck_told}
 use Rattle.index_core.specs.Answers.{IsAnswerOf}
-use Rattle.index_core.specs.Indexes.{Index, IsIndex, IsInFlight, parties_of, told, world}
+use Rattle.index_core.specs.Indexes.{Index, IsIndex, IsInFlight, parties_of, told, view_of, world}
 use Rattle.index_core.specs.Lone.{IsQuiet, alone_writes, state_done}
-use Rattle.index_core.specs.Schedules.{BegunCall, AnsweredCall, begun_call, flying_call, once_of, listed_of, CallLists, Runs, begins, starts, goes_on, answers, alone, evicts, reserves, begins_turn, steps_turn, turns_alone, StandsNowhere, StandsAt, WroteNothing, IsLegalAnswer, IsNext, interval_of, AnswersKeepOrder, EachWritesOnce, IsAnsweredWrite, IsWriteInFlight, IsLegalHistory, AreCounted, OneLegalHistory, IdleAreCounted, flying_in, calls_in_flight}
+use Rattle.index_core.specs.Schedules.{BegunCall, AnsweredCall, begun_call, flying_call, once_of, listed_of, CallLists, Runs, begins, starts, goes_on, answers, alone, evicts, reserves, begins_recheck, steps_recheck, begins_turn, steps_turn, turns_alone, StandsNowhere, StandsAt, WroteNothing, IsLegalAnswer, IsNext, interval_of, AnswersKeepOrder, EachWritesOnce, IsAnsweredWrite, IsWriteInFlight, IsLegalHistory, AreCounted, OneLegalHistory, IdleAreCounted, flying_in, calls_in_flight}
 use Rattle.index_core.proofs.Crashing.{placed_later}
 use Rattle.index_core.proofs.Limits.{write_end, places_keep_limit}
 use Rattle.index_core.proofs.Beginning.{kept_start, kept_alone}
@@ -42,7 +46,7 @@ use Rattle.index_core.specs.Turns.{turn_told}
 use Rattle.index_core.proofs.Flights.{each_goes_on}
 use Rattle.index_core.proofs.Indexed.{states_set}
 use Rattle.index_core.proofs.Scheduling.{IsEarlier, AnswerHolds, CountsUpTo, counts_as, in_flight, Kept, place_le_end, else_there, took_one}
-use Rattle.index_core.specs.PartyStates.{idle_state, next_index, index_after, stepped_of, reply_with, answer_in, listed_by, turn_after}
+use Rattle.index_core.specs.PartyStates.{idle_state, next_index, index_after, stepped_of, reply_with, answer_in, listed_by, recheck_after, turn_after}
 use Rattle.index_core.proofs.Lists.{some_same, idle-each}
 use Rattle.index_core.proofs.Told.{go_of, done_of, told_lists}
 use Rattle.index_core.proofs.Scheduling as along
@@ -66,26 +70,26 @@ kept_as first begun calls s words spare k index = record {
   counts = k.counts;
 }
 
--- a turn leaves its party's calls as they are
-still_earlier : (c : AnsweredCall) (e : PartyState) (t : Option MakeTurn) (m : Option Running) → IsEarlier c e m → IsEarlier c (record e { turn = t }) m
-still_earlier c e t None is = is
-still_earlier c e t (Some machine) is = is
+-- a turn or a recheck leaves its party's calls as they are
+still_earlier : (c : AnsweredCall) (e : PartyState) (t : Option MakeTurn) (r : Option Rechecking) (m : Option Running) → IsEarlier c e m → IsEarlier c (record e { turn = t; recheck = r }) m
+still_earlier c e t r None is = is
+still_earlier c e t r (Some machine) is = is
 
-still_flying : (e : PartyState) (t : Option MakeTurn) (m : Option Running) → flying_in (record e { turn = t }) m ≡ flying_in e m
-still_flying e t None = refl
-still_flying e t (Some machine) = refl
+still_flying : (e : PartyState) (t : Option MakeTurn) (r : Option Rechecking) (m : Option Running) → flying_in (record e { turn = t; recheck = r }) m ≡ flying_in e m
+still_flying e t r None = refl
+still_flying e t r (Some machine) = refl
 
--- the same calls and the same history, where the turn of one party is another
-kept_turned : (first : Index) (begun : List BegunCall) (calls : List AnsweredCall) (s : Index) (words : List ℕ) (i : ℕ) (e : PartyState) (t : Option MakeTurn) → Kept first begun calls s → get_elem? s.states i ≡ some e
-    → IsIndex (record s { words = words; states = set s.states i (record e { turn = t }) }) → Kept first begun calls (record s { words = words; states = set s.states i (record e { turn = t }) })
-kept_turned first begun calls s words i e t k there index = record {
+-- the same calls and the same history, where one party has another turn and another recheck
+kept_turned : (first : Index) (begun : List BegunCall) (calls : List AnsweredCall) (s : Index) (words : List ℕ) (i : ℕ) (e : PartyState) (t : Option MakeTurn) (r : Option Rechecking) → Kept first begun calls s → get_elem? s.states i ≡ some e
+    → IsIndex (record s { words = words; states = set s.states i (record e { turn = t; recheck = r }) }) → Kept first begun calls (record s { words = words; states = set s.states i (record e { turn = t; recheck = r }) })
+kept_turned first begun calls s words i e t r k there index = record {
   index = index;
   layout_is = k.layout_is;
   base_is = k.base_is;
   holds = k.holds;
   order = k.order;
   earlier = λ j c p state at at_p caller. ⊎_elim
-      (λ (mine : (p ≡ i) × (now ≡ state)). subst (λ (d : PartyState). IsEarlier c d d.machine) mine.1 (still_earlier c e t e.machine (k.earlier j c i e at there (caller ∙ mine.0))))
+      (λ (mine : (p ≡ i) × (now ≡ state)). subst (λ (d : PartyState). IsEarlier c d d.machine) mine.1 (still_earlier c e t r e.machine (k.earlier j c i e at there (caller ∙ mine.0))))
       (λ (other : (p ≢ i) × (get_elem? s.states p ≡ some state)). k.earlier j c p state at other.1 caller)
       (at_set s.states i p now state at_p);
   writes = λ place write stands. ⊎_elim
@@ -120,7 +124,7 @@ kept_turned first begun calls s words i e t k there index = record {
   next = k.next;
   indexes = k.indexes;
   states_count = states_set first calls s.states i now (λ p state other at_p. k.states_count p state at_p) (k.states_count i e there);
-  each_call = each_goes_on begun calls s.states k.each_call i e now there (still_flying e t e.machine);
+  each_call = each_goes_on begun calls s.states k.each_call i e now there (still_flying e t r e.machine);
   counts = λ p state at_p. ⊎_elim
       (λ (mine : (p ≡ i) × (now ≡ state)). subst (CountsUpTo first begun p) mine.1 (counts_as first begun i p e now mine.0 (omega arith) (k.counts i e there)))
       (λ (other : (p ≢ i) × (get_elem? s.states p ≡ some state)). k.counts p state other.1)
@@ -128,7 +132,7 @@ kept_turned first begun calls s words i e t k there index = record {
 }
   where
     now : PartyState
-    now = record e { turn = t }
+    now = record e { turn = t; recheck = r }
 
 no_flights : (states : List PartyState) → ((i : ℕ) (state : PartyState) → get_elem? states i ≡ some state → state.machine ≡ None) → calls_in_flight states ≡ []
 no_flights [] quiet = refl
@@ -209,10 +213,16 @@ kept first index quiet fresh (reserves {begun = begun} {calls = calls} {old = ol
     subst (Kept first begun calls) (sym e) (kept_as first begun calls old old.words new.spare k (respare old new.spare k.index))
 kept first index quiet fresh (begins_turn {begun = begun} {calls = calls} {old = old} {new = new} {party = party} {stamp = stamp} {release = release} run idle t is) few =
     subst (Kept first begun calls) (sym t.is)
-    (kept_turned first begun calls old old.words party t.state (Some (making_from old.layout old.generation stamp release)) (kept first index quiet fresh run few) t.there (subst IsIndex t.is is))
+    (kept_turned first begun calls old old.words party t.state (Some (making_from old.layout old.generation stamp release)) t.state.recheck (kept first index quiet fresh run few) t.there (subst IsIndex t.is is))
 kept first index quiet fresh (steps_turn {begun = begun} {calls = calls} {old = old} {new = new} {party = party} run t is) few =
     subst (Kept first begun calls) (sym t.is)
-    (kept_turned first begun calls old (acted old.layout old.words (making_asks t.making)) party t.state (turn_after (making_turned t.making (turn_told old t.making))) (kept first index quiet fresh run few) t.there (subst IsIndex t.is is))
+    (kept_turned first begun calls old (acted old.layout old.words (making_asks t.making)) party t.state (turn_after (making_turned t.making (turn_told old t.making))) t.state.recheck (kept first index quiet fresh run few) t.there (subst IsIndex t.is is))
+kept first index quiet fresh (begins_recheck {begun = begun} {calls = calls} {old = old} {new = new} {party = party} {node = node} {version = version} run idle t is) few =
+    subst (Kept first begun calls) (sym t.is)
+    (kept_turned first begun calls old old.words party t.state t.state.turn (Some (record { since = length old.history; machine = Dating (view_of old party) node version })) (kept first index quiet fresh run few) t.there (subst IsIndex t.is is))
+kept first index quiet fresh (steps_recheck {begun = begun} {calls = calls} {old = old} {new = new} {party = party} run t is) few =
+    subst (Kept first begun calls) (sym t.is)
+    (kept_turned first begun calls old old.words party t.state t.state.turn (recheck_after t.rechecking.since (recheck_turned t.rechecking.machine (recheck_told old t.rechecking.machine))) (kept first index quiet fresh run few) t.there (subst IsIndex t.is is))
 kept first index quiet fresh (turns_alone {begun = begun} {calls = calls} {old = old} {new = new} run still t is) few =
     subst (Kept first begun calls) (sym t.is) (kept_as first begun calls old new.words old.spare (kept first index quiet fresh run few) (subst IsIndex t.is is))
 

@@ -31,6 +31,7 @@ use Rattle.index_core.specs.PartyStates.{idle_states, party_of, IsPartyState}
 use Rattle.index_core.specs.declared.party.PartyState.{PartyState}
 use Rattle.index_core.specs.Indexes.{IsIndex, parties_of, world}
 use Rattle.index_core.specs.Opened.{IsUnused, OpeningIsIndex, OpeningIsUnused, opened_index, row_with}
+use Rattle.index_core.proofs.Checks.{checks_none}
 use Rattle.index_core.proofs.Footings.{line_of, debt_of, free_states}
 use Rattle.index_core.proofs.Layering.{turn_of, first_turn, rest_turns, at_rest}
 use Rattle.index_core.proofs.Lists.{map_from, idle-length, idle-each}
@@ -42,6 +43,9 @@ module _ (n : ℕ) where
 
   pub idle_turn : (i : ℕ) (state : PartyState) → get_elem? (idle_states n) i ≡ some state → state.turn ≡ None
   idle_turn i state there = ap (λ (d : PartyState). d.turn) (idle-each n i state there)
+
+  pub idle_recheck : (i : ℕ) (state : PartyState) → get_elem? (idle_states n) i ≡ some state → state.recheck ≡ None
+  idle_recheck i state there = ap (λ (d : PartyState). d.recheck) (idle-each n i state there)
 
   pub idle_free : AreFree (map party_of (idle_states n)) (map line_of (idle_states n)) (map debt_of (idle_states n))
   idle_free = free_states (idle_states n) idle_machine (λ i state there. ap (λ (d : PartyState). d.caller) (idle-each n i state there))
@@ -76,6 +80,7 @@ module _ (l : Layout) (list : List ListNode) (o : Columns) (words : List ℕ) (b
           late = λ p q v w there here less far. absurd (let none : None ≡ Some v = there in cc);
         };
         named = λ place. subst HasNames (ap (after_all (map_of base)) (sym (take_all place [] (omega arith)))) rest.named;
+        rechecks = checks_none l (at l words (Cached (Header 5))) [] (idle_states n) (idle_recheck n);
       }
 
   unlocked : IsUnlocked (world (opened_index (row_with l words) base []))
@@ -99,7 +104,7 @@ module _ (l : Layout) (list : List ListNode) (o : Columns) (words : List ℕ) (b
 
   pub opening_unused : IsUnused list (opened_index (row_with l words) base [])
   opening_unused = record {
-    quiet = record { calls = idle_machine n; turns = idle_turn n };
+    quiet = record { calls = idle_machine n; turns = idle_turn n; rechecks = idle_recheck n };
     anchors = ap anchors_of (opening_has_list l list o words (map_of base) is);
     locks = fewest l.nodes (omega arith);
     gone = none_gone l.nodes (omega arith);

@@ -18,7 +18,7 @@ use Rattle.updater.specs.declared.making.MakeTurn.{MakeTurn}
 use Rattle.index_core.specs.declared.party.PartyState.{PartyState}
 use Rattle.index_core.specs.PartyStates.{machine_footing, machine_stage, party_of}
 use Rattle.index_core.specs.Indexes.{Index, world, footed, layered, IsIndex}
-use Rattle.index_core.specs.Lone.{HasNoCalls, HoldsLock, IsQuiet, IsStill}
+use Rattle.index_core.specs.Lone.{HasNoCalls, HasNoRechecks, HoldsLock, IsQuiet, IsStill}
 use Rattle.index_core.proofs.Lists.{map_from}
 
 -- with no call in flight all parties are idle
@@ -54,16 +54,22 @@ can_walk s is quiet = walks_come s is quiet.calls
 
 -- a quiet index is still, for each party
 pub quiet_is_still : (party : ℕ) (s : Index) → IsQuiet s → IsStill party s
-quiet_is_still party s quiet = record { calls = quiet.calls; turns = λ i state at. inl (quiet.turns i state at) }
+quiet_is_still party s quiet = record { calls = quiet.calls; turns = λ i state at. inl (quiet.turns i state at); rechecks = quiet.rechecks }
 
--- One party, which has no call in flight then, is another, with the same turn of the updater.
-module _ (s new : Index) (i : ℕ) (state now : PartyState) (there : get_elem? s.states i ≡ some state) (states : new.states ≡ slice_set s.states i now) (idle : now.machine ≡ None) (turn : now.turn ≡ state.turn) where
+-- One party, which has no call on a name in flight then, is another, with the same turn of the updater and recheck.
+module _ (s new : Index) (i : ℕ) (state now : PartyState) (there : get_elem? s.states i ≡ some state) (states : new.states ≡ slice_set s.states i now) (idle : now.machine ≡ None) (turn : now.turn ≡ state.turn) (recheck : now.recheck ≡ state.recheck) where
   was : (j : ℕ) (e : PartyState) → get_elem? new.states j ≡ some e → ((j ≡ i) × (now ≡ e)) ⊎ ((j ≢ i) × (get_elem? s.states j ≡ some e))
   was j e at = at_set s.states i j now e (ap (λ (l : List PartyState). get_elem? l j) (sym states) ∙ at)
 
   pub none_then : HasNoCalls s → HasNoCalls new
   none_then none j e at = ⊎_elim
       (λ (mine : (j ≡ i) × (now ≡ e)). ap (λ (d : PartyState). d.machine) (sym mine.1) ∙ idle)
+      (λ (other : (j ≢ i) × (get_elem? s.states j ≡ some e)). none j e other.1)
+      (was j e at)
+
+  rechecks_then : HasNoRechecks s → HasNoRechecks new
+  rechecks_then none j e at = ⊎_elim
+      (λ (mine : (j ≡ i) × (now ≡ e)). ap (λ (d : PartyState). d.recheck) (sym mine.1) ∙ recheck ∙ none i state there)
       (λ (other : (j ≢ i) × (get_elem? s.states j ≡ some e)). none j e other.1)
       (was j e at)
 
@@ -74,6 +80,7 @@ module _ (s new : Index) (i : ℕ) (state now : PartyState) (there : get_elem? s
         (λ (mine : (j ≡ i) × (now ≡ e)). ap (λ (d : PartyState). d.turn) (sym mine.1) ∙ turn ∙ quiet.turns i state there)
         (λ (other : (j ≢ i) × (get_elem? s.states j ≡ some e)). quiet.turns j e other.1)
         (was j e at);
+    rechecks = rechecks_then quiet.rechecks;
   }
 
   -- and it was quiet, if it is
@@ -86,6 +93,12 @@ module _ (s new : Index) (i : ℕ) (state now : PartyState) (there : get_elem? s
         ∙ sym turn ∙ quiet.turns i now (ap (λ (l : List PartyState). get_elem? l i) states ∙ set_here s.states i now state there))
         (λ (other : j ≢ i). quiet.turns j e (ap (λ (l : List PartyState). get_elem? l j) states ∙ set_else s.states i j now other ∙ at))
         (cases_eq j i);
+    rechecks = λ j e at. ⊎_elim
+        (λ (same : j ≡ i).
+        ap (λ (d : PartyState). d.recheck) (some-injective _ _ (sym at ∙ ap (get_elem? s.states) same ∙ there))
+        ∙ sym recheck ∙ quiet.rechecks i now (ap (λ (l : List PartyState). get_elem? l i) states ∙ set_here s.states i now state there))
+        (λ (other : j ≢ i). quiet.rechecks j e (ap (λ (l : List PartyState). get_elem? l j) states ∙ set_else s.states i j now other ∙ at))
+        (cases_eq j i);
   }
 
   pub still_then : (party : ℕ) → IsStill party s → IsStill party new
@@ -97,4 +110,5 @@ module _ (s new : Index) (i : ℕ) (state now : PartyState) (there : get_elem? s
         (λ k. (sym mine.0 k, (sym turn ∙ ap (λ (d : PartyState). d.turn) mine.1) k)) (still.turns i state there))
         (λ (other : (j ≢ i) × (get_elem? s.states j ≡ some e)). still.turns j e other.1)
         (was j e at);
+    rechecks = rechecks_then still.rechecks;
   }

@@ -12,7 +12,6 @@ use Rattle.pm_words.specs.declared.action.Action.TheVariants.{Load}
 use Rattle.pm_words.specs.declared.again.Again.TheVariants.{Moved}
 use Rattle.pm_words.specs.declared.machine.Turn.{Turn}
 use Rattle.pm_words.specs.declared.machine.Turn.TheVariants.{Go, Done}
-use Rattle.pm_words.specs.Images.{Row}
 use Rattle.pm_words.specs.Rows.{acted, got}
 use Rattle.call_stages.specs.declared.once.Once.{Once}
 use Rattle.call_stages.specs.declared.once.Once.TheVariants as once
@@ -45,7 +44,7 @@ use Rattle.index_core.specs.declared.party.PartyState.{PartyState}
 use Rattle.index_core.specs.Indexes.{Index, IsIndex, world, told}
 use Rattle.index_core.specs.PartyStates.{machine_stage, party_of}
 use Rattle.index_core.specs.Rechecks.{PartsBecomeKnown, StepsKeepKnown, TurnsKeepKnown, recheck_told, RechecksAct}
-use Rattle.index_core.specs.Rechecks.{IsRecheckOf, IsSameRecheck, RecheckSteps}
+use Rattle.index_core.specs.Rechecks.{IsRecheckOf, IsSameRecheck}
 use Rattle.index_core.specs.Rechecks.{RechecksGoOn, RechecksAreAnswered, SameTells, SameIsSoon, SameOutlasts}
 use Rattle.index_core.specs.Turns.{turned_index}
 use Rattle.index_core.proofs.Bounds.{bounded_small}
@@ -144,32 +143,12 @@ same_outlasts base seen more k place within is = record {
 }
 
 -- what goes on is the same recheck
-goes_same : (s : Index) (r next : Recheck) (x : ℕ) → IsRecheckOf s r → recheck_turned r x ≡ Go next → IsSameRecheck r next × IsRecheckOf s next
+pub goes_same : (s : Index) (r next : Recheck) (x : ℕ) → IsRecheckOf s r → recheck_turned r x ≡ Go next → IsSameRecheck r next × IsRecheckOf s next
 goes_same s (Dating view node version) next x of goes =
     let same : Checking view node version x ≡ next = cc in
     subst (λ (q : Recheck). IsSameRecheck (Dating view node version) q × IsRecheckOf s q) same
     (record { view = refl; node = refl; version = refl }, record { here = of.here; layout = of.layout; generation = of.generation })
 goes_same s (Checking view node version clock) next x of goes = absurd (cc)
-
--- what a step comes to, by what its number is
-pub recheck_steps : (s new : Index) (r : Recheck) (result : Turn Recheck (Once Same)) → IsIndex s → IsRecheckOf s r → new ≡ s → result ≡ recheck_turned r (recheck_told s r) → RecheckSteps s r new result
-recheck_steps s new r result is of same turned =
-    subst (λ (v : Index). RecheckSteps s r v result) (sym same)
-    (record {
-      same = refl;
-      turned = turned;
-      goes_on = λ next goes. goes_same s r next (recheck_told s r) of (sym turned ∙ goes);
-      sure = λ since next sure goes. rechecks_go_on s since r next is of sure (sym turned ∙ goes);
-      answered = λ since answer sure done. rechecks_are_answered s since r answer is of sure (sym turned ∙ done);
-    })
-
--- a core reads the words of its index
-pub recheck_in : (s old : Index) (r : Recheck) → s.layout ≡ old.layout → s.generation ≡ old.generation → IsRecheckOf old r → IsRecheckOf s r
-recheck_in s old r layout generation of = record { here = of.here; layout = of.layout ∙ sym layout; generation = of.generation ∙ sym generation }
-
--- the row that a load leaves
-pub row_stays : (s : Index) (r : Recheck) (row : Row) → IsIndex s → IsRecheckOf s r → row ≡ record { layout = s.layout; words = acted s.layout s.words (recheck_asks r) } → row ≡ record { layout = s.layout; words = s.words }
-row_stays s r row is of acts = acts ∙ ap (λ (words : List ℕ). record { layout = s.layout; words = words }) (rechecks_act s r is of).leaves
 
 -- one that is alone finds what it was handed, if that is the word that is there
 pub recheck_ends : (s : Index) (view : View) (node version : ℕ) (next : Recheck) (result : Turn Recheck (Once Same)) → IsIndex s → IsRecheckOf s (Dating view node version) → version_in s.layout s.words node ≡ version

@@ -819,6 +819,38 @@ split_is_full w w' c p (once.Done placed) end is = absurd (cc)
 split_is_full w w' c p (once.Spent clock) end is = absurd (cc)
 split_is_full w w' c p (once.Worn node word) end is = absurd (cc)
 
+-- a call that has split its node has written nothing, and the layout is the same
+split_keeps : (w w' : World) (c : CoreCall) (p : Party) (r : Once Placed) → IsAnswered w (op_of c) (limit_of c) w' p r → needs_split r ≡ true → w'.history ≡ w.history
+split_keeps w w' c p (once.Again (again.NeedsSplit n)) (unworn, below, full, has, free, same, halved, most) is = same
+split_keeps w w' c p (once.Again again.NoFree) end is = absurd (cc)
+split_keeps w w' c p (once.Again again.LogFull) end is = absurd (cc)
+split_keeps w w' c p (once.Again (again.Locked n word)) end is = absurd end
+split_keeps w w' c p (once.Again (again.Moved n first second)) end is = absurd end
+split_keeps w w' c p (once.Again (again.Hops count)) end is = absurd end
+split_keeps w w' c p (once.Again (again.Held word)) end is = absurd end
+split_keeps w w' c p (once.Again (again.Epoch first second)) end is = absurd end
+split_keeps w w' c p (once.Done placed) end is = absurd (cc)
+split_keeps w w' c p (once.Spent clock) end is = absurd (cc)
+split_keeps w w' c p (once.Worn node word) end is = absurd (cc)
+
+pub node_history : (s0 s : Index) (i : ℕ) (c : CoreCall) (answer : Once Placed) → HasItsNode s0 s i c answer → needs_split answer ≡ true → s.history ≡ s0.history
+node_history s0 s i c answer h again =
+    let t = h.tried in
+    split_keeps (world t.before) (world s) c (party_of t.last.state) answer t.last.answered again ∙ of t.before h.tries t.begun
+  where
+    of : (v : Index) (n : ℕ) → Begun s0 i c v n → v.history ≡ s0.history
+    of v n at_first = refl
+    of v n (behind_turn o sweeps) = o.history
+
+pub node_layout : (s0 s : Index) (i : ℕ) (c : CoreCall) (answer : Once Placed) → HasItsNode s0 s i c answer → s.layout ≡ s0.layout
+node_layout s0 s i c answer h =
+    let t = h.tried in
+    t.last.layout ∙ of t.before h.tries t.begun
+  where
+    of : (v : Index) (n : ℕ) → Begun s0 i c v n → v.layout ≡ s0.layout
+    of v n at_first = refl
+    of v n (behind_turn o sweeps) = o.layout
+
 -- what so many tries took of the locks, and the last of them one more
 tried_takes : (s0 s : Index) (i : ℕ) (c : CoreCall) (answer : Once Placed) (tries : ℕ) → Tried s0 s i c answer tries → LoseAtMost (tries + 1) s0 s × (locks_left s0 ≤ locks_left s + (tries + 1))
 tried_takes s0 s i c answer tries t = of t.before tries t.begun t.each t.locks

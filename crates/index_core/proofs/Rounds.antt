@@ -29,6 +29,7 @@ use Rattle.index_core.specs.Lone.{IsQuiet}
 use Rattle.index_core.specs.Rounds.{BeginsRound, RoundBegins, round_index}
 use Rattle.index_law.specs.Footed.{IsFooted}
 use Rattle.index_law.proofs.Footed.{round_footed}
+use Rattle.index_core.proofs.Checks.{checks_none}
 use Rattle.index_core.proofs.Footings.{line_of, debt_of, free_states}
 use Rattle.index_core.proofs.Layering.{rest_layered}
 use Rattle.index_core.proofs.Lists.{map_from, idle-length, idle-each}
@@ -60,6 +61,9 @@ module _ (s : Index) (is : IsIndex s) (quiet : IsQuiet s) where
   no_turn : (i : ℕ) (state : PartyState) → get_elem? states i ≡ some state → state.turn ≡ None
   no_turn i state at = ap (λ (d : PartyState). d.turn) (idle-each (parties_of s.layout) i state at)
 
+  no_recheck : (i : ℕ) (state : PartyState) → get_elem? states i ≡ some state → state.recheck ≡ None
+  no_recheck i state at = ap (λ (d : PartyState). d.recheck) (idle-each (parties_of s.layout) i state at)
+
   numbers : (i : ℕ) (state : PartyState) → get_elem? states i ≡ some state → state.caller ≡ i
   numbers i state at = ap (λ (d : PartyState). d.caller) (idle-each (parties_of s.layout) i state at)
 
@@ -87,6 +91,7 @@ module _ (s : Index) (is : IsIndex s) (quiet : IsQuiet s) where
           late = λ p q v w at there less far. absurd (let none : None ≡ Some v = at in cc);
         };
         named = λ place. subst HasNames (ap (after_all (map_of (pairs_of (map_of_index s)))) (sym (take_all place [] (omega arith)))) now.0.named;
+        rechecks = checks_none s.layout s.generation [] states no_recheck;
       }
 
   -- what its nodes' words say stays
@@ -110,6 +115,7 @@ pub round_quiet : (s new : Index) → BeginsRound s new → IsQuiet new
 round_quiet s new begins = record {
   calls = λ i state there. ap (λ (d : PartyState). d.machine) (idle-each (parties_of s.layout) i state (subst (λ (v : Index). get_elem? v.states i ≡ some state) begins.is there));
   turns = λ i state there. ap (λ (d : PartyState). d.turn) (idle-each (parties_of s.layout) i state (subst (λ (v : Index). get_elem? v.states i ≡ some state) begins.is there));
+  rechecks = λ i state there. ap (λ (d : PartyState). d.recheck) (idle-each (parties_of s.layout) i state (subst (λ (v : Index). get_elem? v.states i ≡ some state) begins.is there));
 }
 
 pub round_begins : RoundBegins

@@ -66,6 +66,7 @@ use Rattle.index_core.proofs.Ranges.{lists_at, step_named}
 use Rattle.index_core.specs.Indexes.{Index, world, IsIndex, view_of, started_index, told, stepped_index, MakesCall, FreesNone}
 use Rattle.index_core.specs.Heard.{HearsOn}
 use Rattle.index_core.proofs.Causes.{calls_hear}
+use Rattle.index_core.proofs.Checks.{checks_set}
 use Rattle.index_core.proofs.Freeing.{step_frees_none}
 use Rattle.index_core.proofs.Footings.{swap_footed, step_footed}
 use Rattle.index_core.proofs.Layering.{step_layered, one_layered}
@@ -170,6 +171,11 @@ frees_by_kind w i p a x s stage lawful there known (beside none is) told n free 
     subst (λ (f : Facts). f.status n ≡ free_status) same
     (subst (λ (u : Stage). (facts_of w.layout (acted w.layout w.words a) w.base (w.history ++ written p.caller p.index (counted u))).status n ≡ free_status) (sym stage) free)
 
+-- a step of a call leaves its party's recheck
+after_recheck : (e : PartyState) (turn : Turn Running (Once Placed)) → (state_after e turn).recheck ≡ e.recheck
+after_recheck e (Go machine) = refl
+after_recheck e (Done answer) = refl
+
 pub step_facts : (s : Index) (party : ℕ) (state : PartyState) (machine : Running) → IsIndex s → get_elem? s.states party ≡ some state → state.machine ≡ Some machine
     → StepFacts s party state machine
 step_facts s i state machine is there flies =
@@ -228,6 +234,8 @@ step_facts s i state machine is there flies =
         ordered = step_ordered s i state machine is.states is.ordered is.lawful.clock there flies kept_op;
         bounded = step_bounded s i state machine is there flies (keeps_call machine x takes) kept_op;
         named = step_named s i state machine is lawful;
+        rechecks = checks_set l g s.history (s.history ++ written state.caller state.index (counted (stage_of machine))) (let longer = length-append s.history (written state.caller state.index (counted (stage_of machine))) in omega arith)
+            s.states i state (state_after state turn) there (after_recheck state turn) is.rechecks;
       };
       lists = lists_at s i state machine is there flies;
       owns = owns s i state machine is.states is.ordered is.lawful.clock there flies;
@@ -342,6 +350,7 @@ start_keeps s i state c spare is there idle here =
       ordered = start_ordered s.states s.history i state m is.ordered;
       bounded = start_bounded s i state c is here;
       named = is.named;
+      rechecks = checks_set s.layout s.generation s.history s.history (omega arith) s.states i state now there refl is.rechecks;
     }
 
 pub start_owes : (s : Index) (party : ℕ) (state : PartyState) (c : CoreCall) → get_elem? s.states party ≡ some state → state.machine ≡ None
@@ -373,6 +382,7 @@ count_keeps s i state spare is there idle =
       ordered = count_ordered s.states s.history i state idle is.ordered;
       bounded = count_bounded s i state is idle;
       named = is.named;
+      rechecks = checks_set s.layout s.generation s.history s.history (omega arith) s.states i state now there refl is.rechecks;
     }
 
 -- and owes what it owed
@@ -381,7 +391,7 @@ count_owes s i state there = let moved = owed-set s.states i state (state_counte
 
 -- how much room is told of an index is none of its laws
 pub respare : (s : Index) (spare : ℕ) → IsIndex s → IsIndex (record s { spare = spare })
-respare s spare is = record { lawful = is.lawful; whole = is.whole; tended = is.tended; layered = is.layered; parties = is.parties; states = is.states; ordered = is.ordered; bounded = is.bounded; named = is.named }
+respare s spare is = record { lawful = is.lawful; whole = is.whole; tended = is.tended; layered = is.layered; parties = is.parties; states = is.states; ordered = is.ordered; bounded = is.bounded; named = is.named; rechecks = is.rechecks }
 
 -- the index that a step leaves, at values that are equal to its own
 pub step_at : (s : Index) (i : ℕ) (e r e' : PartyState) (m m' : Running) (row : Row) (got' : ℕ) (turn : Turn Running (Once Placed)) (history : List Write) (spare : ℕ)

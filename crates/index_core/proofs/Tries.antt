@@ -427,13 +427,13 @@ module _ (s0 s s' : Index) (i : ℕ) (c : CoreCall) (result : Option (Once Place
 
   -- no call is in flight then, and the turns of the updater are as they were
   pub lone_none : (answer : Once Placed) → result ≡ Some answer → HasNoCalls s'
-  lone_none answer answered = none_then s0 s' i o.state (state_after e (Done answer)) o.there (entries_are (Done answer) (lone_done answer answered)) refl refl o.still.calls
+  lone_none answer answered = none_then s0 s' i o.state (state_after e (Done answer)) o.there (entries_are (Done answer) (lone_done answer answered)) refl refl refl o.still.calls
 
   pub lone_quiet : (answer : Once Placed) → result ≡ Some answer → IsQuiet s0 → IsQuiet s'
-  lone_quiet answer answered = quiet_then s0 s' i o.state (state_after e (Done answer)) o.there (entries_are (Done answer) (lone_done answer answered)) refl refl
+  lone_quiet answer answered = quiet_then s0 s' i o.state (state_after e (Done answer)) o.there (entries_are (Done answer) (lone_done answer answered)) refl refl refl
 
   pub lone_still : (answer : Once Placed) → result ≡ Some answer → (party : ℕ) → IsStill party s0 → IsStill party s'
-  lone_still answer answered = still_then s0 s' i o.state (state_after e (Done answer)) o.there (entries_are (Done answer) (lone_done answer answered)) refl refl
+  lone_still answer answered = still_then s0 s' i o.state (state_after e (Done answer)) o.there (entries_are (Done answer) (lone_done answer answered)) refl refl refl
 
   -- how it ends
   module _ (answer : Once Placed) (answered : result ≡ Some answer) where

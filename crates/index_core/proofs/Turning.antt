@@ -17,7 +17,7 @@ use Rattle.index_law.specs.Worlds.{Party, World, facts}
 use Rattle.index_law.specs.InUse.{AreInUse}
 use Rattle.index_law.specs.Weights.{gone_weight, index_weight, lowered_in, lowered_sum, weight_sum}
 use Rattle.index_law.proofs.Weights.{gone_less}
-use Rattle.index_law.proofs.Parties.{at_set, set_here}
+use Rattle.index_law.proofs.Parties.{set_here}
 use Rattle.updater_row_law.specs.Columns.{RowTerms, volatile_field}
 use Rattle.updater_row_law.specs.RowStages.{RowStage, Resting, IsUnworn, Frees, Counts}
 use Rattle.updater_row_law.specs.RowLaw.{RowLawful}
@@ -48,6 +48,7 @@ use Rattle.index_core.specs.declared.party.PartyState.{PartyState}
 use Rattle.index_core.specs.PartyStates.{party_of, resting, turning_of, turn_after, IsTurnOf}
 use Rattle.index_core.specs.Indexes.{Index, IsIndex, world, footed, layered}
 use Rattle.index_core.specs.Turns.{turn_told, turned_index, FindsNoneFree, FreesReleased, TurnLaw, TurnKeeps, TurnBegins, TermsMayBeSet}
+use Rattle.index_core.proofs.Checks.{beside_bounded, beside_ordered, checks_set}
 use Rattle.index_core.proofs.Footings.{line_of, debt_of}
 use Rattle.index_core.proofs.Freeing.{AboutToFree, only_frees, comes_from}
 use Rattle.index_core.proofs.InUse.{ends_counting, counted_none, in_use_weighs}
@@ -97,25 +98,10 @@ module _ (s : Index) (i : ℕ) (state : PartyState) (turn : Option MakeTurn) (th
         layered = after;
         parties = length-set s.states i now ∙ is.parties;
         states = set_states s.layout s.generation s.states i now is.states (record { caller = own.caller; machine = own.machine; op = own.op; own = own.own; turn = own_turn });
-        ordered = λ j place e m write at flies stands caller. ⊎_elim
-            (λ (mine : (j ≡ i) × (now ≡ e)).
-            let flies' : state.machine ≡ Some m = ap (λ (d : PartyState). d.machine) mine.1 ∙ flies in
-            let caller' : write.caller ≡ state.caller = caller ∙ ap (λ (d : PartyState). d.caller) (sym mine.1) in
-            elim (is.ordered i place state m write there flies' stands caller') [
-              | inl early ↦ inl (subst (λ (d : PartyState). place < d.since) mine.1 early)
-              | inr own_write ↦ inr (record { placed = own_write.placed; index = own_write.index ∙ ap (λ (d : PartyState). d.index) mine.1; change = own_write.change })
-            ])
-            (λ (other : (j ≢ i) × (get_elem? s.states j ≡ some e)). is.ordered j place e m write other.1 flies stands caller)
-            (at_set s.states i j now e at);
-        bounded = record {
-          limits = λ j e m at flies. ⊎_elim
-              (λ (mine : (j ≡ i) × (now ≡ e)). is.bounded.limits i state m there (ap (λ (d : PartyState). d.machine) mine.1 ∙ flies))
-              (λ (other : (j ≢ i) × (get_elem? s.states j ≡ some e)). is.bounded.limits j e m other.1 flies)
-              (at_set s.states i j now e at);
-          writers = is.bounded.writers;
-          late = is.bounded.late;
-        };
+        ordered = beside_ordered s i state turn state.recheck there is.ordered;
+        bounded = beside_bounded s i state turn state.recheck there is.bounded;
         named = is.named;
+        rechecks = checks_set s.layout s.generation s.history s.history (omega arith) s.states i state now there refl is.rechecks;
       }
 
 -- What the calls have lowered the weight by reads no status.

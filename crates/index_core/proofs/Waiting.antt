@@ -70,7 +70,7 @@ rest_or_hold (x ∷ xs) each = ⊎_elim
 -- a still index is quiet, or one of its turns has the lock
 pub quiet_or_held : (party : ℕ) (s : Index) → IsStill party s → IsQuiet s ⊎ HasHolder s
 quiet_or_held party s still = ⊎_elim
-    (λ (rest : AreRestful s.states). inl (record { calls = still.calls; turns = rest }))
+    (λ (rest : AreRestful s.states). inl (record { calls = still.calls; turns = rest; rechecks = still.rechecks }))
     (λ (one : Holds s.states). inr (record { number = one.0; state = one.1; there = one.2; holds = one.3 }))
     (rest_or_hold s.states (λ i e at. ⊎_elim
     (λ (none : e.turn ≡ None). inl none)
@@ -231,6 +231,10 @@ turn_is_still s0 s i stamp release o holds party other = record {
   turns = λ j e at_j. ⊎_elim
       (λ (mine : (j ≡ i) × (now ≡ e)). inr ((λ same. other (sym same ∙ mine.0)), subst (λ (d : PartyState). HoldsLock d.turn) mine.1 holds))
       (λ (else : (j ≢ i) × (get_elem? s0.states j ≡ some e)). inl (o.quiet.turns j e else.1))
+      (was j e at_j);
+  rechecks = λ j e at_j. ⊎_elim
+      (λ (mine : (j ≡ i) × (now ≡ e)). ap (λ (d : PartyState). d.recheck) (sym mine.1) ∙ o.quiet.rechecks i o.state o.there)
+      (λ (else : (j ≢ i) × (get_elem? s0.states j ≡ some e)). o.quiet.rechecks j e else.1)
       (was j e at_j);
 }
   where

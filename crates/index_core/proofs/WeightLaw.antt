@@ -26,13 +26,19 @@ use Rattle.index_law.specs.Weights.{AddsName, weight_sum}
 use Rattle.index_law.proofs.Weights.{swap_weighs, evict_weighs}
 use Rattle.index_core.specs.declared.party.CoreCall.{CoreCall}
 use Rattle.index_core.specs.declared.party.PartyState.{PartyState}
+use Rattle.index_core.specs.declared.party.Rechecking.{Rechecking}
+use Rattle.node_ops.specs.declared.recheck.Recheck.TheVariants.{Dating}
+use Rattle.node_ops.specs.RecheckSteps.{recheck_turned}
+use Rattle.index_layer_law.specs.Layers.{Layered}
+use Rattle.index_core.specs.Rechecks.{recheck_told}
+use Rattle.index_core.proofs.RecheckReading.{unchecked_layered}
 use Rattle.index_core.specs.declared.party.Whole.{Whole}
 use Rattle.index_core.specs.declared.party.Whole.TheVariants as whole
 use Rattle.index_core.specs.CoreCalls.{op_of, machine_of}
-use Rattle.index_core.specs.PartyStates.{machine_stage, party_of, state_with, state_after, index_after, next_index, answer_in, listed_by, turn_after}
+use Rattle.index_core.specs.PartyStates.{machine_stage, party_of, state_with, state_after, index_after, next_index, answer_in, listed_by, recheck_after, turn_after}
 use Rattle.index_core.specs.Indexes.{Index, IsIndex, world, view_of, told}
 use Rattle.index_core.specs.Lone.{HasNoCalls, IsQuiet, state_done}
-use Rattle.index_core.specs.Schedules.{BegunCall, AnsweredCall, begun_call, flying_call, once_of, listed_of, Runs, begins, starts, goes_on, answers, alone, evicts, reserves, begins_turn, steps_turn, turns_alone}
+use Rattle.index_core.specs.Schedules.{BegunCall, AnsweredCall, begun_call, flying_call, once_of, listed_of, Runs, begins, starts, goes_on, answers, alone, evicts, reserves, begins_recheck, steps_recheck, begins_turn, steps_turn, turns_alone}
 use Rattle.index_core.specs.Weights.{weight_of, put_count, added_if, added_by, added_whole, put_in}
 use Rattle.index_core.specs.WeightBounds.{names_added, puts_in_flight, WeightIsBounded}
 use Rattle.index_core.proofs.Crashing.{crash_light}
@@ -167,15 +173,16 @@ record Weighs (first : Index) (calls : List AnsweredCall) (s : Index) : Type 0 w
 counts_added : (asked : NameOp) (result : Whole) → added_whole asked result ≤ added_by asked (once_of result)
 counts_added asked (whole.Placed placed) = omega arith
 counts_added asked (whole.Part words) = omega arith
+counts_added asked (whole.Same place) = omega arith
 counts_added asked (whole.Turned turned) = omega arith
 counts_added asked whole.Full = omega arith
 counts_added asked (whole.Spent clock) = omega arith
 counts_added asked (whole.Worn node word) = omega arith
 
--- a turn shows no name
-turned_shows : (states : List PartyState) (i : ℕ) (e : PartyState) (t : Option MakeTurn) → get_elem? states i ≡ some e → showing_sum (set states i (record e { turn = t })) ≡ showing_sum states
-turned_shows states i e t there =
-    let sums = sum_set (λ (d : PartyState). showing d.machine) states i e (record e { turn = t }) there in
+-- a turn or a recheck shows no name
+turned_shows : (states : List PartyState) (i : ℕ) (e : PartyState) (t : Option MakeTurn) (r : Option Rechecking) → get_elem? states i ≡ some e → showing_sum (set states i (record e { turn = t; recheck = r })) ≡ showing_sum states
+turned_shows states i e t r there =
+    let sums = sum_set (λ (d : PartyState). showing d.machine) states i e (record e { turn = t; recheck = r }) there in
     omega arith
 
 quiet_shows : (states : List PartyState) → ((i : ℕ) (state : PartyState) → get_elem? states i ≡ some state → state.machine ≡ None) → showing_sum states ≡ 0
@@ -270,7 +277,7 @@ module _ (first : Index) (quiet : IsQuiet first) (index : IsIndex first) where
   weighs (alone {calls = calls} {old = old} {new = new} {caller = caller} {call = c} {result = result} run free r is) =
       let before = weighs run in
       let sum = before.sum in
-      let free_new : HasNoCalls new = none_then old new caller r.state (state_done r.state (length old.history)) r.there r.states refl refl free in
+      let free_new : HasNoCalls new = none_then old new caller r.state (state_done r.state (length old.history)) r.there r.states refl refl refl free in
       let more : weight_sum (world new) ≤ weight_sum (world old) + added_whole (op_of c) result =
       subst (λ (q : ℕ × ℕ). q.0 ≤ q.1 + added_whole (op_of c) result) (λ k. (sym (none_weigh new free_new) k, sym (none_weigh old free) k)) r.weighs in
       let none = quiet_shows old.states free in
@@ -290,13 +297,27 @@ module _ (first : Index) (quiet : IsQuiet first) (index : IsIndex first) where
         index = subst IsIndex (sym e) (respare old new.spare before.index);
         sum = subst (λ (v : Index). weight_sum (world v) ≤ bound first calls v) (sym e) before.sum;
       }
+  weighs (begins_recheck {calls = calls} {old = old} {new = new} {party = party} {node = node} {version = version} run idle t is) =
+      let before = weighs run in
+      let sum = before.sum in
+      let r : Option Rechecking = Some (record { since = length old.history; machine = Dating (view_of old party) node version }) in
+      let same : weight_sum (world new) ≡ weight_sum (world old) = ap (λ (v : Index). weight_sum (world v)) t.is ∙ sym (ap (λ (z : Layered). weight_sum z.whole.world) (unchecked_layered old party t.state r t.there)) in
+      let shown : showing_sum new.states ≡ showing_sum old.states = ap (λ (v : Index). showing_sum v.states) t.is ∙ turned_shows old.states party t.state t.state.turn r t.there in
+      record { index = is; sum = omega arith }
+  weighs (steps_recheck {calls = calls} {old = old} {new = new} {party = party} run t is) =
+      let before = weighs run in
+      let sum = before.sum in
+      let r : Option Rechecking = recheck_after t.rechecking.since (recheck_turned t.rechecking.machine (recheck_told old t.rechecking.machine)) in
+      let same : weight_sum (world new) ≡ weight_sum (world old) = ap (λ (v : Index). weight_sum (world v)) t.is ∙ sym (ap (λ (z : Layered). weight_sum z.whole.world) (unchecked_layered old party t.state r t.there)) in
+      let shown : showing_sum new.states ≡ showing_sum old.states = ap (λ (v : Index). showing_sum v.states) t.is ∙ turned_shows old.states party t.state t.state.turn r t.there in
+      record { index = is; sum = omega arith }
   weighs (begins_turn {calls = calls} {old = old} {new = new} {party = party} {stamp = stamp} {release = release} run idle t is) =
       let before = weighs run in
       let sum = before.sum in
       let turn = Some (making_from old.layout old.generation stamp release) in
       let same : weight_sum (world new) ≡ weight_sum (world old) =
       ap (λ (v : Index). weight_sum (world v)) t.is ∙ ap (λ (ps : List Party). weight_sum (record (world old) { parties = ps })) (parties_same old party t.state turn t.there) in
-      let shown : showing_sum new.states ≡ showing_sum old.states = ap (λ (v : Index). showing_sum v.states) t.is ∙ turned_shows old.states party t.state turn t.there in
+      let shown : showing_sum new.states ≡ showing_sum old.states = ap (λ (v : Index). showing_sum v.states) t.is ∙ turned_shows old.states party t.state turn t.state.recheck t.there in
       record { index = is; sum = omega arith }
   weighs (steps_turn {calls = calls} {old = old} {new = new} {party = party} run t is) =
       let before = weighs run in
@@ -304,7 +325,7 @@ module _ (first : Index) (quiet : IsQuiet first) (index : IsIndex first) where
       let law = turns_keep old party t.state t.making before.index t.there t.turns in
       let less : weight_sum (world new) ≤ weight_sum (world old) = subst (λ (v : Index). weight_sum (world v) ≤ weight_sum (world old)) (sym t.is) law.weighs in
       let shown : showing_sum new.states ≡ showing_sum old.states =
-      ap (λ (v : Index). showing_sum v.states) t.is ∙ turned_shows old.states party t.state (turn_after (making_turned t.making (turn_told old t.making))) t.there in
+      ap (λ (v : Index). showing_sum v.states) t.is ∙ turned_shows old.states party t.state (turn_after (making_turned t.making (turn_told old t.making))) t.state.recheck t.there in
       record { index = is; sum = omega arith }
   weighs (turns_alone {calls = calls} {old = old} {new = new} run still t is) =
       let before = weighs run in

@@ -17,8 +17,8 @@ use Rattle.node_ops.specs.LookupSteps.{starts}
 use Rattle.index_core.specs.declared.party.CoreCall.{CoreCall}
 use Rattle.index_core.specs.declared.party.CoreCall.TheVariants as call
 
--- A turn of the updater is no call on a name, and no call begins as a recheck yet (`MayBegin`). So what stands for these
--- in the functions below, a get of no name, says nothing.
+-- A recheck and a turn of the updater are no calls on a name (`MayBegin`). So what stands for these in the functions
+-- below, a get of no name, says nothing.
 
 -- What the call asks. A part of a scan asks what its low name has, and lists besides.
 abbrev pub op_of : CoreCall → NameOp
@@ -83,9 +83,29 @@ IfTurn (call.Part low count) P = Unit {0}
 IfTurn (call.Recheck node version) P = Unit {0}
 IfTurn (call.Turn stamp release) P = P stamp release
 
--- What this party may start: a caller any call on a name, and each party, also the updater's, a turn that gives a stamp.
+-- The same of a recheck, by its node and version.
+abbrev pub IsRecheckAnd : CoreCall → (ℕ → ℕ → Type 0) → Type 0
+IsRecheckAnd (call.Put name value limit) P = ⊥
+IsRecheckAnd (call.Get name) P = ⊥
+IsRecheckAnd (call.Del name limit) P = ⊥
+IsRecheckAnd (call.Part low count) P = ⊥
+IsRecheckAnd (call.Recheck node version) P = P node version
+IsRecheckAnd (call.Turn stamp release) P = ⊥
+
+abbrev pub IfRecheck : CoreCall → (ℕ → ℕ → Type 0) → Type 0
+IfRecheck (call.Put name value limit) P = Unit {0}
+IfRecheck (call.Get name) P = Unit {0}
+IfRecheck (call.Del name limit) P = Unit {0}
+IfRecheck (call.Part low count) P = Unit {0}
+IfRecheck (call.Recheck node version) P = P node version
+IfRecheck (call.Turn stamp release) P = Unit {0}
+
+-- What this party may start: a caller any call on a name and a recheck of any node, and each party, also the updater's, a
+-- turn that gives a stamp.
 abbrev pub MayStart : Layout → ℕ → CoreCall → Type 0
-MayStart l party c = ((party < l.callers) × MayBegin c) ⊎ IsTurnAnd c (λ stamp release. (party ≤ l.callers) × (1 ≤ stamp))
+MayStart l party c = ((party < l.callers) × MayBegin c) ⊎
+    (IsTurnAnd c (λ stamp release. (party ≤ l.callers) × (1 ≤ stamp)) ⊎
+    IsRecheckAnd c (λ node version. (party < l.callers) × (node < l.nodes)))
 
 -- The machine that makes the call, before its first action.
 abbrev pub machine_of : View → CoreCall → Running

@@ -18,11 +18,14 @@ use Rattle.cat_history.specs.Records.{change_of}
 use Rattle.node_ops.specs.Asked.{op_in}
 use Rattle.node_ops.specs.RunningSteps.{IsRunning, running_call, count_in}
 use Rattle.node_ops.specs.CallStages.{stage_of}
+use Rattle.node_ops.specs.declared.recheck.Recheck.{Recheck}
+use Rattle.node_ops.specs.RecheckSteps.{recheck_node, recheck_version}
 use Rattle.updater.specs.declared.making.MakeTurn.{MakeTurn}
 use Rattle.updater.specs.Makings.{making_terms}
 use Rattle.index_core.specs.declared.party.CoreCall.{CoreCall}
 use Rattle.index_core.specs.declared.party.CoreCall.TheVariants as call
 use Rattle.index_core.specs.declared.party.PartyState.{PartyState}
+use Rattle.index_core.specs.declared.party.Rechecking.{Rechecking}
 use Rattle.index_core.specs.declared.crash.CutCall.{CutCall}
 use Rattle.index_core.specs.Indexes.{Index, map_of_index, world}
 use Rattle.index_core.specs.Weights.{crash_weight}
@@ -56,20 +59,28 @@ call_in machine = call_with (op_in machine) (limit_or_most (running_call machine
 abbrev pub turn_in : MakeTurn → CoreCall
 turn_in making = call.Turn (making_terms making).stamp (making_terms making).release
 
--- The turn of a party that a crash cuts off, if it makes one. A turn places no write.
-abbrev pub cut_turn : ℕ → Option MakeTurn → Option CutCall
-cut_turn party None = None
-cut_turn party (Some making) = Some (record { party = party; call = turn_in making; place = None })
+-- The recheck that a party makes, as a call.
+abbrev pub recheck_in : Recheck → CoreCall
+recheck_in recheck = call.Recheck (recheck_node recheck) (recheck_version recheck)
 
--- The call of a party that a crash cuts off, if one is in flight: one on a name, or a turn.
-abbrev pub cut_call : ℕ → Option Running → Option MakeTurn → Option CutCall
-cut_call party None turn = cut_turn party turn
-cut_call party (Some machine) turn =
+-- The recheck of a party that a crash cuts off, if it makes one, or else its turn. Neither places a write.
+abbrev pub cut_recheck : ℕ → Option Rechecking → Option CutCall
+cut_recheck party None = None
+cut_recheck party (Some r) = Some (record { party = party; call = recheck_in r.machine; place = None })
+
+abbrev pub cut_turn : ℕ → Option MakeTurn → Option Rechecking → Option CutCall
+cut_turn party None recheck = cut_recheck party recheck
+cut_turn party (Some making) recheck = Some (record { party = party; call = turn_in making; place = None })
+
+-- The call of a party that a crash cuts off, if one is in flight: one on a name, a turn, or a recheck.
+abbrev pub cut_call : ℕ → Option Running → Option MakeTurn → Option Rechecking → Option CutCall
+cut_call party None turn recheck = cut_turn party turn recheck
+cut_call party (Some machine) turn recheck =
     Some (record { party = party; call = call_in machine; place = placed_in (stage_of machine) })
 
 abbrev pub cut_of : Option PartyState → Option CutCall
 cut_of None = None
-cut_of (Some state) = cut_call state.caller state.machine state.turn
+cut_of (Some state) = cut_call state.caller state.machine state.turn state.recheck
 
 -- The call of the party at this place that a crash cuts off.
 abbrev pub cut_at : List PartyState → ℕ → Option CutCall

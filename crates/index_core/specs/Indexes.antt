@@ -37,13 +37,14 @@ use Rattle.index_layer_law.specs.Layers.{Layered, IsLayered}
 use Rattle.updater.specs.declared.making.MakeTurn.{MakeTurn}
 use Rattle.index_core.specs.declared.party.CoreCall.{CoreCall}
 use Rattle.index_core.specs.declared.party.PartyState.{PartyState}
+use Rattle.index_core.specs.declared.party.Rechecking.{Rechecking}
 use Rattle.index_core.specs.declared.party.Stepped.{Stepped}
 use Rattle.index_core.specs.Answers.{SaysOf}
 use Rattle.index_core.specs.Heard.{HearsOn}
 use Rattle.index_core.specs.CoreCalls.{machine_of, op_of}
 use Rattle.index_core.specs.Listings.{ListsAt}
 use Rattle.index_core.specs.PartyStates.{machine_footing, turning_of, party_of, state_with, state_after, stepped_of, owed}
-use Rattle.index_core.specs.PartyStates.{answered_by, IsPartyState}
+use Rattle.index_core.specs.PartyStates.{answered_by, AreRechecksOf, IsPartyState}
 
 pub record Index : Type 0 where
   pub layout : Layout
@@ -123,6 +124,7 @@ pub record IsIndex (s : Index) : Type 0 where
   pub ordered : AreOrdered s.states s.history
   pub bounded : IsBounded (parties_of s.layout) s.states s.history
   pub named : (place : ℕ) → HasNames (after (map_of s.base) s.history place)  -- the map at each place, too
+  pub rechecks : AreRechecksOf s.layout s.generation s.history s.states
 
 -- The party's call, and the party that makes it.
 pub record IsInFlight (s : Index) (party : ℕ) : Type 0 where
@@ -138,9 +140,16 @@ pub record IsTurning (s : Index) (party : ℕ) : Type 0 where
   pub there : get_elem? s.states party ≡ some state
   pub turns : state.turn ≡ Some making
 
+-- The recheck that the party makes, and the party that makes it.
+pub record IsRechecking (s : Index) (party : ℕ) : Type 0 where
+  pub state : PartyState
+  pub rechecking : Rechecking
+  pub there : get_elem? s.states party ≡ some state
+  pub checks : state.recheck ≡ Some rechecking
+
 -- The party's last call isn't answered.
 abbrev pub IsBusy : Index → ℕ → Type 0
-IsBusy s party = IsInFlight s party ⊎ IsTurning s party
+IsBusy s party = IsInFlight s party ⊎ (IsTurning s party ⊎ IsRechecking s party)
 
 abbrev pub view_of : Index → ℕ → View
 view_of s party = record { layout = s.layout; generation = s.generation; caller = party }

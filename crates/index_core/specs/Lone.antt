@@ -41,21 +41,36 @@ use Rattle.index_core.specs.declared.party.CoreCall.TheVariants as call
 use Rattle.index_core.specs.declared.party.PartyState.{PartyState}
 use Rattle.index_core.specs.declared.party.Whole.{Whole}
 use Rattle.index_core.specs.declared.party.Whole.TheVariants as whole
-use Rattle.index_core.specs.CoreCalls.{op_of, limit_of, count_of}
+use Rattle.index_core.specs.CoreCalls.{IsRecheckAnd, IsTurnAnd, MayBegin, op_of, limit_of, count_of}
 use Rattle.index_core.specs.Listings.{ListsRange}
 use Rattle.index_core.specs.PartyStates.{party_of, next_index, index_after, state_counted}
 use Rattle.index_core.specs.Indexes.{Index, IsIndex, map_of_index, world}
 use Rattle.index_core.specs.Turns.{TurnsAlone}
 use Rattle.index_core.specs.Weights.{weight_of, added_by, added_whole}
 
--- No call is in flight.
+-- No call on a name is in flight.
 abbrev pub HasNoCalls : Index → Type 0
 HasNoCalls s = (i : ℕ) (state : PartyState) → get_elem? s.states i ≡ some state → state.machine ≡ None
 
--- No call is in flight, and no turn of the updater.
+-- Nor is a turn of the updater; nor a recheck.
+abbrev pub HasNoTurns : Index → Type 0
+HasNoTurns s = (i : ℕ) (state : PartyState) → get_elem? s.states i ≡ some state → state.turn ≡ None
+
+abbrev pub HasNoRechecks : Index → Type 0
+HasNoRechecks s = (i : ℕ) (state : PartyState) → get_elem? s.states i ≡ some state → state.recheck ≡ None
+
+-- Nothing is in flight: no call on a name, no turn of the updater, and no recheck.
 pub record IsQuiet (s : Index) : Type 0 where
   pub calls : HasNoCalls s
-  pub turns : (i : ℕ) (state : PartyState) → get_elem? s.states i ≡ some state → state.turn ≡ None
+  pub turns : HasNoTurns s
+  pub rechecks : HasNoRechecks s
+
+-- What a party may call with nothing else in flight: what it may start, and of rechecks those that find the version word.
+abbrev pub MayRunAlone : Index → ℕ → CoreCall → Type 0
+MayRunAlone s party c = ((party < s.layout.callers) × MayBegin c) ⊎
+    (IsTurnAnd c (λ stamp release. (party ≤ s.layout.callers) × (1 ≤ stamp)) ⊎
+    IsRecheckAnd c (λ node version. (party < s.layout.callers) × (node < s.layout.nodes) ×
+    (version_in s.layout s.words node ≡ version)))
 
 -- The turn has the updater lock, which it takes by its first event.
 abbrev pub HoldsLock : Option MakeTurn → Type 0
@@ -69,6 +84,7 @@ pub record IsStill (party : ℕ) (s : Index) : Type 0 where
   pub calls : HasNoCalls s
   pub turns : (i : ℕ) (state : PartyState) → get_elem? s.states i ≡ some state →
       (state.turn ≡ None) ⊎ ((i ≢ party) × HoldsLock state.turn)
+  pub rechecks : HasNoRechecks s
 
 -- How many more times its nodes can be locked in this run of the index: the fewest of any node. Each try of a call takes
 -- one of each node at most.
@@ -236,8 +252,9 @@ pub record LandsIn (s : Index) (caller : ℕ) (c : CoreCall) (new : Index) (plac
   pub hops : WalksBy last.layout last.words (name_asked (op_of c)) placed.hops
 
 -- The answer by its cause, of a call on a name that is tried so many times at most: of these five, exactly one holds
--- where as many locks are left of each node. None is answered as a turn of the updater is.
+-- where as many locks are left of each node. None is answered as a recheck or a turn of the updater is.
 abbrev pub IsWholeAnswer : ℕ → Index → ℕ → CoreCall → Index → Whole → Type 0
+IsWholeAnswer tries s caller c new (whole.Same place) = ⊥
 IsWholeAnswer tries s caller c new (whole.Turned turned) = ⊥
 IsWholeAnswer tries s caller c new (whole.Worn node word) = IsWornNode tries s caller c new node word
 IsWholeAnswer tries s caller c new (whole.Spent clock) =
@@ -271,6 +288,7 @@ LeavesList c (whole.Part words) s new = HasSameList s new
 LeavesList c (whole.Spent clock) s new = HasSameList s new
 LeavesList c whole.Full s new = HasSameList s new
 LeavesList c (whole.Worn node word) s new = Unit {0}
+LeavesList c (whole.Same place) s new = ⊥
 LeavesList c (whole.Turned turned) s new = ⊥
 
 -- How many nodes are listed or GONE. With nothing in flight the others are FREE.

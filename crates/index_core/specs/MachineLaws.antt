@@ -36,7 +36,7 @@ use Rattle.index_core.specs.Listings.{ListsAt}
 use Rattle.index_core.specs.CoreCalls.{machine_of}
 use Rattle.index_core.specs.Indexes.{Index, IsIndex, MakesCall, view_of, started_index, stepped_index, told, world}
 use Rattle.index_core.specs.Indexes.{FreesNone, parties_of}
-use Rattle.index_core.specs.Lone.{IsQuiet}
+use Rattle.index_core.specs.Lone.{HasNoCalls, HasNoTurns}
 
 -- A machine is sound, and its next action names a place that an action may name, whatever the words are.
 pub record IsReady (l : Layout) (g : ℕ) (m : Running) : Type 0 where
@@ -148,16 +148,17 @@ pub record AreIdle (states : List PartyState) (n : ℕ) : Type 0 where
   pub numbers : (i : ℕ) (e : PartyState) → get_elem? states i ≡ some e → e.caller ≡ i
   pub idle : (i : ℕ) (e : PartyState) → get_elem? states i ≡ some e → e.machine ≡ None
   pub resting : (i : ℕ) (e : PartyState) → get_elem? states i ≡ some e → e.turn ≡ None
+  pub unchecked : (i : ℕ) (e : PartyState) → get_elem? states i ≡ some e → e.recheck ≡ None
   pub begun : (i : ℕ) (e : PartyState) → get_elem? states i ≡ some e → e.since ≡ 0
 
--- An index with no call in flight is one with any such parties.
+-- An index with no call on a name in flight, and no turn, is one with any such parties.
 abbrev pub IdleKeep : Type 0
-IdleKeep = (s : Index) (states : List PartyState) → IsIndex s → IsQuiet s → AreIdle states (parties_of s.layout) →
-    IsIndex (record s { states = states })
+IdleKeep = (s : Index) (states : List PartyState) → IsIndex s → HasNoCalls s → HasNoTurns s →
+    AreIdle states (parties_of s.layout) → IsIndex (record s { states = states })
 
 -- Where no call is in flight, the sum is the weight.
 abbrev pub IdleWeigh : Type 0
-IdleWeigh = (s : Index) → IsQuiet s → weight_sum (world s) ≡ weight_of s
+IdleWeigh = (s : Index) → HasNoCalls s → weight_sum (world s) ≡ weight_of s
 
 -- The place of a call's write, if it has one, by its turn: only a write that took place is answered one.
 abbrev pub place_told : Option Change → Once Placed → Option ℕ

@@ -1,6 +1,9 @@
 -- The parties of the core, each with its call in flight.
 use Rattle.std.specs.Prelude.{◌≡◌, ℕ, zero, suc, ◌+◌, ◌-◌, ◌<◌, ◌^◌, ◌||◌, Bool, is_some, min, List, [], ◌∷◌, ◌++◌}
 use Rattle.std.specs.Prelude.{Option, Some, None, IfSome}
+use mathlib.Core.Option.{some}
+use lib.ListN.{get_elem?}
+use Rattle.cat_history.specs.declared.op.Write.{Write}
 use Rattle.pm_words.specs.declared.again.Again.TheVariants as again
 use Rattle.pm_words.specs.declared.layout.Layout.{Layout}
 use Rattle.pm_words.specs.declared.machine.Turn.{Turn}
@@ -21,11 +24,15 @@ use Rattle.node_ops.specs.declared.del.Del.{Del}
 use Rattle.node_ops.specs.declared.del.Del.TheVariants as del
 use Rattle.node_ops.specs.declared.single_del.SingleDel.TheVariants as single_del
 use Rattle.node_ops.specs.declared.part.PartWords.{PartWords}
+use Rattle.node_ops.specs.declared.recheck.Recheck.{Recheck}
+use Rattle.node_ops.specs.declared.recheck.Same.{Same}
 use Rattle.node_ops.specs.declared.running.Running.{Running}
 use Rattle.node_ops.specs.declared.running.Running.TheVariants.{Getting, Putting, Deleting, Parting}
 use Rattle.node_ops.specs.CallStages.{stage_of, footing_of}
 use Rattle.node_ops.specs.PartSteps.{early_of, placed_of}
 use Rattle.node_ops.specs.RunningSteps.{Sound, running_call, count_in, listed_in}
+use Rattle.node_ops.specs.RecheckSteps.{IsRecheck, recheck_view}
+use Rattle.node_ops.specs.Rechecks.{RecheckSure}
 use Rattle.node_ops.specs.Asked.{IsOf, op_in}
 use Rattle.updater_row_law.specs.RowStages.{Resting}
 use Rattle.updater_row_law.specs.Turnings.{Turning}
@@ -34,6 +41,7 @@ use Rattle.updater.specs.declared.making.TurnReply.{TurnReply}
 use Rattle.updater.specs.Makings.{IsMaking, making_terms, making_turning}
 use Rattle.index_law.specs.Worlds.{Party}
 use Rattle.index_core.specs.declared.party.PartyState.{PartyState}
+use Rattle.index_core.specs.declared.party.Rechecking.{Rechecking}
 use Rattle.index_core.specs.declared.party.CoreReply.{CoreReply}
 use Rattle.index_core.specs.declared.party.CoreReply.TheVariants as reply
 use Rattle.index_core.specs.declared.party.Stepped.{Stepped}
@@ -60,11 +68,11 @@ party_of state = record {
 
 -- It has made no call.
 abbrev pub idle_state : ℕ → PartyState
-idle_state caller = record { caller = caller; index = 0; since = 0; machine = None; turn = None }
+idle_state caller = record { caller = caller; index = 0; since = 0; machine = None; turn = None; recheck = None }
 
 -- Its last call isn't answered.
 abbrev pub is_busy : PartyState → Bool
-is_busy state = is_some state.machine || is_some state.turn
+is_busy state = (is_some state.machine || is_some state.turn) || is_some state.recheck
 
 -- So many of them, each at the place of its number.
 abbrev pub idle_states : ℕ → List PartyState
@@ -118,10 +126,11 @@ stepped_of machine (Go next) = Going
 stepped_of machine (Done answer) = Answered (reply_with (count_in machine) (listed_in machine) answer)
 
 -- What the try of a call on a name was answered, which of a part is the answer of a get of its low name. No such call is
--- answered as a turn of the updater is (`stepped_of`), so what stands for that says nothing.
+-- answered as a recheck or a turn of the updater is (`stepped_of`), so what stands for those says nothing.
 abbrev pub answer_in : CoreReply → Once Placed
 answer_in (reply.Placed answer) = answer
 answer_in (reply.Part answer) = placed_of answer
+answer_in (reply.Same answer) = once.Again again.LogFull
 answer_in (reply.Turn turned) = once.Again again.LogFull
 
 -- What a part listed, if it took place.
@@ -134,6 +143,7 @@ words_told (once.Again why) = None
 abbrev pub listed_by : CoreReply → Option PartWords
 listed_by (reply.Placed answer) = None
 listed_by (reply.Part answer) = words_told answer
+listed_by (reply.Same answer) = None
 listed_by (reply.Turn turned) = None
 
 -- What a step's call is answered, if it is.
@@ -195,6 +205,36 @@ turn_stepped (Some turned) = Answered (reply.Turn turned)
 
 abbrev pub state_turned : PartyState → Turn MakeTurn TurnReply → PartyState
 state_turned state turn = record state { turn = turn_after turn }
+
+-- The recheck in flight after a turn of its machine, which began as the history was so long, and its answer, if that ends
+-- it.
+abbrev pub recheck_after : ℕ → Turn Recheck (Once Same) → Option Rechecking
+recheck_after since (Go recheck) = Some (record { since = since; machine = recheck })
+recheck_after since (Done answer) = None
+
+abbrev pub recheck_reply : Turn Recheck (Once Same) → Option (Once Same)
+recheck_reply (Go recheck) = None
+recheck_reply (Done answer) = Some answer
+
+-- What a step of a recheck comes to, by what answers it, if that ends it.
+abbrev pub recheck_stepped : Option (Once Same) → Stepped
+recheck_stepped None = Going
+recheck_stepped (Some answer) = Answered (reply.Same answer)
+
+abbrev pub state_rechecked : PartyState → ℕ → Turn Recheck (Once Same) → PartyState
+state_rechecked state since turn = record state { recheck = recheck_after since turn }
+
+-- The recheck is one of this index, and relies on no more than the history has.
+pub record IsRecheckingOf (l : Layout) (g : ℕ) (history : List Write) (r : Rechecking) : Type 0 where
+  pub sound : IsRecheck r.machine
+  pub layout : (recheck_view r.machine).layout ≡ l
+  pub generation : (recheck_view r.machine).generation ≡ g
+  pub sure : RecheckSure r.since history r.machine
+
+-- So is each party's, if it has one.
+abbrev pub AreRechecksOf : Layout → ℕ → List Write → List PartyState → Type 0
+AreRechecksOf l g history states = (i : ℕ) (state : PartyState) → get_elem? states i ≡ some state →
+    IfSome state.recheck (IsRecheckingOf l g history)
 
 -- The turn is one of this index.
 pub record IsTurnOf (l : Layout) (g : ℕ) (making : MakeTurn) : Type 0 where

@@ -19,6 +19,7 @@ use Rattle.call_stages.specs.declared.once.Once.TheVariants as once
 use Rattle.call_stages.specs.declared.once.Placed.{Placed}
 use Rattle.call_stages.specs.Stages.{placed_in}
 use Rattle.node_ops.specs.declared.part.PartWords.{PartWords}
+use Rattle.node_ops.specs.declared.recheck.Same.{Same}
 use Rattle.node_ops.specs.declared.running.Running.{Running}
 use Rattle.node_ops.specs.Asked.{op_in, name_asked}
 use Rattle.node_ops.specs.RunningSteps.{running_call, count_in}
@@ -39,6 +40,7 @@ use Rattle.index_core.specs.Indexes.{Index, IsBusy, IsInFlight, IsIndex, Starts,
 use Rattle.index_core.specs.Crashes.{evicted_index}
 use Rattle.updater.specs.declared.making.TurnReply.{TurnReply}
 use Rattle.updater.specs.declared.terms.Turned.{Turned}
+use Rattle.index_core.specs.Rechecks.{RecheckSteps, StartsRecheck}
 use Rattle.index_core.specs.Turns.{StartsTurn, TurnSteps, TurnsAlone}
 use Rattle.index_core.specs.Lone.{HasNoCalls, IsQuiet, RunsAlone}
 
@@ -84,10 +86,11 @@ flying_call state machine =
     }
 
 -- What a whole call on a name that was alone is answered, as one try of it is: only a full node turns it back. None is
--- answered as a turn of the updater is (`IsWholeAnswer`).
+-- answered as a recheck or a turn of the updater is (`IsWholeAnswer`).
 abbrev pub once_of : Whole → Once Placed
 once_of (whole.Placed placed) = once.Done placed
 once_of (whole.Part words) = once.Done (words_placed words)
+once_of (whole.Same place) = once.Again again.LogFull
 once_of (whole.Turned turned) = once.Again again.LogFull
 once_of whole.Full = once.Again again.NoFree
 once_of (whole.Spent clock) = once.Spent clock
@@ -97,6 +100,7 @@ once_of (whole.Worn node word) = once.Worn node word
 abbrev pub listed_of : Whole → Option PartWords
 listed_of (whole.Placed placed) = None
 listed_of (whole.Part words) = Some words
+listed_of (whole.Same place) = None
 listed_of (whole.Turned turned) = None
 listed_of whole.Full = None
 listed_of (whole.Spent clock) = None
@@ -144,6 +148,13 @@ pub data Runs (first : Index) : List BegunCall → List AnsweredCall → Index �
       word < image_words old.layout → new ≡ evicted_index old word → IsIndex new → Runs first begun calls new
   reserves : {begun : List BegunCall} {calls : List AnsweredCall} {old new : Index} → Runs first begun calls old →
       new ≡ record old { spare = new.spare } → Runs first begun calls new
+  -- and rechecks, which aren't counted: they change no word and place no write
+  begins_recheck : {begun : List BegunCall} {calls : List AnsweredCall} {old new : Index} {party node version : ℕ} →
+      Runs first begun calls old → (IsBusy old party → ⊥) → StartsRecheck old party node version new → IsIndex new →
+      Runs first begun calls new
+  steps_recheck : {begun : List BegunCall} {calls : List AnsweredCall} {old new : Index} {party : ℕ}
+      {result : Option (Once Same)} → Runs first begun calls old → RecheckSteps old party new result → IsIndex new →
+      Runs first begun calls new
   -- and turns of the updater, step by step or alone
   begins_turn : {begun : List BegunCall} {calls : List AnsweredCall} {old new : Index} {party stamp release : ℕ} →
       Runs first begun calls old → (IsBusy old party → ⊥) → StartsTurn old party stamp release new → IsIndex new →

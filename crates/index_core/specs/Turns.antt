@@ -152,6 +152,7 @@ pub record TurnsAlone (old : Index) (stamp release : ℕ) (answer : Turned) (new
 abbrev pub IsTurnedAnd : Whole → (Turned → Type 0) → Type 0
 IsTurnedAnd (whole.Placed placed) P = ⊥
 IsTurnedAnd (whole.Part words) P = ⊥
+IsTurnedAnd (whole.Same place) P = ⊥
 IsTurnedAnd (whole.Turned turned) P = P turned
 IsTurnedAnd whole.Full P = ⊥
 IsTurnedAnd (whole.Spent clock) P = ⊥

@@ -2,9 +2,9 @@
 
 ghost use Rattle.std.specs.Prelude.{◌≡◌};
 
-use crate::party::{CoreCall, PartyState};
+use crate::party::{CoreCall, PartyState, Rechecking};
 use cat_history::NameOp;
-use node_ops::Running;
+use node_ops::{Recheck, Running};
 use pm_words::{Image, MOST_WRITES};
 use std::marker::Model;
 use updater::MakeTurn;
@@ -60,7 +60,7 @@ impl Cuts {
     {
         let state = self.states.get(party as usize)?;
         if !state.machine.flies() {
-            return cut_turn(state.caller, &state.turn);
+            return cut_turn(state.caller, &state.turn, state.recheck);
         }
         let machine = state.machine.running();
         Some(CutCall {
@@ -73,7 +73,7 @@ impl Cuts {
 
 impl CoreCall {
     ghost use Rattle.node_ops.specs.RunningSteps.{IsRunning};
-    ghost use Rattle.index_core.specs.Crashes.{call_in, turn_in};
+    ghost use Rattle.index_core.specs.Crashes.{call_in, recheck_in, turn_in};
 
     /// The call that a machine makes.
     pub(crate) fn of(machine: &Running) -> CoreCall
@@ -91,6 +91,15 @@ impl CoreCall {
         }
     }
 
+    /// The call that a recheck is.
+    fn of_recheck(recheck: Recheck) -> CoreCall
+        ensures { result ≡ recheck_in recheck }
+    {
+        let (Recheck::Dating { node, version, .. } | Recheck::Checking { node, version, .. }) =
+            recheck;
+        CoreCall::Recheck { node, version }
+    }
+
     /// The call that a turn of the updater is.
     fn of_turn(making: &MakeTurn) -> CoreCall
         ensures { result ≡ turn_in making.now }
@@ -106,17 +115,31 @@ impl CoreCall {
     }
 }
 
-ghost use Rattle.index_core.specs.Crashes.{cut_turn};
+ghost use Rattle.index_core.specs.Crashes.{cut_recheck, cut_turn};
 
-/// The turn of this party that was cut off, if it made one.
-fn cut_turn(party: u64, turn: &Option<MakeTurn>) -> Option<CutCall>
-    ensures { result ≡ cut_turn party turn.now }
+/// The turn of this party that was cut off, if it made one, or else its recheck.
+fn cut_turn(party: u64, turn: &Option<MakeTurn>, recheck: Option<Rechecking>) -> Option<CutCall>
+    ensures { result ≡ cut_turn party turn.now recheck }
 {
     match turn {
-        None => None,
+        None => cut_recheck(party, recheck),
         Some(making) => Some(CutCall {
             party,
             call: CoreCall::of_turn(making),
+            place: None,
+        }),
+    }
+}
+
+/// The recheck of this party that was cut off, if it made one.
+fn cut_recheck(party: u64, recheck: Option<Rechecking>) -> Option<CutCall>
+    ensures { result ≡ cut_recheck party recheck }
+{
+    match recheck {
+        None => None,
+        Some(rechecking) => Some(CutCall {
+            party,
+            call: CoreCall::of_recheck(rechecking.machine),
             place: None,
         }),
     }

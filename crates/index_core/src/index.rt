@@ -2,8 +2,9 @@ ghost use Rattle.std.specs.Prelude.{◌≡◌, ℕ, ◌+◌, ◌-◌, ◌<◌, �
 ghost use Rattle.std.specs.Prelude.{IsErr, IsTrue, IfSome, vec_len, vec_capacity, Some, None};
 ghost use Rattle.pm_words.specs.Layouts.{IsLayout};
 ghost use Rattle.index_law.specs.Worlds.{written};
-ghost use Rattle.index_core.specs.CoreCalls.{IfTurn, MayBegin, MayStart, most_writes};
-ghost use Rattle.index_core.specs.Indexes.{IsBusy, IsInFlight, IsIndex, KeepsRoom, Starts, StepsTo, TurnsTo};
+ghost use Rattle.index_core.specs.CoreCalls.{IfRecheck, IfTurn, MayBegin, MayStart, most_writes};
+ghost use Rattle.index_core.specs.Indexes.{IsBusy, IsInFlight, IsIndex, IsTurning, KeepsRoom, Starts, StepsTo, TurnsTo};
+ghost use Rattle.index_core.specs.Rechecks.{RecheckStepsTo, StartsRecheck};
 ghost use Rattle.index_core.specs.Indexes.{parties_of};
 ghost use Rattle.index_core.specs.Turns.{StartsTurn, TurnStepsTo};
 ghost use Rattle.index_core.specs.declared.party.Stepped.TheVariants.{Going};
@@ -143,6 +144,8 @@ impl Core {
         ensures started { OnOk result (MayBegin call → Starts self.old party call self.new) }
         ensures turns { OnOk result (IfTurn call
             (λ stamp release. StartsTurn self.old party stamp release self.new)) }
+        ensures rechecks { OnOk result (IfRecheck call
+            (λ node version. StartsRecheck self.old party node version self.new)) }
         ensures flies { OnOk result (IsBusy self.new party) }
         ensures spare { OnOk result (self.new.spare + most_writes call ≡ self.old.spare) }
         ensures before { IsIndex self.old }
@@ -150,6 +153,7 @@ impl Core {
     {
         match call {
             CoreCall::Turn { stamp, release } => self.start_turn(party, stamp, release),
+            CoreCall::Recheck { node, version } => self.start_recheck(party, node, version),
             _ => self.start_name(party, call),
         }
     }
@@ -158,12 +162,16 @@ impl Core {
     /// Returns whether the call goes on or is answered. A call that took place is answered with the number of its name
     /// in the map at its place, which lies in the call's time, and its write stands in the history there. A part of a
     /// scan that took place lists the names that the map at its place has up to where its node ends. A turn of the
-    /// updater leaves the map, the history and the list. Any other call is told its cause, and a put or delete gives the
-    /// room for its write back to `spare`.
+    /// updater leaves the map, the history and the list. A recheck changes nothing, and is answered `Same` exactly where
+    /// the node's version word, loaded after the clock, is the one that was handed in. Any other call is told its cause,
+    /// and a put or delete gives the room for its write back to `spare`.
     pub fn step<L: Ledger>(&mut self, party: u64, steps: &mut Steps<L>) -> Stepped
         requires flies { IsBusy self.old party }
         ensures stepped { IsInFlight self.old party → StepsTo self.old party self.new result }
-        ensures turned { (IsInFlight self.old party → ⊥) → TurnStepsTo self.old party self.new result }
+        ensures turned { (IsInFlight self.old party → ⊥) → IsTurning self.old party →
+            TurnStepsTo self.old party self.new result }
+        ensures rechecked { (IsInFlight self.old party → ⊥) → (IsTurning self.old party → ⊥) →
+            RecheckStepsTo self.old party self.new result }
         ensures flies { result ≡ Going → IsBusy self.new party }
         ensures spare { KeepsRoom self.old self.new }
         ensures tick { steps.new ≡ steps.old + 1 }
@@ -172,9 +180,15 @@ impl Core {
         if self.flies(party) {
             return self.step_name(party, steps);
         }
-        match self.step_turn(party, steps) {
+        if self.turns(party) {
+            return match self.step_turn(party, steps) {
+                None => Stepped::Going,
+                Some(turned) => Stepped::Answered(CoreReply::Turn(turned)),
+            };
+        }
+        match self.step_recheck(party, steps) {
             None => Stepped::Going,
-            Some(turned) => Stepped::Answered(CoreReply::Turn(turned)),
+            Some(answer) => Stepped::Answered(CoreReply::Same(answer)),
         }
     }
 
@@ -192,6 +206,14 @@ impl Core {
         ensures { IsTrue result ↔ IsInFlight self.now party }
     {
         self.states[party as usize].machine.flies()
+    }
+
+    /// Whether the party makes a turn of the updater.
+    fn turns(&self, party: u64) -> bool
+        requires { IsBusy self.now party }
+        ensures { IsTrue result ↔ IsTurning self.now party }
+    {
+        self.states[party as usize].turn.is_some()
     }
 
     /// Begins a call of a caller on a name, as `start` does.

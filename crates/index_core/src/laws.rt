@@ -16,9 +16,10 @@ ghost use Rattle.index_core.specs.Withins.{CutLeavesOne, CutTurnLeavesNone};
 /// All that a schedule answers is one legal history.
 ///
 /// A schedule begins with an index in which no call is in flight and nothing is written yet, as of an image that was
-/// just opened, or one whose next round begins. It starts calls and turns of the updater, steps them in any order, makes
-/// whole calls while no other call is in flight, and whole turns while nothing else is, evicts words and makes room, as
-/// long as it likes. Fewer than 2^64 calls are begun, with those of a caller that counted before.
+/// just opened, or one whose next round begins. It starts calls, rechecks and turns of the updater, steps them in any
+/// order, makes whole calls while no other call is in flight, and whole turns while nothing else is, evicts words and
+/// makes room, as long as it likes. Fewer than 2^64 calls are begun, with those of a caller that counted before; of a
+/// recheck and a turn, which place no write, each step tells what it answers.
 ///
 /// - **Each once.** A call that was begun is answered once, or is in flight.
 /// - **Its answer.** The old number of a call that took place is that of its name in the map at its place. The place

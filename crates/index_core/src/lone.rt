@@ -5,11 +5,13 @@
 
 ghost use Rattle.std.specs.Prelude.{◌≡◌, ◌+◌, ◌<◌, ◌≤◌, length, None};
 ghost use Rattle.index_core.specs.declared.party.CoreCall.TheVariants as CoreCall;
-ghost use Rattle.index_core.specs.CoreCalls.{IfTurn, MayBegin, MayStart, count_of, most_writes};
+ghost use Rattle.index_core.specs.CoreCalls.{IfRecheck, IfTurn, MayBegin, count_of, most_writes};
 ghost use Rattle.index_core.specs.Costs.{ActsWithin, TriesWithin};
 ghost use Rattle.index_core.specs.Indexes.{IsIndex};
-ghost use Rattle.index_core.specs.Lone.{HasShortWays, IsQuiet, LoseAtMost, RunsAlone, TakesEachLock, TakesLocks};
+ghost use Rattle.index_core.specs.Lone.{HasShortWays, IsQuiet, LoseAtMost, MayRunAlone, RunsAlone};
+ghost use Rattle.index_core.specs.Lone.{TakesEachLock, TakesLocks};
 ghost use Rattle.index_core.specs.Lone.{TriesAlone, TriesBehindTurn, locks_left, part_whole, whole_of};
+ghost use Rattle.index_core.specs.Rechecks.{RechecksAlone};
 ghost use Rattle.index_core.specs.Turns.{IsTurnedAnd, TurnsAlone};
 
 use crate::index::Core;
@@ -26,7 +28,8 @@ const STAMP: u64 = 1;
 
 impl Core {
     /// A whole call of a party, with no other in flight. A turn of the updater is answered `Turned`, and leaves what
-    /// `turn_alone` says. Of a caller's call on a name the answer is told by its cause: the locks of the node are
+    /// `turn_alone` says. A recheck, which is of a node with this very version word, is answered `Same` at the length of
+    /// the history, and changes nothing. Of a caller's call on a name the answer is told by its cause: the locks of the node are
     /// used up, else the clock has reached the limit, else there is no room for a new name, else it takes place. A put
     /// that finds its node full splits it, and is made again. A delete merges the node of its name with the next one
     /// where both together are left with at most half as many names as a node has slots. A part of a scan lists the
@@ -49,13 +52,14 @@ impl Core {
         call: CoreCall,
         steps: &mut Steps<L>,
     ) -> Whole
-        requires may { MayStart self.old.layout caller call }
+        requires may { MayRunAlone self.old caller call }
         requires spare { most_writes call ≤ self.old.spare }
         requires quiet { IsQuiet self.old }
         ensures runs { MayBegin call → RunsAlone self.old caller call self.new result }
         ensures turns { IfTurn call (λ stamp release.
             IsTurnedAnd result (λ turned. TurnsAlone self.old stamp release turned self.new)) }
         ensures short { IfTurn call (λ stamp release. HasShortWays self.new) }
+        ensures rechecks { IfRecheck call (λ node version. RechecksAlone self.old node version self.new result) }
         ensures quiet { IsQuiet self.new }
         ensures spare { self.old.spare + length self.old.history ≤ self.new.spare + length self.new.history }
         ensures each_lock { MayBegin call → TakesEachLock caller call self.old self.new }
@@ -70,6 +74,10 @@ impl Core {
             }
             CoreCall::Turn { stamp, release } => {
                 Whole::Turned(self.turn_alone(caller, stamp, release, steps))
+            }
+            CoreCall::Recheck { node, version } => {
+                let same = self.recheck_alone(caller, node, version, steps);
+                Whole::Same { place: same.place }
             }
             _ => Whole::of(self.name_alone(caller, call, steps)),
         }

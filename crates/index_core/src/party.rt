@@ -5,8 +5,8 @@ ghost use Rattle.index_core.specs.Lone.{lacks_line, lacks_node, needs_split};
 use crate::flight::Flight;
 use call_stages::{Once, Placed, View};
 use cat_key::Name;
-use node_ops::{Part, PartWords};
-use pm_words::{Again, NoMemory};
+use node_ops::{Part, PartWords, Recheck, Same};
+use pm_words::{Again, Machine, NoMemory, Turn};
 use std::alloc::Global;
 use updater::{MakeTurn, TurnReply, Turned};
 
@@ -20,10 +20,18 @@ pub enum CoreCall {
     Del { name: Name, limit: u64 },
     /// Lists the first `count` names from the low one on, of those that the low one's node has.
     Part { low: Name, count: u64 },
-    /// Tells whether the node's version word is still this one. No such call begins yet.
+    /// Tells whether the node's version word is still this one, which a part of a scan has told.
     Recheck { node: u64, version: u64 },
     /// A turn of the updater, which gives merged nodes the stamp, and makes those FREE whose stamp is at most `release`.
     Turn { stamp: u64, release: u64 },
+}
+
+/// A recheck in flight.
+#[derive(Clone, Copy)]
+pub struct Rechecking {
+    /// How long the history was as it began.
+    pub since: u64,
+    pub machine: Recheck,
 }
 
 /// A party and its call in flight, if it has one.
@@ -31,15 +39,17 @@ pub enum CoreCall {
 pub struct PartyState {
     /// The party's number.
     pub caller: u64,
-    /// How many of its calls were answered, without those that were turned back. It is the index of its call in flight,
-    /// and between two calls that of its next one.
+    /// How many of its calls on a name were answered, without those that were turned back. It is the index of its call
+    /// in flight, and between two calls that of its next one.
     pub index: u64,
-    /// How long the history was as its call in flight, or else its last one, began.
+    /// How long the history was as its call on a name in flight, or else its last one, began.
     pub since: u64,
-    /// The machine that makes its call in flight.
+    /// The machine that makes its call on a name in flight.
     pub machine: Flight,
     /// Its turn of the updater in flight.
     pub turn: Option<MakeTurn>,
+    /// Its recheck in flight.
+    pub recheck: Option<Rechecking>,
 }
 
 /// What a call is answered.
@@ -49,6 +59,8 @@ pub enum CoreReply {
     Placed(Once<Placed>),
     /// The answer of one try of a part of a range scan.
     Part(Once<PartWords>),
+    /// The answer of a recheck.
+    Same(Once<Same>),
     /// The answer of a turn of the updater.
     Turn(TurnReply),
 }
@@ -66,6 +78,8 @@ pub enum Whole {
     Placed(Placed),
     /// What a part of a range scan lists.
     Part(PartWords),
+    /// A recheck found the node's version word as it was handed in, at this place.
+    Same { place: u64 },
     /// What a turn of the updater has done: alone it is never held back.
     Turned(Turned),
     /// A put found no room: the map lacks the name, its node has as many names as slots, no FREE node can be locked, and
@@ -164,6 +178,7 @@ impl PartyState {
             since: 0,
             machine: Flight::idle(),
             turn: None,
+            recheck: None,
         }
     }
 
@@ -171,7 +186,7 @@ impl PartyState {
     pub(crate) fn is_busy(&self) -> bool
         ensures { result ≡ is_busy self.now }
     {
-        self.machine.flies() || self.turn.is_some()
+        self.machine.flies() || self.turn.is_some() || self.recheck.is_some()
     }
 
     /// It begins a call, at this length of the history.
@@ -253,6 +268,53 @@ impl PartyState {
             self.turn = None;
         }
         reply
+    }
+}
+
+impl PartyState {
+    ghost use Rattle.std.specs.Prelude.{◌≡◌, IfSome, IsSome, IsSomeAnd, Some};
+    ghost use Rattle.pm_words.specs.Turns.{GoesBelow};
+    ghost use Rattle.node_ops.specs.RecheckSteps.{recheck_left, recheck_takes, recheck_turned};
+    ghost use Rattle.index_core.specs.PartyStates.{recheck_reply, state_rechecked};
+
+    /// It begins a recheck, at this length of the history.
+    pub(crate) fn begins_recheck(&mut self, since: u64, machine: Recheck)
+        ensures { self.new ≡ record self.old { recheck = Some (record { since = since; machine = machine }) } }
+    {
+        self.recheck = Some(Rechecking { since, machine });
+    }
+
+    /// The recheck that it makes.
+    pub(crate) fn rechecking(&self) -> Rechecking
+        requires { IsSome self.now.recheck }
+        ensures { self.now.recheck ≡ Some result }
+    {
+        match self.recheck {
+            Some(rechecking) => rechecking,
+            None => unreachable!(),
+        }
+    }
+
+    /// Tells its recheck the number that its action gave. Where that ends it, it makes none.
+    pub(crate) fn advance_recheck(&mut self, got: u64) -> Option<Once<Same>>
+        requires { IsSomeAnd self.old.recheck (λ r. recheck_takes r.machine got) }
+        ensures state { IfSome self.old.recheck
+            (λ r. self.new ≡ state_rechecked self.old r.since (recheck_turned r.machine got)) }
+        ensures answer { IfSome self.old.recheck (λ r. result ≡ recheck_reply (recheck_turned r.machine got)) }
+        ensures fewer { IfSome self.old.recheck
+            (λ r. GoesBelow recheck_left (recheck_left r.machine) (recheck_turned r.machine got)) }
+    {
+        let Rechecking { since, machine } = self.rechecking();
+        match machine.resume(got) {
+            Turn::Go(next) => {
+                self.begins_recheck(since, next);
+                None
+            }
+            Turn::Done(answer) => {
+                self.recheck = None;
+                Some(answer)
+            }
+        }
     }
 }
 

@@ -11,11 +11,13 @@ ghost use Rattle.std.specs.Prelude.{◌≡◌, ◌≢◌, ◌+◌, ◌<◌, ◌�
 ghost use Rattle.index_core.specs.declared.party.CoreCall.TheVariants as CoreCall;
 ghost use Rattle.index_core.specs.declared.party.Whole.TheVariants as Whole;
 ghost use Rattle.index_core.specs.declared.party.Within.TheVariants as Within;
-ghost use Rattle.index_core.specs.CoreCalls.{IfTurn, MayBegin, MayStart, count_of, most_writes};
+ghost use Rattle.index_core.specs.CoreCalls.{IfRecheck, IfTurn, MayBegin, MayStart, count_of, most_writes};
 ghost use Rattle.index_core.specs.Costs.{WithMost, turn_actions};
 ghost use Rattle.index_core.specs.Indexes.{IsIndex};
 ghost use Rattle.index_core.specs.Lone.{IsQuiet, IsStill, part_whole, whole_of};
+ghost use Rattle.index_core.specs.Rechecks.{CutsRecheckOff, RechecksAlone, same_whole};
 ghost use Rattle.index_core.specs.Turns.{IsTurnedAnd, StartsTurn, TurnsAlone};
+ghost use Rattle.index_law.specs.Facts.{version_in};
 ghost use Rattle.index_core.specs.Withins.{ComesInTime, ComesTo, CutsOff, CutsTryOff, CutsTurnOff, EndsInTime};
 ghost use Rattle.index_core.specs.Withins.{EndsWithin, RanAlone, TriedAlone, TriedBehindTurn, TriesInTime};
 
@@ -23,7 +25,7 @@ use crate::index::Core;
 use crate::party::{CoreCall, Whole, Within, lacks_line, lacks_node, needs_split};
 use call_stages::{Once, Placed};
 use cat_key::Name;
-use node_ops::{Part, PartWords};
+use node_ops::{Part, PartWords, Same};
 use pm_words::Steps;
 use std::sync::ledger::Ledger;
 use updater::{TurnReply, Turned};
@@ -43,7 +45,8 @@ impl Core {
     ///
     /// On an index whose ways are short a call that needs no turn makes no more than `most_actions`, whatever it is
     /// answered, and is cut off only with a budget below that; so is a turn of the updater with one below
-    /// `turn_actions`, where no other turn is in flight.
+    /// `turn_actions`, where no other turn is in flight. A recheck is made again as long as it finds another version word
+    /// than the one that was handed in; nothing changes that word meanwhile, so then it is cut off.
     pub fn run_within<L: Ledger>(
         &mut self,
         caller: u64,
@@ -64,12 +67,19 @@ impl Core {
             (λ whole. IsQuiet self.old × IsQuiet self.new)
             (IsQuiet self.old → (party : ℕ) → party ≢ caller → IsStill party self.new)
             (self.new ≡ self.old)) }
+        ensures rechecks { IfRecheck call (λ node version. EndsWithin result
+            (λ whole. RechecksAlone self.old node version self.new whole)
+            (CutsRecheckOff self.old caller node version self.new)
+            (self.new ≡ self.old)) }
         ensures budget { EndsWithin result (λ whole. 0 < budget.old) ((0 < budget.old) × (budget.new ≡ 0)) (budget.old ≡ 0) }
         ensures events { steps.new + budget.new ≡ steps.old + budget.old }
         ensures in_time { MayBegin call →
             WithMost self.old caller call (EndsInTime result budget.old steps.old steps.new) }
         ensures turn_in_time { IfTurn call (λ stamp release. IsQuiet self.old →
             EndsInTime result budget.old steps.old steps.new (turn_actions self.old.layout)) }
+        ensures recheck_in_time { IfRecheck call (λ node version.
+            version_in self.old.layout self.old.words node ≡ version →
+            EndsInTime result budget.old steps.old steps.new 2) }
         ensures index { IsIndex self.new }
     {
         let _ = &self.memory;
@@ -82,6 +92,9 @@ impl Core {
             }
             CoreCall::Turn { stamp, release } => {
                 within_turn(self.turn_within(caller, stamp, release, budget, steps))
+            }
+            CoreCall::Recheck { node, version } => {
+                within_recheck(self.recheck_within(caller, node, version, budget, steps))
             }
             _ => within_name(self.name_within(caller, call, budget, steps)),
         }
@@ -303,6 +316,16 @@ fn within_part(answer: Option<Once<PartWords>>) -> Within
 {
     match answer {
         Some(answer) => Within::Answered(Whole::of_part(answer)),
+        None => Within::Cut,
+    }
+}
+
+/// What a recheck comes to.
+fn within_recheck(answer: Option<Same>) -> Within
+    ensures { ComesTo answer (λ given. result ≡ Within.Answered (same_whole given)) (result ≡ Within.Cut) }
+{
+    match answer {
+        Some(same) => Within::Answered(Whole::Same { place: same.place }),
         None => Within::Cut,
     }
 }

@@ -7,7 +7,7 @@ use Rattle.cat_history.specs.declared.op.Write.{Write}
 use Rattle.call_stages.specs.Kinds.{clock_address}
 use Rattle.index_core.specs.declared.party.PartyState.{PartyState}
 use Rattle.index_core.specs.Indexes.{Index, IsIndex, parties_of}
-use Rattle.index_core.specs.Lone.{IsQuiet}
+use Rattle.index_core.specs.Lone.{HasNoCalls, HasNoTurns}
 use Rattle.index_core.proofs.Lists.{map_there, there_is, within}
 use Rattle.atomic_table.specs.Table.{Final, Seen}
 use Rattle.pac_index.specs.declared.rule.About.{About}
@@ -60,10 +60,8 @@ closes s callers id words slots has rests final =
     let here = there_is callers i (omega arith) in
     let there : get_elem? kept.states i ≡ some (seen_by here.0).state = ap (get_elem? kept.states) (sym (number i here.0 here.1)) ∙ (fit i here.0 here.1).there in
     (here.0, rests i here.0 here.1, some-injective _ _ (sym at ∙ there)) in
-    let quiet : IsQuiet old = record {
-      calls = λ i e at. let c = state_of i e at in ap (λ (d : PartyState). d.machine) c.2 ∙ c.1.0;
-      turns = λ i e at. let c = state_of i e at in ap (λ (d : PartyState). d.turn) c.2 ∙ c.1.1;
-    } in
+    let calls : HasNoCalls old = λ i e at. let c = state_of i e at in ap (λ (d : PartyState). d.machine) c.2 ∙ c.1.0 in
+    let turns : HasNoTurns old = λ i e at. let c = state_of i e at in ap (λ (d : PartyState). d.turn) c.2 ∙ c.1.1 in
     -- each party stands in the one view, so the others are empty
     let others : (j : ℕ) (u : List Member) → j ≢ id → get_elem? st.views j ≡ some u → u ≡ [] = (λ j u away at. empty u (λ m first.
     let mine = kept.fits j u at 0 m first in
@@ -79,7 +77,7 @@ closes s callers id words slots has rests final =
     added_only st.views id (map seen_by callers) final.1.1 others ∙ added_idle callers (λ i c at. (rests i c at).0) in
     record {
       history = h;
-      index = λ states idle. subst IsIndex (λ k. index_of (same k) (final.2 k) states h) (with_idle old states kept.index quiet (subst (λ (n : ℕ). AreIdle states n) (ap (λ (b : About). parties_of b.layout) (sym same)) idle));
+      index = λ states idle. subst IsIndex (λ k. index_of (same k) (final.2 k) states h) (with_idle old states kept.index calls turns (subst (λ (n : ℕ). AreIdle states n) (ap (λ (b : About). parties_of b.layout) (sym same)) idle));
       seen = λ i c at. (fit i c at).seen;
       own = λ i c at. subst (λ (n : ℕ). placed_by n h ≡ pairs c.kept.items) (number i c at)
           ((fit i c at).own ∙ subst (λ (n : ℕ). placed_by (seen_by c).state.caller (seen_by c).seen ≡ placed_by n (seen_by c).seen) (has.each i c at).number refl ∙ sym (has.each i c at).kept);
@@ -87,7 +85,7 @@ closes s callers id words slots has rests final =
       writers = λ place w at. let less = kept.index.bounded.writers place w at in omega arith;
       weight =
           let sum = kept.weight in
-          let as_weight = idle_weigh old quiet in
+          let as_weight = idle_weigh old calls in
           let weighs : weight_of old ≤ opening_weight key + added_by_all callers = omega arith in
           subst (λ (q : About × List ℕ). weight_of (index_of q.0 q.1 [] h) ≤ opening_weight q.0 + added_by_all callers) (λ k. (same k, final.2 k)) weighs;
       full = λ i c at noted.
@@ -129,6 +127,7 @@ meeting_in s callers words settled z states core idle settles is index =
       quiet = record {
         calls = λ i e at. idle.idle i e (ap (λ (i' : Index). get_elem? i'.states i) (sym is) ∙ at);
         turns = λ i e at. idle.resting i e (ap (λ (i' : Index). get_elem? i'.states i) (sym is) ∙ at);
+        rechecks = λ i e at. idle.unchecked i e (ap (λ (i' : Index). get_elem? i'.states i) (sym is) ∙ at);
       };
       seen = λ i c at. subst (Begins (seen_by c).seen) (sym history) (z.seen i c at);
       own = λ i c at. ap (placed_by i) history ∙ z.own_seen i c at;

@@ -153,8 +153,8 @@ cuts_more cs n c d less read =
     ap (λ (m : ℕ). map cut_of (take m cs)) e ∙ ap (map cut_of) (take_more cs n got.0 got.1) ∙ cuts_append (take n cs) (got.0 ∷ []) ∙ ap (λ (x : Caller). map cut_of (take n cs) ++ x.cut ∷ []) same
 
 -- one idle party more
-pub idle_more : (es : List PartyState) (n : ℕ) (e : PartyState) → AreIdle es n → e.caller ≡ n → e.machine ≡ None → e.turn ≡ None → e.since ≡ 0 → AreIdle (es ++ e ∷ []) (n + 1)
-idle_more es n e are caller idle turn since =
+pub idle_more : (es : List PartyState) (n : ℕ) (e : PartyState) → AreIdle es n → e.caller ≡ n → e.machine ≡ None → e.turn ≡ None → e.recheck ≡ None → e.since ≡ 0 → AreIdle (es ++ e ∷ []) (n + 1)
+idle_more es n e are caller idle turn recheck since =
     let long = length-append es (e ∷ []) in
     let count = are.count in
     record {
@@ -162,6 +162,7 @@ idle_more es n e are caller idle turn since =
       numbers = λ i d at. ⊎_elim (λ (old : get_elem? es i ≡ some d). are.numbers i d old) (λ (last : (i ≡ length es) × (e ≡ d)). ap (λ (x : PartyState). x.caller) (sym last.1) ∙ caller ∙ sym count ∙ sym last.0) (at_end es e d i at);
       idle = λ i d at. ⊎_elim (λ (old : get_elem? es i ≡ some d). are.idle i d old) (λ (last : (i ≡ length es) × (e ≡ d)). ap (λ (x : PartyState). x.machine) (sym last.1) ∙ idle) (at_end es e d i at);
       resting = λ i d at. ⊎_elim (λ (old : get_elem? es i ≡ some d). are.resting i d old) (λ (last : (i ≡ length es) × (e ≡ d)). ap (λ (x : PartyState). x.turn) (sym last.1) ∙ turn) (at_end es e d i at);
+      unchecked = λ i d at. ⊎_elim (λ (old : get_elem? es i ≡ some d). are.unchecked i d old) (λ (last : (i ≡ length es) × (e ≡ d)). ap (λ (x : PartyState). x.recheck) (sym last.1) ∙ recheck) (at_end es e d i at);
       begun = λ i d at. ⊎_elim (λ (old : get_elem? es i ≡ some d). are.begun i d old) (λ (last : (i ≡ length es) × (e ≡ d)). ap (λ (x : PartyState). x.since) (sym last.1) ∙ since) (at_end es e d i at);
     }
 

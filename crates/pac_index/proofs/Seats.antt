@@ -30,6 +30,7 @@ none_idle n = record {
   numbers = λ i e at. ap (λ (d : PartyState). d.caller) (idle-each n i e at);
   idle = λ i e at. ap (λ (d : PartyState). d.machine) (idle-each n i e at);
   resting = λ i e at. ap (λ (d : PartyState). d.turn) (idle-each n i e at);
+  unchecked = λ i e at. ap (λ (d : PartyState). d.recheck) (idle-each n i e at);
   begun = λ i e at. ap (λ (d : PartyState). d.since) (idle-each n i e at);
 }
 
@@ -72,7 +73,7 @@ opens s is quiet none =
     let about = about_in s in
     let n = parties_of s.layout in
     let states = idle_states n in
-    let index = with_idle s states is quiet (none_idle n) in
+    let index = with_idle s states is quiet.calls quiet.turns (none_idle n) in
     record {
       states = states;
       history = [];
@@ -88,7 +89,7 @@ opens s is quiet none =
       once = λ number. let most = one_most about n number in omega arith;
       weight =
           let o : Index = index_of about s.words states [] in
-          let as_weight : weight_sum (world o) ≡ opening_weight about = idle_weigh o (record { calls = (none_idle n).idle; turns = (none_idle n).resting }) in
+          let as_weight : weight_sum (world o) ≡ opening_weight about = idle_weigh o (none_idle n).idle in
           omega arith;
       full = sole_view (AllPaid about (first_view about ∷ [])) (first_view about) (λ k m at noted.
           let from = map_from (member_of about) states k m at in

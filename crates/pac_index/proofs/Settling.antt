@@ -57,6 +57,7 @@ keeps_index l words n here large s quiet is =
       ordered = is.ordered;
       bounded = is.bounded;
       named = is.named;
+      rechecks = is.rechecks;
     }
 
 keeps_weight : (l : Layout) (words : List ℕ) (n : ℕ) → n < l.nodes → (s : Index) → weight_of (with_words s l (stamped l words n)) ≡ weight_of (with_words s l words)

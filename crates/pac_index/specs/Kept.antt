@@ -170,7 +170,7 @@ nobody = record {
     opened =
         record { layout = record { nodes = 1; slots = 4; callers = 1 }; words = [] };
   };
-  state = record { caller = 0; index = 0; since = 0; machine = None; turn = None };
+  state = record { caller = 0; index = 0; since = 0; machine = None; turn = None; recheck = None };
   seen = [];
   told = [];
   taken = 0;

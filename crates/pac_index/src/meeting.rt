@@ -119,6 +119,7 @@ fn idle_states(alloc: Global, callers: &[Caller]) -> Result<Vec<PartyState>, NoM
             since: 0,
             machine: Flight::idle(),
             turn: None,
+            recheck: None,
         })?;
     }
     Ok(states)

@@ -180,7 +180,7 @@ with_room from s room is = record {
   sound = is.sound;
   next = is.next;
   index = respare s room is.index;
-  quiet = record { calls = is.quiet.calls; turns = is.quiet.turns };
+  quiet = record { calls = is.quiet.calls; turns = is.quiet.turns; rechecks = is.quiet.rechecks };
   layout = is.layout;
   generation = is.generation;
   states = is.states;

@@ -3,8 +3,8 @@
 ghost use Rattle.std.specs.Prelude.{◌≡◌, ℕ, ◌<◌, ◌≤◌, IfSome, IsTrue};
 ghost use Rattle.pm_words.specs.declared.layout.Layout.{Layout as IndexLayout};
 ghost use Rattle.index_core.specs.CoreCalls.{MayStart, most_writes};
-ghost use Rattle.index_core.specs.Indexes.{IsBusy};
-ghost use Rattle.index_core.specs.Lone.{IsQuiet};
+ghost use Rattle.index_core.specs.Indexes.{Index, IsBusy};
+ghost use Rattle.index_core.specs.Lone.{IsQuiet, MayRunAlone};
 
 use call_stages::Once;
 use cat_history::Change;
@@ -56,6 +56,7 @@ pub(super) fn name_of(number: u64) -> Name {
 /// The call.
 pub(super) fn call_of(asked: Asked) -> CoreCall
     ensures may { (l : IndexLayout) (party : ℕ) → party < l.callers → MayStart l party result }
+    ensures alone { (s : Index) (party : ℕ) → party < s.layout.callers → MayRunAlone s party result }
     ensures writes { most_writes result ≤ 1 }
 {
     match asked {

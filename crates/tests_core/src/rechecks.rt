@@ -4,39 +4,38 @@ ghost use Rattle.std.specs.Prelude.{◌≡◌, ◌<◌, IfSome};
 ghost use Rattle.index_core.specs.Lone.{IsQuiet};
 
 use super::calls::Asked::{Del, Get, Part, Put, Turn};
-use super::calls::{Asked, Scene, alone, made};
+use super::calls::{Asked, Scene, alone, made, run};
 use call_stages::Once;
-use index_core::{Core, Whole};
+use index_core::{Core, CoreCall, CoreReply, Whole};
 use node_ops::PartWords;
-use pm_words::{Steps, Turn as Step};
 use std::alloc::Global;
-use std::marker::Brand;
-use std::sync::ledger::{Blank, Ledger};
 use std::test::Fail;
 
-/// The place at which a node has this version word still, as a recheck tells it; None where it has another.
-fn place_of(core: &mut Core, node: u64, version: u64) -> Option<u64> {
-    place_on::<Brand>(core, node, version, Blank::new(1))
+/// Begins a recheck by a caller: whether it did.
+fn begin_recheck(core: &mut Core, caller: u64, words: &PartWords) -> bool {
+    let layout = core.layout();
+    let (node, version) = (words.node, words.version);
+    if node >= layout.nodes() || caller >= layout.callers() {
+        return false;
+    }
+    core.start(caller, CoreCall::Recheck { node, version })
+        .is_ok()
 }
 
-fn place_on<L: Ledger>(core: &mut Core, node: u64, version: u64, blank: Blank) -> Option<u64>
-    requires name { blank.name ≡ L.name }
-    requires parts { (blank.parts ≡ L.parts) × (0 < L.parts) }
-{
-    let (book, share) = blank.open::<L>();
-    let mut steps = Steps::new(book, share);
-    let layout = core.layout();
-    if node >= layout.nodes() || layout.callers() == 0 {
-        return None;
-    }
-    let recheck = core.recheck(0, node, version);
-    let Step::Go(next) = core.step_recheck(recheck, &mut steps) else {
-        return None;
-    };
-    match core.step_recheck(next, &mut steps) {
-        Step::Done(Once::Done(same)) => Some(same.place),
+/// The place of an answer that all is the same.
+fn place_in(reply: Option<CoreReply>) -> Option<u64> {
+    match reply {
+        Some(CoreReply::Same(Once::Done(same))) => Some(same.place),
         _ => None,
     }
+}
+
+/// The place at which a part's node has the version word still that the part tells, by a whole recheck.
+fn place_of(core: &mut Core, words: &PartWords) -> Option<u64> {
+    if !begin_recheck(core, 0, words) {
+        return None;
+    }
+    place_in(run(core, 0, 2))
 }
 
 /// A part from the name of this number on.
@@ -60,7 +59,7 @@ fn is_same(alloc: Global, low: u64, between: Asked) -> Option<bool> {
     let mut core = made(alloc, scene)?;
     let words = part(&mut core, low)?;
     alone(&mut core, between);
-    let place = place_of(&mut core, words.node, words.version);
+    let place = place_of(&mut core, &words);
     Some(place == Some(core.history().len() as u64))
 }
 

@@ -6,4 +6,4 @@ use Rattle.thread_trial.proofs.alone.play_on_core.Goals as goal
 pub run_alone-requires-clause-quiet : goal.run_alone-requires-clause-quiet
 run_alone-requires-clause-quiet g c =
     let quiet = c.loop-number.invariant.0 in
-    subst IsQuiet (sym c.reserve.ensures.kept) (record { calls = quiet.calls; turns = quiet.turns })
+    subst IsQuiet (sym c.reserve.ensures.kept) (record { calls = quiet.calls; turns = quiet.turns; rechecks = quiet.rechecks })

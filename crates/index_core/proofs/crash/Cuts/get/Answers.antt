@@ -27,7 +27,7 @@ returns c =
     (subst (λ (l : List PartyState). c.args.party < length l) c.deref.ensures.value (ltb-true c.args.party (length c.deref.result.now) (sym lookup.0)))
     (subst (λ (l : List PartyState). state ≡ get_or l c.args.party state) c.deref.ensures.value lookup.1) in
     let machine : Running = c.running-machine.result.now in
-    let made : Some (record { party = state.caller; call = c.of.result; place = c.place.result }) ≡ cut_call state.caller (Some machine) state.turn =
+    let made : Some (record { party = state.caller; call = c.of.result; place = c.place.result }) ≡ cut_call state.caller (Some machine) state.turn state.recheck =
     (λ k. Some (record { party = state.caller; call = c.of.ensures k; place = c.place.ensures k })) in
-    made ∙ ap (λ (o : Option Running). cut_call state.caller o state.turn) (sym c.running-machine.ensures) ∙ ap cut_of (sym (got_there states c.args.party state there))
+    made ∙ ap (λ (o : Option Running). cut_call state.caller o state.turn state.recheck) (sym c.running-machine.ensures) ∙ ap cut_of (sym (got_there states c.args.party state there))
     ∙ ap (λ (l : List PartyState). cut_of (slice_get l c.args.party)) c.self.view_is

@@ -1,13 +1,14 @@
-use Rattle.std.proofs.Common.{◌≡◌, ◌⊎◌, inl, inr, ℕ, ◌<◌, true, false, sym, ap, ◌∙◌, subst, arith}
+use Rattle.std.proofs.Common.{◌≡◌, ◌⊎◌, inl, inr, ℕ, ◌+◌, ◌<◌, ◌≤◌, length, true, false, sym, ap, ◌∙◌, subst, arith}
 use Rattle.call_stages.specs.declared.once.Once.{Once}
 use Rattle.call_stages.specs.declared.once.Placed.{Placed}
+use Rattle.pm_words.specs.declared.layout.Layout.{Layout}
 use Rattle.index_core.specs.Indexes.{Index, IsIndex}
 use Rattle.index_core.specs.Costs.{ActsWithin, TriesWithin}
 use Rattle.index_core.specs.Lone.{HasNoCalls, IsQuiet, IsWholeAnswer, NeedsNoTurn, TriesAlone, lacks_line, lacks_node, needs_split, whole_of}
 use Rattle.index_core.proofs.Quiet.{quiet_is_still}
 use Rattle.index_core.proofs.Costs.{needs_none, split_acts, tries_are_whole}
 use Rattle.index_core.proofs.Alone.{ran_runs, ran_each, ran_locks, full_runs, full_again, counted_each, counted_locks, count_quiet}
-use Rattle.index_core.proofs.Retrying.{HasItsLine, HasItsNode, RanAll, tried_first, line_at_once, line_behind_turn, node_at_once, node_behind_turn, ran_once, ran_twice}
+use Rattle.index_core.proofs.Retrying.{HasItsLine, HasItsNode, RanAll, tried_first, line_at_once, line_behind_turn, node_at_once, node_behind_turn, node_history, node_layout, ran_once, ran_twice}
 use Rattle.index_core.proofs.index.Core.name_alone.Goals as goal
 use Rattle.index_core.proofs.index.Core.name_alone.Goals.{After-needs_split, then-lacks_line, else-lacks_line, then-lacks_node, else-lacks_node, then-needs_split, else-needs_split}
 
@@ -49,6 +50,50 @@ node_quiet g c = elim c.if-lacks_node.branch [
     | else-lacks_line v ↦ subst IsQuiet (sym v.self-is) c.try_alone-answer.ensures.quiet
   ])
 ]
+
+-- room for writes is left
+abbrev HasRoom : Index → Index → Type 0
+HasRoom s0 s = s0.spare + length s0.history ≤ s.spare + length s.history
+
+node_room : (g : _) (c : After-needs_split g) → HasRoom c.args.self.now c.if-lacks_node.self
+node_room g c =
+    let first : HasRoom c.args.self.now c.try_alone-answer.new.self = c.try_alone-answer.ensures.spare in
+    let line : HasRoom c.args.self.now c.if-lacks_line.self = elim c.if-lacks_line.branch [
+      | then-lacks_line w ↦ subst (HasRoom c.args.self.now) (sym w.self-is) (let more = w.try_behind_turn-answer.ensures.spare in omega (arith, more, first))
+      | else-lacks_line w ↦ subst (HasRoom c.args.self.now) (sym w.self-is) first
+    ] in
+    elim c.if-lacks_node.branch [
+      | then-lacks_node w ↦ subst (HasRoom c.args.self.now) (sym w.self-is) (let more = w.try_behind_turn-answer-then-lacks_node.ensures.spare in omega (arith, more, line))
+      | else-lacks_node w ↦ subst (HasRoom c.args.self.now) (sym w.self-is) line
+    ]
+
+pub try_alone-answer-requires-then-needs_split-clause-spare : goal.try_alone-answer-requires-then-needs_split-clause-spare
+try_alone-answer-requires-then-needs_split-clause-spare g c =
+    let at = (goal.at.try_alone-answer-requires-then-needs_split-clause-spare g c).After-needs_split in
+    let same = ap length (node_history c.args.self.now c.if-lacks_node.self c.args.caller c.args.call c.if-lacks_node.answer (has_node g at) (sym c.needs_split.ensures ∙ c.if-needs_split.true)) in
+    let room = node_room g at in
+    let some = c.requires.spare in
+    omega (arith, same, room, some)
+
+pub count_call-requires-clause-party : goal.count_call-requires-clause-party
+count_call-requires-clause-party g c =
+    let at = (goal.at.count_call-requires-clause-party g c).After-needs_split in
+    let node = node_layout c.args.self.now c.if-lacks_node.self c.args.caller c.args.call c.if-lacks_node.answer (has_node g at) in
+    elim c.if-needs_split.branch [
+      | then-needs_split w ↦ subst (λ (l : Layout). c.args.caller < l.callers) (sym (ap (λ (s : Index). s.layout) w.self-is ∙ w.try_alone-answer-then-needs_split.ensures.tries.layout ∙ node)) c.requires.caller
+      | else-needs_split w ↦ subst (λ (l : Layout). c.args.caller < l.callers) (sym (ap (λ (s : Index). s.layout) w.self-is ∙ node)) c.requires.caller
+    ]
+
+pub returns-in-Again-clause-spare : goal.returns-in-Again-clause-spare
+returns-in-Again-clause-spare g c =
+    let room = node_room g (goal.at.returns-in-Again-clause-runs g c).After-needs_split in
+    let all : HasRoom c.args.self.now c.if-needs_split.self = elim c.if-needs_split.branch [
+      | then-needs_split w ↦ subst (HasRoom c.args.self.now) (sym w.self-is) (let more = w.try_alone-answer-then-needs_split.ensures.spare in omega (arith, more, room))
+      | else-needs_split w ↦ subst (HasRoom c.args.self.now) (sym w.self-is) room
+    ] in
+    let same = ap (λ (s : Index). length s.history) c.count_call.ensures.counts.is in
+    let kept = c.count_call.ensures.spare in
+    omega (arith, all, same, kept)
 
 -- some step is made already
 node_acts : (g : _) (c : After-needs_split g) → c.args.steps.now < c.if-lacks_node.steps

@@ -79,7 +79,7 @@ pub returns-clause-quiet : goal.returns-clause-quiet
 returns-clause-quiet c =
     let each : (i : ℕ) (state : PartyState) → get_elem? c.set_idle.new.states.items i ≡ some state → state ≡ idle_state i =
     λ i state there. idle-each (parties_of c.self.inside.memory.layout) i state (subst (λ (states : List PartyState). get_elem? states i ≡ some state) (idle c) there) in
-    record { calls = λ i state there. ap (λ (d : PartyState). d.machine) (each i state there); turns = λ i state there. ap (λ (d : PartyState). d.turn) (each i state there) }
+    record { calls = λ i state there. ap (λ (d : PartyState). d.machine) (each i state there); turns = λ i state there. ap (λ (d : PartyState). d.turn) (each i state there); rechecks = λ i state there. ap (λ (d : PartyState). d.recheck) (each i state there) }
 
 pub returns-clause-index : goal.returns-clause-index
 returns-clause-index c = respare _ _ (invariant_of-self c).0

@@ -1,4 +1,4 @@
-use Rattle.std.proofs.Common.{suc, ◌≤◌, sym, subst, arith}
+use Rattle.std.proofs.Common.{suc, ◌≤◌, refl, sym, subst, arith}
 use Rattle.call_stages.specs.declared.once.Once.{Once}
 use Rattle.node_ops.specs.declared.part.PartWords.{PartWords}
 use Rattle.index_core.specs.Lone.{RunsAlone, part_whole}
@@ -6,12 +6,17 @@ use Rattle.index_core.specs.declared.party.CoreCall.TheVariants as call
 use Rattle.call_stages.specs.declared.once.Once.TheVariants as once
 use Rattle.node_ops.specs.PartSteps.{early_of, words_placed}
 use Rattle.index_core.specs.Costs.{ActsWithin}
+use Rattle.index_core.proofs.Busy.{quiet_is_idle}
 use Rattle.index_core.proofs.Costs.{cost_begins, costs_end, early_unworn, part_acts, tries_within}
 use Rattle.index_core.proofs.Quiet.{quiet_is_still}
 use Rattle.index_core.proofs.PartTries.{part_ends, part_is_early, part_last, part_stops}
 use Rattle.index_core.proofs.Tries.{Lone, cost_at, left_at, lone_costs, lone_start, lone_flies, lone_goes}
 use Rattle.index_core.proofs.index.Core.part_alone.Goals as goal
 use Rattle.index_core.proofs.index.Core.part_alone.Goals.{In_default-turn}
+
+pub unreachable-requires : goal.unreachable-requires
+unreachable-requires g c =
+    absurd (quiet_is_idle c.args.self.now c.args.caller c.requires.quiet (c.in_default.ensures.in_flight.0 refl))
 
 pub steps-init : goal.steps-init
 steps-init g c = (

@@ -1,6 +1,5 @@
-use Rattle.std.proofs.Common.{◌≡◌, ℕ, ◌+◌, ◌<◌, length, inl, inr, arith, refl, ap, sym, ◌∙◌, subst}
+use Rattle.std.proofs.Common.{◌≡◌, ℕ, ◌+◌, ◌<◌, length, arith, refl, ap, sym, ◌∙◌, subst}
 use Rattle.std.specs.Prelude.{◌-◌, None, slice_set}
-use mathlib.Core.Option.{some-injective}
 use lib.ListN.{get_elem?}
 use Rattle.pm_words.specs.declared.layout.Layout.{Layout}
 use Rattle.node_ops.specs.Asked.{IsOf}
@@ -10,7 +9,7 @@ use Rattle.index_core.specs.PartyStates.{is_busy, owed}
 use Rattle.index_core.specs.Cores.{index_with}
 use Rattle.index_core.specs.Indexes.{Index, IsIndex, IsBusy, view_of, started_index}
 use Rattle.index_core.proofs.Lists.{there_is, read_is}
-use Rattle.index_core.proofs.Busy.{busy_told, idle_told}
+use Rattle.index_core.proofs.Busy.{busy_told, idle_is_not_busy, idle_told}
 use Rattle.index_core.proofs.Reading.{Begins, begins}
 use Rattle.index_core.proofs.Stepping.{respare}
 use Rattle.index_core.proofs.index.Core.start_name.Goals as goal
@@ -73,35 +72,15 @@ invariant_of-self c =
     let n : ℕ = c.self.inside.history.cap - (c.self.inside.history.len + owed (slice_set s.states i c.begins.new.self)) in
     (subst IsIndex (sym (begun.same 0)) (begun.kept 0), omega arith)
 
-none_turns : (c : goal.After-self-1) → (begun_at c).state.turn ≡ None
-none_turns c =
-    let s = index_with c.self.inside 0 in
-    let i = c.args.party in
-    let begun = begun_at c in
-    let looked = read_is s.states i begun.state c.index.result.now begun.there c.index.ensures in
-    ap (λ (d : PartyState). d.turn) (sym looked) ∙ (idle_told c.index.result.now (sym c.is_busy.ensures ∙ c.if-is_busy.false)).1
-
 pub returns-clause-in_flight : goal.returns-clause-in_flight
 returns-clause-in_flight c =
     let s = index_with c.self.inside 0 in
     let i = c.args.party in
     let begun = begun_at c in
-    let owing = begun.owing in
-    let was = ap (λ (v : Index). v.spare) c.self.view_is in
-    let room = c.self.invariant.1 in
-    let wanted = c.requires.spare in
-    let n : ℕ = c.self.inside.history.cap - (c.self.inside.history.len + owed (slice_set s.states i c.begins.new.self)) in (
+    let looked = read_is s.states i begun.state c.index.result.now begun.there c.index.ensures in
+    let idle = subst (λ (d : PartyState). (d.machine ≡ None) × (d.turn ≡ None) × (d.recheck ≡ None)) looked (idle_told c.index.result.now (sym c.is_busy.ensures ∙ c.if-is_busy.false)) in (
       λ (e : _). absurd (cc),
-      λ (b : IsBusy _ i). elim b [
-        | inl f ↦
-            let here = some-injective _ _ (sym begun.there ∙ ap (λ (v : Index). get_elem? v.states i) c.self.view_is ∙ f.there) in
-            let both = sym begun.idle ∙ ap (λ (d : PartyState). d.machine) here ∙ f.flies in
-            absurd (cc)
-        | inr f ↦
-            let here = some-injective _ _ (sym begun.there ∙ ap (λ (v : Index). get_elem? v.states i) c.self.view_is ∙ f.there) in
-            let both = sym (none_turns c) ∙ ap (λ (d : PartyState). d.turn) here ∙ f.turns in
-            absurd (cc)
-      ],
+      λ (b : IsBusy _ i). absurd (idle_is_not_busy _ i begun.state (sym (ap (λ (v : Index). get_elem? v.states i) c.self.view_is) ∙ begun.there) idle b),
     )
 
 pub returns-clause-started : goal.returns-clause-started

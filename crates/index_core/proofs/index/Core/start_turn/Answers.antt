@@ -1,6 +1,6 @@
-use Rattle.std.proofs.Common.{◌≡◌, ℕ, ◌-◌, ◌+◌, inl, inr, arith, refl, ap, sym, ◌∙◌, subst}
+use Rattle.std.proofs.Common.{◌≡◌, ℕ, ◌-◌, ◌+◌, arith, refl, ap, sym, ◌∙◌, subst}
 use Rattle.std.specs.Prelude.{Some, None, slice_set}
-use mathlib.Core.Option.{some, some-injective}
+use mathlib.Core.Option.{some}
 use lib.ListN.{get_elem?}
 use Rattle.pm_words.specs.declared.layout.Layout.{Layout}
 use Rattle.index_core.specs.declared.party.PartyState.{PartyState}
@@ -9,7 +9,7 @@ use Rattle.index_core.specs.PartyStates.{is_busy, owed}
 use Rattle.index_core.specs.Cores.{index_with, index_of}
 use Rattle.index_core.specs.Indexes.{Index, IsIndex, IsBusy}
 use Rattle.index_core.specs.Turns.{turn_begun}
-use Rattle.index_core.proofs.Busy.{busy_told, idle_told}
+use Rattle.index_core.proofs.Busy.{busy_told, idle_is_not_busy, idle_told}
 use Rattle.index_core.proofs.Lists.{there_is, read_is}
 use Rattle.index_core.proofs.Stepping.{respare}
 use Rattle.index_core.proofs.Turning.{turn_begins}
@@ -29,8 +29,8 @@ returns-then-is_busy-clause-in_flight c =
 pub returns-then-is_busy-clause-index : goal.returns-then-is_busy-clause-index
 returns-then-is_busy-clause-index c = subst IsIndex c.self.view_is (respare _ _ c.self.invariant.0)
 
--- the party, which makes no call and no turn
-party_of : (c : goal.After-self-1) → (e : PartyState) × (get_elem? (index_with c.self.inside 0).states c.args.party ≡ some e) × (c.index_mut.result.now ≡ e) × (e.machine ≡ None) × (e.turn ≡ None)
+-- the party, which has nothing in flight
+party_of : (c : goal.After-self-1) → (e : PartyState) × (get_elem? (index_with c.self.inside 0).states c.args.party ≡ some e) × (c.index_mut.result.now ≡ e) × (e.machine ≡ None) × (e.turn ≡ None) × (e.recheck ≡ None)
 party_of c =
     let s = index_with c.self.inside 0 in
     let i = c.args.party in
@@ -40,23 +40,14 @@ party_of c =
     let looked = read_is s.states i here.0 c.index.result.now here.1 c.index.ensures in
     let read = read_is s.states i here.0 c.index_mut.result.now here.1 c.index_mut.ensures.value in
     let idle = idle_told c.index.result.now (sym c.is_busy.ensures ∙ c.if-is_busy.false) in
-    (here.0, here.1, read, ap (λ (d : PartyState). d.machine) (sym looked) ∙ idle.0, ap (λ (d : PartyState). d.turn) (sym looked) ∙ idle.1)
+    (here.0, here.1, read, ap (λ (d : PartyState). d.machine) (sym looked) ∙ idle.0, ap (λ (d : PartyState). d.turn) (sym looked) ∙ idle.1, ap (λ (d : PartyState). d.recheck) (sym looked) ∙ idle.2)
 
 pub returns-clause-in_flight : goal.returns-clause-in_flight
 returns-clause-in_flight c =
     let i = c.args.party in
     let e = party_of c in (
       λ (no : _). absurd (cc),
-      λ (b : IsBusy _ i). elim b [
-        | inl f ↦
-            let here = some-injective _ _ (sym e.1 ∙ ap (λ (v : Index). get_elem? v.states i) c.self.view_is ∙ f.there) in
-            let both = sym e.3 ∙ ap (λ (d : PartyState). d.machine) here ∙ f.flies in
-            absurd (cc)
-        | inr f ↦
-            let here = some-injective _ _ (sym e.1 ∙ ap (λ (v : Index). get_elem? v.states i) c.self.view_is ∙ f.there) in
-            let both = sym e.4 ∙ ap (λ (d : PartyState). d.turn) here ∙ f.turns in
-            absurd (cc)
-      ],
+      λ (b : IsBusy _ i). absurd (idle_is_not_busy _ i e.0 (sym (ap (λ (v : Index). get_elem? v.states i) c.self.view_is) ∙ e.1) (e.3, e.4, e.5) b),
     )
 
 -- the index that it leaves

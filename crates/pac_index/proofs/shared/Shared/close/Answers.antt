@@ -51,7 +51,7 @@ of_parts-requires-clause-index c =
       base = s.about.base;
       history = sym history k;
       spare = 0;
-    }) (settles.keeps (index_of s.about words states z.history) (record { calls = idle.idle; turns = idle.resting }) (z.index states idle))
+    }) (settles.keeps (index_of s.about words states z.history) (record { calls = idle.idle; turns = idle.resting; rechecks = idle.unchecked }) (z.index states idle))
 
 pub returns : goal.returns
 returns c =
