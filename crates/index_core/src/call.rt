@@ -1,4 +1,4 @@
-ghost use Rattle.std.specs.Prelude.{◌≡◌};
+ghost use Rattle.std.specs.Prelude.{◌≡◌, IsTrue};
 ghost use Rattle.cat_key.specs.Names.{IsName};
 
 use crate::party::CoreCall;
@@ -29,6 +29,24 @@ impl CoreCall {
             CoreCall::Part { low, count } => Running::Parting(Part::new(view, &named(low), count)),
             CoreCall::Recheck { .. } => unreachable!(),
             CoreCall::Turn { .. } => unreachable!(),
+        }
+    }
+
+    /// Whether the call begins in the place of another one's machine, of its own kind.
+    pub(crate) fn follows(&self, machine: &mut Running, view: View) -> bool
+        requires view { IsView view }
+        requires begins { MayBegin self.now }
+        ensures machine { IsTrue result → machine.new ≡ machine_of view self.now }
+        ensures sound { IsTrue result → IsRunning (machine_of view self.now) }
+        ensures op { IsTrue result → IsOf (op_of self.now) (machine_of view self.now) }
+    {
+        match self {
+            CoreCall::Put { name, value, limit } => {
+                machine.begins_put(view, &named(*name), *value, *limit)
+            }
+            CoreCall::Get { name } => machine.begins_get(view, &named(*name)),
+            CoreCall::Del { name, limit } => machine.begins_del(view, &named(*name), *limit),
+            _ => false,
         }
     }
 }

@@ -281,10 +281,8 @@ impl Core {
         } = &self.states[at];
         let machine = machine.running();
         let action = machine.action();
-        let counts = counted_by(machine, action);
-        let (caller, index) = (*caller, *index);
         let got = self.memory.act(action, steps);
-        count(&mut self.history, caller, index, counts);
+        count(&mut self.history, *caller, *index, machine, action);
         self.states[at].advance(got)
     }
 
@@ -401,21 +399,24 @@ impl Core {
     }
 }
 
-/// The change that the machine counts in the clock by this action, which it asks for next. It counts one only where that
-/// adds, so it isn't asked otherwise.
-fn counted_by(machine: &Running, action: Action) -> Option<Change>
+/// Counts the write of a step by this action, which the machine asks for next, of this caller's call with this index. A
+/// machine counts a change in the clock only where it adds, so it isn't asked for one otherwise.
+fn count(history: &mut Vec<Write>, caller: u64, index: u64, machine: &Running, action: Action)
     requires fits { IsRunning machine.now }
     requires adds { IfSome (counted (stage_of machine.now)) (λ _. IsAdd action) }
-    ensures { result ≡ counted (stage_of machine.now) }
+    requires room { vec_len history.old + length (written caller index (counted (stage_of machine.now)))
+        ≤ vec_capacity history.old }
+    ensures items { history.new.items
+        ≡ history.old.items ++ written caller index (counted (stage_of machine.now)) }
+    ensures room { vec_capacity history.old ≤ vec_capacity history.new }
 {
-    match action {
-        Action::Add(_) => machine.counts(),
-        _ => None,
+    if let Action::Add(_) = action {
+        count_change(history, caller, index, machine.counts());
     }
 }
 
-/// Counts the write of a step, if it has one, of this caller's call with this index.
-fn count(history: &mut Vec<Write>, caller: u64, index: u64, counts: Option<Change>)
+/// Counts the change of a step, if it has one, as `count` does.
+fn count_change(history: &mut Vec<Write>, caller: u64, index: u64, counts: Option<Change>)
     requires { vec_len history.old + length (written caller index counts) ≤ vec_capacity history.old }
     ensures items { history.new.items ≡ history.old.items ++ written caller index counts }
     ensures room { vec_capacity history.old ≤ vec_capacity history.new }
@@ -434,6 +435,6 @@ fn set_idle(states: &mut Vec<PartyState>)
     ensures { states.new.items ≡ idle_states (length states.old.items) }
 {
     for caller in 0..states.len() {
-        states[caller] = PartyState::idle(caller as u64);
+        states[caller].begins_anew(caller as u64);
     }
 }

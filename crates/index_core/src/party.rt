@@ -182,6 +182,18 @@ impl PartyState {
         }
     }
 
+    /// It has made no call, as the party with this number.
+    pub(crate) fn begins_anew(&mut self, caller: u64)
+        ensures { self.new ≡ idle_state caller }
+    {
+        self.caller = caller;
+        self.index = 0;
+        self.since = 0;
+        self.machine.rests();
+        self.turn = None;
+        self.recheck = None;
+    }
+
     /// Its last call isn't answered.
     pub(crate) fn is_busy(&self) -> bool
         ensures { result ≡ is_busy self.now }
@@ -198,7 +210,7 @@ impl PartyState {
         ensures op { IsOf (op_of call) (machine_of view call) }
     {
         self.since = since;
-        self.machine.begins(call.machine(view));
+        self.machine.begins(view, call);
     }
 
     /// The index of its next call: one that is turned back uses up none.

@@ -28,7 +28,7 @@ pub enum Del {
 }
 
 impl Del {
-    ghost use Rattle.std.specs.Prelude.{◌^◌, ◌≤◌, Some};
+    ghost use Rattle.std.specs.Prelude.{◌^◌, ◌≤◌, IsTrue, Some};
     ghost use Rattle.call_stages.specs.Views.{IsView};
     ghost use Rattle.node_ops.specs.declared.single_del.SingleDel.TheVariants as SingleDel;
     ghost use Rattle.node_ops.specs.Calls.{new_call};
@@ -45,6 +45,24 @@ impl Del {
         Del::Single(SingleDel::Looking {
             lookup: Lookup::new(Call::new(view, name, Some(limit))),
         })
+    }
+
+    /// Another delete begins in its place, and writes no room of a merge. One that merges stays as it is, and it is told
+    /// that none begins.
+    pub(crate) fn begins(&mut self, view: View, name: &Name, limit: u64) -> bool
+        requires view { IsView view }
+        requires limit { limit ≤ 2 ^ 62 }
+        ensures new { IsTrue result →
+            self.new ≡ Del.Single (SingleDel.Looking (starts (new_call view name.now (Some limit)))) }
+        ensures sound { IsTrue result → IsDel self.new }
+    {
+        let Del::Single(single) = self else {
+            return false;
+        };
+        *single = SingleDel::Looking {
+            lookup: Lookup::new(Call::new(view, name, Some(limit))),
+        };
+        true
     }
 
     /// It merges, in a function of its own, so that no other turn clears the room of a merge.

@@ -41,6 +41,15 @@ impl Get {
             lookup: Lookup::new(Call::new(view, name, None)),
         }
     }
+
+    /// Another get begins in its place.
+    pub(crate) fn begins(&mut self, view: View, name: &Name)
+        requires { IsView view }
+        ensures new { self.new ≡ Get.Looking (starts (new_call view name.now None)) }
+        ensures sound { IsGet self.new }
+    {
+        *self = Get::new(view, name);
+    }
 }
 
 impl Get {

@@ -93,7 +93,7 @@ impl Part {
     ghost use Rattle.call_stages.specs.Views.{IsView};
     ghost use Rattle.node_ops.specs.Calls.{IsCall, new_call};
     ghost use Rattle.node_ops.specs.LookupSteps.{IsFoundIn, starts};
-    ghost use Rattle.node_ops.specs.PartSteps.{IsPart, IsEarly, behind_of, early_of, part_found, placed_of};
+    ghost use Rattle.node_ops.specs.PartSteps.{IsPart, IsEarly, behind_of, early_of, part_found};
 
     /// The part that lists the first `count` names from this one on, of those that its node has.
     pub fn new(view: View, low: &Name, count: u64) -> Part
@@ -109,12 +109,12 @@ impl Part {
     }
 
     /// The next node: as it is about to load the clock, that which the walk saw.
-    fn behind(at: LookupAt, behind: Option<Next>) -> Option<Next>
-        ensures { result ≡ behind_of at behind }
+    fn behind(at: &LookupAt, behind: &Option<Next>) -> Option<Next>
+        ensures { result ≡ behind_of at.now behind.now }
     {
         match at {
             LookupAt::Read { seen } => seen.next,
-            _ => behind,
+            _ => *behind,
         }
     }
 
@@ -125,22 +125,6 @@ impl Part {
     {
         match answer {
             Once::Done(_) => unreachable!(),
-            Once::Spent { clock } => Once::Spent { clock },
-            Once::Worn { node, word } => Once::Worn { node, word },
-            Once::Again(why) => Once::Again(why),
-        }
-    }
-
-    /// Its answer, as that of a get of its low name.
-    pub(crate) fn placed(answer: Once<PartWords>) -> Once<Placed>
-        ensures { result ≡ placed_of answer }
-    {
-        match answer {
-            Once::Done(words) => Once::Done(Placed {
-                old: words.old,
-                place: words.place,
-                hops: words.hops,
-            }),
             Once::Spent { clock } => Once::Spent { clock },
             Once::Worn { node, word } => Once::Worn { node, word },
             Once::Again(why) => Once::Again(why),
@@ -264,7 +248,7 @@ impl Part {
                 count,
                 behind,
             } => {
-                let seen = Part::behind(lookup.at, *behind);
+                let seen = Part::behind(&lookup.at, behind);
                 match lookup.advance(got) {
                     None => {
                         *behind = seen;
@@ -288,8 +272,78 @@ impl Part {
     }
 }
 
+impl Part {
+    ghost use Rattle.std.specs.Prelude.{◌≡◌, ℕ, Option};
+    ghost use Rattle.pm_words.specs.Turns.{AdvancesTo, GoesBelow};
+    ghost use Rattle.node_ops.specs.Calls.{IsCall};
+    ghost use Rattle.node_ops.specs.LookupSteps.{IsFoundIn, lookup_turned};
+    ghost use Rattle.node_ops.specs.PartSteps.{behind_of, part_found, part_left, part_looked, part_takes, part_turned, placed_turn};
+
+    /// Tells it in place the number that its action gave, and answers as a get of its low name does. What it lists is
+    /// read before its last turn (`listed`), so no turn has room for it.
+    pub(crate) fn advance_placed(&mut self, got: u64) -> Option<Once<Placed>>
+        requires { part_takes self.old got }
+        ensures turned { AdvancesTo (placed_turn (part_turned self.old got)) self.new result }
+        ensures fewer { GoesBelow part_left (part_left self.old) (part_turned self.old got) }
+    {
+        match self {
+            Part::Looking { .. } => self.looked(got),
+            Part::Reading { reading } => match reading.at {
+                ReadingAt::Load { slot, word } => {
+                    reading.loaded(slot, word, got);
+                    None
+                }
+                ReadingAt::Check => Some(reading.placed(got)),
+            },
+        }
+    }
+
+    /// Where it looks, it has one number more, and once it has looked it reads.
+    fn looked(&mut self, got: u64) -> Option<Once<Placed>>
+        requires { part_takes self.old got }
+        ensures turned { (lookup : Lookup) (count : ℕ) (behind : Option Next) → self.old ≡ Part.Looking lookup count behind
+            → AdvancesTo (placed_turn (part_looked lookup.call count (behind_of lookup.at behind)
+            (lookup_turned lookup got))) self.new result }
+        ensures fewer { (lookup : Lookup) (count : ℕ) (behind : Option Next) → self.old ≡ Part.Looking lookup count behind
+            → GoesBelow part_left (part_left self.old) (part_looked lookup.call count (behind_of lookup.at behind)
+            (lookup_turned lookup got)) }
+    {
+        let Part::Looking {
+            lookup,
+            count,
+            behind,
+        } = self
+        else {
+            return None;
+        };
+        let seen = Part::behind(&lookup.at, behind);
+        match lookup.advance(got) {
+            None => {
+                *behind = seen;
+                None
+            }
+            Some(Looked::Early(answer)) => Some(answer),
+            Some(Looked::Found(found)) => {
+                let (call, count) = (lookup.call, *count);
+                self.finds(call, found, seen, count);
+                None
+            }
+        }
+    }
+
+    /// It has looked its low name up.
+    fn finds(&mut self, call: Call, found: Found, behind: Option<Next>, count: u64)
+        requires call { IsCall call }
+        requires found { IsFoundIn call.limit call.view.layout.slots found }
+        ensures { self.new ≡ part_found call found behind count }
+    {
+        *self = Part::found(call, found, behind, count);
+    }
+}
+
 impl Reading {
     ghost use Rattle.std.specs.Prelude.{◌≡◌, ◌<◌, ◌≤◌, ◌↔◌, IsSome, IsTrue};
+    ghost use Rattle.node_ops.specs.PartSteps.{placed_of};
     ghost use Rattle.data_list.specs.Walks.{high_of};
     ghost use Rattle.data_node.specs.Orders.{listed};
     ghost use Rattle.node_ops.specs.PartSteps.{IsReading, after_word, lists, listed_at, listing_in, part_checked, part_words};
@@ -336,6 +390,27 @@ impl Reading {
             Once::Again(Again::Moved {
                 node: self.call.node,
                 first: self.hold.locked,
+                second: got,
+            })
+        }
+    }
+
+    /// What it comes to, as a get of its low name.
+    fn placed(&self, got: u64) -> Once<Placed>
+        requires { IsReading self.now }
+        ensures { result ≡ placed_of (part_checked self.now got) }
+    {
+        let Hold { locked, clock } = self.hold;
+        if got == locked {
+            Once::Done(Placed {
+                old: self.old,
+                place: clock,
+                hops: self.call.hops,
+            })
+        } else {
+            Once::Again(Again::Moved {
+                node: self.call.node,
+                first: locked,
                 second: got,
             })
         }

@@ -27,7 +27,7 @@ pub enum Put {
 }
 
 impl Put {
-    ghost use Rattle.std.specs.Prelude.{◌^◌, ◌≤◌, Some};
+    ghost use Rattle.std.specs.Prelude.{◌^◌, ◌≤◌, IsTrue, Some};
     ghost use Rattle.call_stages.specs.Views.{IsView};
     ghost use Rattle.node_ops.specs.declared.single_put.SinglePut.TheVariants as SinglePut;
     ghost use Rattle.node_ops.specs.Calls.{new_call};
@@ -45,6 +45,25 @@ impl Put {
             lookup: Lookup::new(Call::new(view, name, Some(limit))),
             value,
         })
+    }
+
+    /// Another put begins in its place, and writes no room of a split. One that splits its node stays as it is, and it is
+    /// told that none begins.
+    pub(crate) fn begins(&mut self, view: View, name: &Name, value: u64, limit: u64) -> bool
+        requires view { IsView view }
+        requires limit { limit ≤ 2 ^ 62 }
+        ensures new { IsTrue result →
+            self.new ≡ Put.Single (SinglePut.Looking (starts (new_call view name.now (Some limit))) value) }
+        ensures sound { IsTrue result → IsPut self.new }
+    {
+        let Put::Single(single) = self else {
+            return false;
+        };
+        *single = SinglePut::Looking {
+            lookup: Lookup::new(Call::new(view, name, Some(limit))),
+            value,
+        };
+        true
     }
 
     /// It splits its node, in a function of its own, so that no other turn clears the room of a split.

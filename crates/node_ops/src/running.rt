@@ -6,8 +6,9 @@ use crate::del::Del;
 use crate::get::Get;
 use crate::part::{Part, PartWords};
 use crate::put::Put;
-use call_stages::{Once, Placed};
+use call_stages::{Once, Placed, View};
 use cat_history::{Change, NameOp};
+use cat_key::Name;
 use pm_words::{Action, Machine, Turn};
 
 /// Any call in flight.
@@ -54,6 +55,61 @@ impl Machine for Running {
 }
 
 impl Running {
+    ghost use Rattle.std.specs.Prelude.{◌≡◌, ◌^◌, ◌≤◌, IsTrue, None, Some};
+    ghost use Rattle.call_stages.specs.Views.{IsView};
+    ghost use Rattle.node_ops.specs.declared.get.Get.TheVariants as Get;
+    ghost use Rattle.node_ops.specs.declared.put.Put.TheVariants as Put;
+    ghost use Rattle.node_ops.specs.declared.del.Del.TheVariants as Del;
+    ghost use Rattle.node_ops.specs.declared.single_put.SinglePut.TheVariants as SinglePut;
+    ghost use Rattle.node_ops.specs.declared.single_del.SingleDel.TheVariants as SingleDel;
+    ghost use Rattle.node_ops.specs.Calls.{new_call};
+    ghost use Rattle.node_ops.specs.LookupSteps.{starts};
+    ghost use Rattle.node_ops.specs.RunningSteps.{IsRunning};
+
+    /// A get begins in the place of another one. It is told whether it does: where this is no get, it doesn't.
+    pub fn begins_get(&mut self, view: View, name: &Name) -> bool
+        requires { IsView view }
+        ensures new { IsTrue result →
+            self.new ≡ Running.Getting (Get.Looking (starts (new_call view name.now None))) }
+        ensures sound { IsTrue result → IsRunning self.new }
+    {
+        let Running::Getting(get) = self else {
+            return false;
+        };
+        get.begins(view, name);
+        true
+    }
+
+    /// A put begins in the place of another one that works on one node. It is told whether it does.
+    pub fn begins_put(&mut self, view: View, name: &Name, value: u64, limit: u64) -> bool
+        requires view { IsView view }
+        requires limit { limit ≤ 2 ^ 62 }
+        ensures new { IsTrue result → self.new ≡ Running.Putting
+            (Put.Single (SinglePut.Looking (starts (new_call view name.now (Some limit))) value)) }
+        ensures sound { IsTrue result → IsRunning self.new }
+    {
+        match self {
+            Running::Putting(put) => put.begins(view, name, value, limit),
+            _ => false,
+        }
+    }
+
+    /// A delete begins in the place of another one that works on one node. It is told whether it does.
+    pub fn begins_del(&mut self, view: View, name: &Name, limit: u64) -> bool
+        requires view { IsView view }
+        requires limit { limit ≤ 2 ^ 62 }
+        ensures new { IsTrue result → self.new ≡ Running.Deleting
+            (Del.Single (SingleDel.Looking (starts (new_call view name.now (Some limit))))) }
+        ensures sound { IsTrue result → IsRunning self.new }
+    {
+        match self {
+            Running::Deleting(del) => del.begins(view, name, limit),
+            _ => false,
+        }
+    }
+}
+
+impl Running {
     ghost use Rattle.std.specs.Prelude.{◌≡◌, ◌↔◌, IsSome, IsTrue};
     ghost use Rattle.call_stages.specs.Stages.{counted, placed_in};
     ghost use Rattle.pm_words.specs.Turns.{GoesBelow};
@@ -84,10 +140,7 @@ impl Running {
         ensures turned { AdvancesTo (wrapped_part (part_turned part.old got)) (Running.Parting part.new) result }
         ensures fewer { GoesBelow running_left (part_left part.old) (wrapped_part (part_turned part.old got)) }
     {
-        match part.advance(got) {
-            None => None,
-            Some(answer) => Some(Part::placed(answer)),
-        }
+        part.advance_placed(got)
     }
 
     /// The clock at which the call is refused, if there is one.

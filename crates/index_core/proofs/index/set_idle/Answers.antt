@@ -11,8 +11,8 @@ loop-caller-preserved c =
     let old : List PartyState = c.args.states.now.items in
     let within : i < length old = omega (arith, c.loop-caller-test.true, c.len-caller-end.ensures, c.args.states.now.ok) in
     record {
-      long = length-set c.loop-caller.states.items i c.idle.result ∙ c.loop-caller.invariant.long;
-      idle = (λ k. set (c.loop-caller.invariant.idle k) i (c.idle.ensures k)) ∙ idle_more old i within;
+      long = length-set c.loop-caller.states.items i c.begins_anew.new.self ∙ c.loop-caller.invariant.long;
+      idle = (λ k. set (c.loop-caller.invariant.idle k) i (c.begins_anew.ensures k)) ∙ idle_more old i within;
     }
 
 pub returns : goal.returns

@@ -66,16 +66,16 @@ action-action-requires g c =
     let at = reads s c.args.self.now i flies c.index.result.now c.running-machine.result.now (ap (λ (v : Index). v.states) c.self.view_is) c.self.invariant.0 c.index.ensures c.running-machine.ensures in
     subst IsRunning (sym at.same) at.facts.fits
 
-pub counted_by-counts-requires-clause-fits : goal.counted_by-counts-requires-clause-fits
-counted_by-counts-requires-clause-fits g c =
+pub count-requires-clause-fits : goal.count-requires-clause-fits
+count-requires-clause-fits g c =
     let s = index_with c.self.inside 0 in
     let i = c.args.party in
     let flies = c.requires.flies in
     let at = reads s c.args.self.now i flies c.index.result.now c.running-machine.result.now (ap (λ (v : Index). v.states) c.self.view_is) c.self.invariant.0 c.index.ensures c.running-machine.ensures in
     subst IsRunning (sym at.same) at.facts.fits
 
-pub counted_by-counts-requires-clause-adds : goal.counted_by-counts-requires-clause-adds
-counted_by-counts-requires-clause-adds g c =
+pub count-requires-clause-adds : goal.count-requires-clause-adds
+count-requires-clause-adds g c =
     let s = index_with c.self.inside 0 in
     let i = c.args.party in
     let flies = c.requires.flies in
@@ -92,15 +92,15 @@ act-got-requires g c =
     let at = reads s c.args.self.now i flies c.index.result.now c.running-machine.result.now (ap (λ (v : Index). v.states) c.self.view_is) c.self.invariant.0 c.index.ensures c.running-machine.ensures in
     subst (CanAct s.layout s.words) (sym (c.action-action.ensures ∙ ap running_asks at.same)) at.facts.can
 
-pub count-requires : goal.count-requires
-count-requires g c =
+pub count-requires-clause-room : goal.count-requires-clause-room
+count-requires-clause-room g c =
     let s = index_with c.self.inside 0 in
     let i = c.args.party in
     let flies = c.requires.flies in
     let e = flies.state in
     let m = flies.machine in
     let at = reads s c.args.self.now i flies c.index.result.now c.running-machine.result.now (ap (λ (v : Index). v.states) c.self.view_is) c.self.invariant.0 c.index.ensures c.running-machine.ensures in
-    count_room s i e c.index.result.now m c.counted_by-counts.result _ _ at.there flies.flies at.read (c.counted_by-counts.ensures ∙ ap (λ (n : Running). counted (stage_of n)) at.same) c.self.invariant.1
+    count_room s i e c.index.result.now m (counted (stage_of c.running-machine.result.now)) _ _ at.there flies.flies at.read (ap (λ (n : Running). counted (stage_of n)) at.same) c.self.invariant.1
 
 pub advance-requires : goal.advance-requires
 advance-requires g c =
@@ -149,9 +149,9 @@ answers_at g c =
 leaves_at : (g : _) (c : goal.After-self-1 g) → Leaves (index_with c.self.inside 0) c.args.party c.requires.flies.state c.requires.flies.machine c.act-got.new.self (running_turned c.running-machine.result.now c.act-got.result) c.advance.new.self
     c.count.new.history.items c.self.inside.history.len c.self.inside.history.cap c.count.new.history.len c.count.new.history.cap
 leaves_at g c =
-    leaves (index_with c.self.inside 0) c.args.party c.requires.flies.state c.index.result.now c.requires.flies.machine c.running-machine.result.now (reads_at g c) c.requires.flies.flies c.action-action.result c.act-got.new.self c.act-got.result (running_turned c.running-machine.result.now c.act-got.result) c.advance.new.self c.counted_by-counts.result
+    leaves (index_with c.self.inside 0) c.args.party c.requires.flies.state c.index.result.now c.requires.flies.machine c.running-machine.result.now (reads_at g c) c.requires.flies.flies c.action-action.result c.act-got.new.self c.act-got.result (running_turned c.running-machine.result.now c.act-got.result) c.advance.new.self (counted (stage_of c.running-machine.result.now))
     c.count.new.history.items c.self.inside.history.len c.self.inside.history.cap c.count.new.history.len c.count.new.history.cap c.action-action.ensures c.act-got.ensures.row c.act-got.ensures.got refl
-    (goes_at g c) c.counted_by-counts.ensures c.count.ensures.items c.self.inside.history.ok.0 c.count.new.history.ok.0 c.count.ensures.room c.self.invariant.1
+    (goes_at g c) refl c.count.ensures.items c.self.inside.history.ok.0 c.count.new.history.ok.0 c.count.ensures.room c.self.invariant.1
 
 pub invariant_of-self : goal.invariant_of-self
 invariant_of-self g c =
