@@ -50,7 +50,8 @@ use Rattle.core_rounds.specs.CoreMaps.{IsCoreMap}
 use Rattle.core_rounds.specs.Rounds.{IsLoneCrash}
 use Rattle.core_rounds.specs.Waiting.{puts_among}
 use Rattle.core_rounds.proofs.CoreMaps.{core_light, core_shape, opened_is_map}
-use Rattle.core_crashes.specs.CrashMaps.{MakeNoTurns, Stoppable, anchors_by, members_by, members_of, most_between, most_events, state_of, weighs_of}
+use Rattle.core_rounds.specs.CrashWork.{most_events}
+use Rattle.core_crashes.specs.CrashMaps.{MakeNoTurns, Stoppable, anchors_by, members_by, members_of, most_between, state_of, weighs_of}
 use Rattle.core_crashes.specs.Power.{IsBehindCrash}
 use Rattle.core_crashes.specs.Rounds.{IsPlayedLoneCrash}
 use Rattle.core_crashes.specs.Stops.{StopsOn}

@@ -59,7 +59,8 @@ use Rattle.core_rounds.specs.Waiting.{one_if, one_put, one_write, puts_among, wr
 use Rattle.core_rounds.proofs.CoreMaps.{all_many, locks_remain, none_many}
 use Rattle.core_rounds.proofs.Waiting.{needs_none, waits_full, waits_placed}
 use Rattle.std.proofs.lemmas.Bool.{eq-eqb, ne_eqb}
-use Rattle.core_crashes.specs.CrashMaps.{FindRoom, Gave, MakeNoTurns, Stoppable, anchors_left, calls_of, members_of, most_events}
+use Rattle.core_rounds.specs.CrashWork.{most_events}
+use Rattle.core_crashes.specs.CrashMaps.{FindRoom, Gave, MakeNoTurns, Stoppable, anchors_left, calls_of, members_of}
 
 -- ---- the calls, counted
 
@@ -109,7 +110,7 @@ changes_few s (call.Part low count) unlimited = absurd unlimited
 changes_few s (call.Recheck node version) unlimited = absurd unlimited
 changes_few s (call.Turn stamp release) unlimited = absurd unlimited
 
-few_events : (s : Index) (c : CoreCall) → IsIndex s → IsUnlimited c → ready_lines (world s) ≤ 8 → most_actions s.layout c (ready_lines (world s)) ≤ 70000
+few_events : (s : Index) (c : CoreCall) → IsIndex s → IsUnlimited c → ready_lines (world s) ≤ 8 → most_actions s.layout c (ready_lines (world s)) ≤ most_events
 few_events s (call.Put name value limit) is unlimited few = let most = actions_are_few s.layout (call.Put name value limit) (ready_lines (world s)) is.lawful.row.layout in omega (arith, few, most)
 few_events s (call.Get name) is unlimited few = let most = actions_are_few s.layout (call.Get name) (ready_lines (world s)) is.lawful.row.layout in omega (arith, few, most)
 few_events s (call.Del name limit) is unlimited few = let most = actions_are_few s.layout (call.Del name limit) (ready_lines (world s)) is.lawful.row.layout in omega (arith, few, most)
@@ -131,7 +132,7 @@ module _ (s : Index) (caller : ℕ) (c : CoreCall) (a : CallerOp) (rest : List C
   needs : NeedsNoTurn caller c s
   needs = needs_none caller s c m.changes (writes_among rest) (puts_among rest) here is still.calls left waits
 
-  few : most_actions s.layout c (ready_lines (world s)) ≤ 70000
+  few : most_actions s.layout c (ready_lines (world s)) ≤ most_events
   few = let ready = m.waits.ready in let small = m.few in few_events s c is unlimited (omega (arith, ready, small))
 
   -- it is cut off only with little

@@ -86,10 +86,6 @@ pub record MakeNoTurns (s : Index) (asked : List CallerOp) : Type 0 where
   pub few : changes + writes_among asked ≤ 8
   pub waits : Waits s changes (writes_among asked) (puts_among asked)
 
--- Then a call on a name makes so many events at most, on the largest layout.
-abbrev pub most_events : ℕ
-most_events = 70000
-
 -- So it is where no call was cut off. A turn of the updater may have been.
 pub record IsTurnless (m : Stoppable) (asked : List CallerOp) : Type 0 where
   pub going : m.stopped ≡ false

@@ -18,7 +18,8 @@ use Rattle.recovery.specs.Opened.{IsOpenedFrom}
 use Rattle.stopped_rounds.specs.InTime.{AreInTime, AreOnNames, HasNoTurns, HasTimelyTurns}
 use Rattle.core_rounds.specs.Rounds.{IsCrashedRound, IsLoneCrash}
 use Rattle.core_rounds.specs.Waiting.{puts_among}
-use Rattle.core_crashes.specs.CrashMaps.{MakeNoTurns, most_between, most_events}
+use Rattle.core_rounds.specs.CrashWork.{most_events}
+use Rattle.core_crashes.specs.CrashMaps.{MakeNoTurns, most_between}
 
 -- A round of one caller was played on the map of this core up to its crash, and reported; and the image was opened that
 -- the crash left. That has the map which is reported found, and a shape that the weight and the names before the round

@@ -14,7 +14,8 @@ use Rattle.stopped_rounds.specs.Replies.{SettlesToReport}
 use Rattle.stopped_rounds.specs.Stops.{HasStopped}
 use Rattle.stopped_rounds.specs.declared.crash_round.StoppedRound.{StoppedRound}
 use Rattle.core_rounds.specs.Waiting.{puts_among}
-use Rattle.core_crashes.specs.CrashMaps.{MakeNoTurns, most_between, most_events}
+use Rattle.core_rounds.specs.CrashWork.{most_events}
+use Rattle.core_crashes.specs.CrashMaps.{MakeNoTurns, most_between}
 
 -- The round stopped within the budgets of its caller and of the updater, and its index is as the calls left it and what
 -- was cut off. A report can tell of its records once their marks are settled.

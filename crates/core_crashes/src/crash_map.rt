@@ -9,7 +9,8 @@ ghost use Rattle.shapes.specs.Anchors.{next_of};
 ghost use Rattle.cat_history.specs.declared.op.CallerOp.{CallerOp};
 ghost use Rattle.stopped_rounds.specs.Bounded.{ComesTo, IsInTime, IsSame};
 ghost use Rattle.core_rounds.specs.CoreMaps.{IsOfRun, IsUnlimited};
-ghost use Rattle.core_crashes.specs.CrashMaps.{FindRoom, Gave, IsTurnless, WasCutBy, added_within, most_events};
+ghost use Rattle.core_rounds.specs.CrashWork.{most_events};
+ghost use Rattle.core_crashes.specs.CrashMaps.{FindRoom, Gave, IsTurnless, WasCutBy, added_within};
 ghost use Rattle.index_core.specs.Fulls.{HasLowStamps};
 ghost use Rattle.index_core.specs.Lone.{IsQuiet};
 ghost use Rattle.index_law.specs.Anchors.{anchors_in};
@@ -198,7 +199,8 @@ impl<L: Ledger, K: CrashRun> CrashMap<L, K> {
 
 impl<L: Ledger, K: CrashRun> BoundedMap for CrashMap<L, K> {
     ghost use Rattle.index_core.specs.Costs.{turn_actions};
-    ghost use Rattle.core_crashes.specs.CrashMaps.{FindRoom, IsTurnless, calls_of, most_between, most_events, state_of};
+    ghost use Rattle.core_rounds.specs.CrashWork.{most_events};
+    ghost use Rattle.core_crashes.specs.CrashMaps.{FindRoom, IsTurnless, calls_of, most_between, state_of};
     ghost use Rattle.core_crashes.specs.CrashMaps.{weighs_of, writes_of};
 
     ghost state = { state_of K.anchors };

@@ -2,7 +2,6 @@ pub mod CallCounts
 pub mod CoreMaps
 pub mod CrashWork
 pub mod LoneRoundSteps
-pub mod OpenedCores
 pub mod Played
 pub mod Restarting
 pub mod RoundTurns

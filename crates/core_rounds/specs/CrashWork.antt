@@ -22,12 +22,16 @@ pub record IsTurnlessRound (nodes members caller : ℕ) (plan : RoundPlan) : Typ
   pub room : members + puts_among plan.ops < nodes
   pub none : HasNoTurns plan
 
+-- Without a turn a call on a name makes so many events at most, on the largest layout.
+abbrev pub most_events : ℕ
+most_events = 70000
+
 -- Where a crash ends such a round, each call is answered for which, and for each one before it, its caller's budget has
--- 70,000 events.
+-- as many events.
 abbrev pub IsAnsweredInTime : ℕ → ℕ → RoundPlan → List Record → Type 0
 IsAnsweredInTime nodes members plan records = (crash : CrashPlan) (caller budget : ℕ) → plan.crash ≡ Some crash →
     slice_get crash.budgets caller ≡ Some budget → IsTurnlessRound nodes members caller plan →
-    AreInTime 70000 budget records
+    AreInTime most_events budget records
 
 -- Rounds of these plans were reported so, one after another, and in each one that begins on an index just opened calls
 -- are answered in time. The first one may begin so, and then it has so many members. A later one does where the index

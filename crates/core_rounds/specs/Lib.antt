@@ -1,7 +1,6 @@
 pub mod LoneCalls
 pub mod Rounds
 pub mod CoreMaps
-pub mod Openings
 pub mod Summaries
 pub mod Waiting
 pub mod CrashWork

@@ -3,20 +3,17 @@
 //!
 //! `CoreMap` is the index as a map of names, each call of which is a whole call of its caller with no other in flight. A
 //! round of one caller is its calls, answered in their order, with turns of the updater among them; such rounds are played
-//! one after another, each joined at its end. A core is opened for them, of a fresh image or of its own, and a round is
-//! summed up.
+//! one after another, each joined at its end. A round is summed up.
 #![tactic(auto)]
 
 mod core_map;
 pub mod laws;
-mod opening;
 mod playing;
 mod round;
 mod summary;
 mod updated_map;
 
 pub use core_map::{CoreMap, RunOf, image_of};
-pub use opening::{open_fresh, reopen};
 pub use playing::{LoneRounds, calls_in, has_restart, is_crowd, play_lone, restarts};
 pub use round::run_lone_round;
 pub use summary::summarize;

@@ -33,7 +33,7 @@ use Rattle.recovery.specs.Opened.{IsOpenedFrom, IsOpenFault}
 use Rattle.recovery.specs.declared.opening.OpenFault.{OpenFault}
 use Rattle.recovery.specs.declared.opening.OpenFault.TheVariants as opening
 use Rattle.core_rounds.specs.LoneCalls.{AreReportCalls}
-use Rattle.core_rounds.specs.Openings.{IsReopened}
+use Rattle.recovery.specs.Cores.{IsReopened}
 use Rattle.core_rounds.specs.Rounds.{IsCrashedRound}
 use Rattle.core_rounds.proofs.CoreMaps.{opened_is_map}
 use Rattle.thread_rounds.specs.Played.{IsToldOnceSettled}

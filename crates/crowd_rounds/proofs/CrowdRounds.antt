@@ -17,7 +17,7 @@ use Rattle.index_core.specs.Indexes.{Index, map_of_index, world}
 use Rattle.index_core.specs.Rounds.{BeginsRound}
 use Rattle.index_core.specs.Weights.{weight_of}
 use Rattle.core_rounds.specs.LoneCalls.{AreReportCalls}
-use Rattle.core_rounds.specs.Openings.{IsReopened}
+use Rattle.recovery.specs.Cores.{IsReopened}
 use Rattle.core_rounds.specs.Rounds.{IsCrowdRound}
 use Rattle.core_rounds.proofs.CoreMaps.{opened_is_map}
 use Rattle.thread_rounds.specs.RunRounds.{IsRunRound}

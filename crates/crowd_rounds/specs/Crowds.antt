@@ -17,7 +17,7 @@ use Rattle.index_core.specs.CrashLaws.{chosen_index, crash_image}
 use Rattle.index_core.specs.Indexes.{Index, IsIndex, map_of_index, world}
 use Rattle.index_core.specs.Weights.{weight_of}
 use Rattle.recovery.specs.Opened.{IsOpenedFrom}
-use Rattle.core_rounds.specs.Openings.{IsReopened}
+use Rattle.recovery.specs.Cores.{IsReopened}
 use Rattle.core_rounds.specs.Rounds.{IsCrashedRound, IsCrowdRound}
 
 -- A round of several callers was played on the map of this core, with these writes, and reported; and the image was

@@ -12,11 +12,10 @@ ghost use Rattle.crowd_rounds.specs.Crowds.{IsPlayedAs, IsReportedBehind, IsRepo
 
 use cat_history::{NoMemory, Records, RoundPlan, settle};
 use cat_text::RoundReport;
-use core_rounds::reopen;
 use index_core::Core;
 use pac_index::Gate;
 use pm_words::Image;
-use recovery::{OpenFault, recover};
+use recovery::{OpenFault, recover, reopen};
 use std::alloc::Global;
 use std::sync::Wait;
 use std::thread::Threads;

@@ -3,3 +3,4 @@ pub mod Orders
 pub mod Opened
 pub mod Crashed
 pub mod Breaks
+pub mod OpenedCores

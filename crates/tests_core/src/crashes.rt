@@ -7,11 +7,11 @@ use super::beside::{End, Going, go, start, tells};
 use super::calls::{Asked, MANY, NAMES, Scene, begin, made, map_of, name_of, run};
 use super::drawn::{below, draws_of, write};
 use cat_key::Name;
+use image_layer_rules::first_broken_of_all;
+use image_rules::number_in;
 use index_core::{Core, CoreCall, Crashed, CutCall, Cuts};
 use pm_words::Image;
 use recovery::recover;
-use image_rules::number_in;
-use image_layer_rules::first_broken_of_all;
 use std::alloc::Global;
 use std::test::Fail;
 

@@ -4,11 +4,11 @@ ghost use Rattle.std.specs.Prelude.{◌≡◌, IfSome};
 ghost use Rattle.index_core.specs.Lone.{IsQuiet};
 
 use super::calls::{Asked, Scene, alone, made, name_of};
+use image_layer_rules::first_broken_of_all;
 use index_core::Core;
 use pm_words::offsets::header;
 use pm_words::{Image, ImageFault, Layout};
 use recovery::{OpenFault, recover};
-use image_layer_rules::first_broken_of_all;
 use std::alloc::Global;
 use std::test::Fail;
 

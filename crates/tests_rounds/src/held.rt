@@ -6,9 +6,9 @@ ghost use Rattle.thread_rounds.specs.RunRounds.{IsJoinedAnd};
 
 use cat_history::{CallerOp, Items, Op, RoundPlan};
 use cat_key::Name;
-use core_rounds::open_fresh;
 use pac_index::Gate;
 use pm_words::Layout;
+use recovery::open_fresh;
 use std::alloc::Global;
 use std::sync::atomic::{AtomicBool, AtomicU64, Ordering};
 use std::test::Fail;

@@ -8,9 +8,9 @@ ghost use Rattle.pac_index.specs.Callers.{HasCallers, IsCallerOf};
 use crate::meeting::{fresh, put_back, take_last};
 use crate::playing::LIMIT;
 use cat_key::Name;
+use image_rules::number_in;
 use pac_index::{Caller, CutCall, Shared, Tried};
 use pm_words::{Layout, NoMemory};
-use image_rules::number_in;
 use std::alloc::Global;
 use std::test::Fail;
 

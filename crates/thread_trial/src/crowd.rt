@@ -7,10 +7,10 @@ ghost use Rattle.pac_index.specs.Callers.{IsCallerOf, HasCallers};
 
 use crate::calls::{LIMIT, Mix, is_put, name_of};
 use call_stages::Once;
-use core_rounds::open_fresh;
 use index_core::Core;
 use pac_index::{Caller, Shared, Tried, have_steps};
 use pm_words::{Layout, NoMemory};
+use recovery::open_fresh;
 use std::alloc::Global;
 use std::thread::{Threads, map_vec, yield_now};
 

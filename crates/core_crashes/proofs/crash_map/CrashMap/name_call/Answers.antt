@@ -10,7 +10,8 @@ use Rattle.index_core.specs.Lone.{whole_of}
 use Rattle.stopped_rounds.specs.Bounded.{ComesTo}
 use Rattle.core_rounds.specs.CoreMaps.{calls_left_of}
 use Rattle.core_rounds.proofs.CoreMaps.{goes_through, same_run, writes_fall}
-use Rattle.core_crashes.specs.CrashMaps.{FindRoom, Gave, IsTurnless, Stoppable, WasCutBy, added_within, calls_of, most_events, state_of, weighs_of, writes_of}
+use Rattle.core_rounds.specs.CrashWork.{most_events}
+use Rattle.core_crashes.specs.CrashMaps.{FindRoom, Gave, IsTurnless, Stoppable, WasCutBy, added_within, calls_of, state_of, weighs_of, writes_of}
 use Rattle.core_crashes.proofs.CrashMaps.{few_calls, calls_are, calls_fall, cut_name, cut_weighs, gave, gave_weighs, goes, no_calls, some_calls, writes_are, writes_now}
 use Rattle.std.proofs.lemmas.Bool.{false≢true}
 use Rattle.pm_words.specs.declared.layout.Layout.{Layout}

@@ -1,5 +1,5 @@
-use Rattle.core_rounds.proofs.OpenedCores.{only-memory, reopens}
-use Rattle.core_rounds.proofs.opening.reopen.Goals as goal
+use Rattle.recovery.proofs.OpenedCores.{only-memory, reopens}
+use Rattle.recovery.proofs.cores.reopen.Goals as goal
 
 pub no_memory-requires : goal.no_memory-requires
 no_memory-requires c = only-memory c.args.core c.in_ok-image.image c.in-Err.fault c.in_ok-image.ensures.words c.in_ok-image.ensures.rest c.requires.next c.in-Err.ensures

@@ -10,12 +10,11 @@ ghost use Rattle.index_core.specs.Lone.{IsQuiet};
 ghost use Rattle.index_core.specs.Weights.{weight_of};
 ghost use Rattle.recovery.specs.Opened.{IsOpenedFrom};
 ghost use Rattle.recovery.specs.declared.opening.OpenFault.TheVariants.{NoMemory as OutOfMemory};
-ghost use Rattle.core_rounds.specs.Openings.{IsReopened, fresh_image};
+ghost use Rattle.recovery.specs.Cores.{IsReopened, fresh_image};
 
-use cat_history::NoMemory;
+use crate::opening::{OpenFault, recover};
 use index_core::Core;
-use pm_words::{Image, Layout};
-use recovery::{OpenFault, recover};
+use pm_words::{Image, Layout, NoMemory};
 use std::alloc::Global;
 
 /// The core of a catalogue without names: a fresh image, opened in the second generation. Its one member weighs half as

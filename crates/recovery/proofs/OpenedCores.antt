@@ -14,7 +14,6 @@ use Rattle.data_node.specs.Lists.{next_offset}
 use Rattle.data_node.proofs.ListLemmas.{chain_is}
 use Rattle.image_rules.specs.Nodes.{image_list, image_spot}
 use Rattle.image_rules.specs.Rules.{header_generation}
-use Rattle.image_rules.specs.Sound.{image_map}
 use Rattle.image_rules.proofs.FreshLemmas.{fresh_is_sound}
 use Rattle.image_rules.proofs.MapLemmas.{has_one_map}
 use Rattle.image_rules.proofs.WordLemmas.{image_spot-here}
@@ -33,8 +32,7 @@ use Rattle.index_image_law.specs.Rest.{IsRestImage, cached_image}
 use Rattle.recovery.specs.Opened.{IsOpenedFrom, IsOpenFault}
 use Rattle.recovery.specs.declared.opening.OpenFault.{OpenFault}
 use Rattle.recovery.specs.declared.opening.OpenFault.TheVariants as opening
-use Rattle.core_rounds.specs.Openings.{IsReopened, fresh_image}
-use Rattle.core_rounds.proofs.CoreMaps.{opened_is_map}
+use Rattle.recovery.specs.Cores.{IsReopened, fresh_image}
 
 -- ---- fresh images
 
@@ -52,8 +50,7 @@ fresh_is_opened l opening.NoMemory layout is = refl
 -- it has no names,
 pub fresh_contents : (l : Layout) (s : Index) → IsLayout l → IsOpenedFrom (fresh_image l) s → map_of_index s ≡ empty
 fresh_contents l s layout is =
-    let opened = opened_is_map (fresh_image l) s is in
-    opened.contents ∙ has_one_map l (fresh_words l) (image_map l (fresh_words l)) empty opened.keeps (fresh_is_sound l layout).1
+    ap (after_all (map_of s.base)) is.history ∙ has_one_map l (fresh_words l) (map_of s.base) empty is.keeps (fresh_is_sound l layout).1
 
 -- one member,
 fresh_list : (l : Layout) → IsLayout l → image_list l (fresh_words l) ≡ []

@@ -1,9 +1,9 @@
 use Rattle.std.proofs.Common.{subst}
 use Rattle.pm_words.specs.Images.{Row}
 use Rattle.recovery.specs.Opened.{IsOpenedFrom, IsOpenFault}
-use Rattle.core_rounds.specs.Openings.{fresh_image}
-use Rattle.core_rounds.proofs.OpenedCores.{fresh_anchors, fresh_contents, fresh_is_opened, fresh_next, fresh_weighs}
-use Rattle.core_rounds.proofs.opening.open_fresh.Goals as goal
+use Rattle.recovery.specs.Cores.{fresh_image}
+use Rattle.recovery.proofs.OpenedCores.{fresh_anchors, fresh_contents, fresh_is_opened, fresh_next, fresh_weighs}
+use Rattle.recovery.proofs.cores.open_fresh.Goals as goal
 
 pub no_memory-requires : goal.no_memory-requires
 no_memory-requires c = fresh_is_opened c.args.layout c.in-Err.fault c.requires (subst (λ (i : Row). IsOpenFault i c.in-Err.fault) c.in_ok-image.ensures c.in-Err.ensures)
