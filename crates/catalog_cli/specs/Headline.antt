@@ -364,7 +364,8 @@ FinishesOnFile words told writes writes' answer = (files : FileMap) → told.fil
 -- What a run of a command comes to that ended with this answer: what it leaves of the sink and of the shelf, and why it
 -- ended so; and which answer comes where nothing fails: a script that is refused is told so, one that is accepted is
 -- played, and so is a generated round, and a command on a file is done where that can be, and else says why not.
-pub record IsRunOf (words : List (List ℕ)) (told : Seen) (written written' : Option (List ℕ)) (writes writes' : ℕ) (answer : Status) : Type 0 where
+pub record IsRunOf (words : List (List ℕ)) (told : Seen) (written written' : Option (List ℕ)) (writes writes' : ℕ)
+    (answer : Status) : Type 0 where
   pub sink : LeavesSink words told answer written written'
   pub files : LeavesShelf words told answer
   pub cause : IsCauseOf words told writes writes' answer
