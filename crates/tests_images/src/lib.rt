@@ -12,3 +12,5 @@ mod pairs;
 mod recoveries;
 #[cfg(test)]
 mod rules;
+#[cfg(test)]
+mod trees;

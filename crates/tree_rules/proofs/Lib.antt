@@ -1,0 +1,14 @@
+pub mod FormLemmas
+pub mod ReadLemmas
+pub mod HeadLemmas
+pub mod WrongLemmas
+pub mod WalkLemmas
+pub mod RightLemmas
+pub mod CountLemmas
+pub mod CoverLaw
+pub mod ListedLemmas
+pub mod StrayLemmas
+pub mod LookLemmas
+pub mod CoverLemmas
+pub mod FirstOfAll
+pub mod VisitLaw

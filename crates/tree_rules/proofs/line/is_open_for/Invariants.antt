@@ -1,0 +1,11 @@
+use Rattle.std.proofs.Common.{◌≡◌, ◌≢◌}
+use Rattle.search_layer.specs.Keys.{key_of, key_number}
+use Rattle.image_rules.specs.Rules.{line_spot}
+use Rattle.image_rules.proofs.LowestLemmas.{NoneBelow}
+use Rattle.tree_rules.proofs.line.is_open_for.Given as goal
+
+-- no line that the loop has passed exempts the key
+abbrev pub invariant-loop-line : goal.invariant-loop-line
+invariant-loop-line l =
+    let word = line_spot l.image.layout l.image.words in
+    NoneBelow (λ line. (word line 0 ≢ 0) × (key_of (word line 3) (word line 4) (word line 5) ≡ key_number l.key)) l.line

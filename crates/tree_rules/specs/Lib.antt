@@ -1,0 +1,11 @@
+pub mod Heads
+pub mod Faults
+pub mod Forms
+pub mod Branches
+pub mod Checks
+pub mod Counts
+pub mod Rules
+pub mod Laws
+pub mod Marks
+pub mod Covers
+pub mod Visits
