@@ -9,6 +9,7 @@ use Rattle.pm_words.specs.declared.again.Again.TheVariants as again
 use Rattle.pm_words.specs.declared.layout.Layout.{Layout}
 use Rattle.pm_words.specs.Codes.{free_status, live_status, gone_status}
 use Rattle.pm_words.specs.Locations.{address_of, node_words, Cached, Node, Clock, Volatile}
+use Rattle.pm_words.specs.Offsets.{prev_offset, status_offset}
 use Rattle.version_lock.specs.Versions.{generation_of, kept_count, locked_word, IsFree, IsWorn}
 use Rattle.cat_key.specs.Names.{IsName}
 use Rattle.cat_history.specs.Maps.{Map, at}
@@ -39,10 +40,10 @@ version_address l n = word_address l n 0
 
 -- The addresses of a node's status and of its prev.
 abbrev pub status_address : Layout → ℕ → ℕ
-status_address l n = address_of l (Volatile n 0)
+status_address l n = address_of l (Volatile n status_offset)
 
 abbrev pub prev_address : Layout → ℕ → ℕ
-prev_address l n = address_of l (Volatile n 1)
+prev_address l n = address_of l (Volatile n prev_offset)
 
 -- The node and the offset are of this layout; an offset of 0 is the version word, which a store under the lock spares.
 abbrev pub HasWordAt : Layout → ℕ → ℕ → Type 0

@@ -16,6 +16,7 @@ use crate::line::{Line, LineFault, Reason};
 use crate::number::{number_up_to, read_number};
 use cat_history::{CrashPlan, Items, Op};
 use cat_key::Name;
+use pm_words::MOST_WRITES;
 use std::alloc::Global;
 
 /// The greatest number of a caller.
@@ -23,9 +24,6 @@ const MOST_CALLER: u64 = 15;
 
 /// The longest pause between turns of the updater, in calls.
 const MOST_TURNS: u64 = 100_000;
-
-/// The greatest limit on writes.
-const MOST_LIMIT: u64 = 1 << 62;
 
 /// The greatest budget.
 const MOST_BUDGET: u64 = 1_000_000;
@@ -63,7 +61,7 @@ fn read_limit(rest: &[u8]) -> Result<Line, Reason>
     let Some(word) = only_word(rest) else {
         return Err(Reason::Words);
     };
-    let Some(limit) = number_up_to(word, MOST_LIMIT) else {
+    let Some(limit) = number_up_to(word, MOST_WRITES) else {
         return Err(Reason::Number);
     };
     Ok(Line::Limit { limit })

@@ -4,9 +4,10 @@ ghost use Rattle.std.specs.Prelude.{◌≡◌, ℕ, ◌+◌, ◌*◌, ◌/◌, �
 ghost use Rattle.cat_script.specs.Generators.{number_after, next_number, drawn, generated_name, chosen_op};
 ghost use Rattle.cat_script.specs.Generators.{generated_call, generated_calls, generated_plan};
 
-use crate::grouping::{FIRST_LIMIT, FIRST_TURNS};
+use crate::grouping::FIRST_TURNS;
 use cat_history::{CallerOp, Items, NoMemory, Op, RoundPlan};
 use cat_key::Name;
+use pm_words::MOST_WRITES;
 use std::alloc::Global;
 
 /// How many names a scan asks for.
@@ -35,7 +36,7 @@ pub fn generated(alloc: Global, seed: u64, count: u64, callers: u64) -> Result<R
     Ok(RoundPlan {
         ops: Items::of(ops),
         updater: FIRST_TURNS,
-        limit: FIRST_LIMIT,
+        limit: MOST_WRITES,
         crash: None,
     })
 }

@@ -10,14 +10,12 @@ ghost use Rattle.cat_script.specs.declared.line.Line.{Line};
 
 use crate::line::Line;
 use cat_history::{CallerOp, CrashPlan, Items, NoMemory, Op, RoundPlan};
+use pm_words::MOST_WRITES;
 use std::alloc::Global;
 use std::mem;
 
 /// The updater's turns before a script sets them: one after each so many calls.
 pub(crate) const FIRST_TURNS: u64 = 64;
-
-/// The limit on writes before a script sets it.
-pub(crate) const FIRST_LIMIT: u64 = 1 << 62;
 
 /// The rounds that lines ended, and what the next one is asked so far.
 #[derive(Drop)]
@@ -37,7 +35,7 @@ impl Grouping {
             ended: Vec::new(alloc),
             ops: Vec::new(alloc),
             updater: FIRST_TURNS,
-            limit: FIRST_LIMIT,
+            limit: MOST_WRITES,
         }
     }
 

@@ -16,9 +16,10 @@ use Rattle.version_lock.specs.Versions.{IsGeneration}
 use Rattle.index_law.specs.Anchors.{anchors_in, image_anchors}
 use Rattle.index_core.specs.Indexes.{Index, map_of_index, world}
 use Rattle.index_core.specs.Weights.{weight_of}
-use Rattle.recovery.specs.Opened.{IsOpenedFrom, IsOpenFault}
-use Rattle.recovery.specs.declared.opening.OpenFault.{OpenFault}
-use Rattle.recovery.specs.declared.opening.OpenFault.TheVariants as opening
+use Rattle.image_recovery.specs.Recovered.{IsOpenFault}
+use Rattle.recovery.specs.Opened.{IsOpenedFrom}
+use Rattle.image_recovery.specs.declared.recovering.OpenFault.{OpenFault}
+use Rattle.image_recovery.specs.declared.recovering.OpenFault.TheVariants as opening
 use Rattle.core_rounds.specs.CoreMaps.{HasNoLines, ImageWaits, IsImageOf, Waits}
 use Rattle.core_rounds.specs.CrashWork.{CrashRoundsWork}
 use Rattle.core_rounds.specs.LoneCalls.{AreJoined, AreLoneRounds, restarts}

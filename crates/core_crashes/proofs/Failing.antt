@@ -6,7 +6,9 @@ use Rattle.pm_words.specs.Rows.{durable_row}
 use Rattle.cat_history.specs.Maps.{Map, map_of}
 use Rattle.cat_history.specs.Writes.{after_all}
 use Rattle.cat_history.specs.CrashEnds.{IsCrashEnd}
+use Rattle.image_rules.specs.Rules.{header_generation}
 use Rattle.image_rules.proofs.MapLemmas.{has_one_map}
+use Rattle.image_layer_rules.specs.Sound.{IsSoundByAll}
 use Rattle.index_core.specs.declared.party.PartyState.{PartyState}
 use Rattle.index_core.specs.Crashes.{IsCrash, cut_changes}
 use Rattle.index_core.specs.CrashLaws.{chosen_index, crash_image}
@@ -14,9 +16,7 @@ use Rattle.index_law.specs.Weights.{weight_sum}
 use Rattle.index_core.specs.Indexes.{Index, IsIndex, map_of_index, world}
 use Rattle.index_core.proofs.CrashLaws.{chosen_weighs, crash_keeps_generation}
 use Rattle.core_rounds.proofs.CoreMaps.{opened_is_map}
-use Rattle.recovery.specs.Opened.{IsOpenedFrom, IsOpenFault}
-use Rattle.recovery.specs.declared.opening.OpenFault.{OpenFault}
-use Rattle.recovery.specs.declared.opening.OpenFault.TheVariants as opening
+use Rattle.recovery.specs.Opened.{IsOpenedFrom}
 use Rattle.core_crashes.specs.Power.{IsBehindCrash}
 
 module _ (s there : Index) (seed : ℕ) (is : there ≡ chosen_index s seed) (index : IsIndex there) (image : Row) (cuts : List PartyState) (crash : IsCrash there image cuts) where
@@ -41,10 +41,11 @@ module _ (s there : Index) (seed : ℕ) (is : there ≡ chosen_index s seed) (in
             omega (arith, opens, light, chosen);
       }
 
-  pub only_memory : (fault : OpenFault) → IsGeneration (suc s.generation) → IsOpenFault image fault → fault ≡ opening.NoMemory
-  only_memory fault next fault_of = by fault (subst (λ (i : Row). IsOpenFault i fault) crash.leaves fault_of)
-    where
-      by : (f : OpenFault) → IsOpenFault (crash_image there) f → f ≡ opening.NoMemory
-      by (opening.Damaged rule word) broken = let lowest = broken.first.1.lowest.0 in absurd (crash.sound rule broken.first.0 lowest.word lowest.holds)
-      by opening.Generations late = absurd (late.1 (subst (λ (n : ℕ). IsGeneration (suc n)) (sym (crash_keeps_generation there index ∙ run_is)) next))
-      by opening.NoMemory none = refl
+  -- the image may be opened
+  pub is_sound : IsSoundByAll image.layout image.words
+  is_sound = subst (λ (i : Row). IsSoundByAll i.layout i.words) (sym crash.leaves) crash.sound
+
+  pub is_early : IsGeneration (suc s.generation) → IsGeneration (suc (header_generation image.layout image.words))
+  is_early next =
+      subst (λ (i : Row). IsGeneration (suc (header_generation i.layout i.words))) (sym crash.leaves)
+      (subst (λ (n : ℕ). IsGeneration (suc n)) (sym (crash_keeps_generation there index ∙ run_is)) next)

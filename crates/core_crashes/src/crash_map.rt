@@ -19,7 +19,7 @@ ghost use Rattle.index_core.specs.Indexes.{world};
 use call_stages::Once;
 use cat_history::{Items, NoMemory};
 use cat_key::Name;
-use index_core::{Core, CoreCall, listed_pairs};
+use index_core::{Core, CoreCall, LONE_STAMP, listed_pairs};
 use node_ops::PartWords;
 use pm_words::{MOST_WRITES, Steps};
 use shapes::{Full, MapPart};
@@ -27,9 +27,6 @@ use std::alloc::Global;
 use std::marker::{Brand, Model, PhantomData};
 use std::sync::ledger::Ledger;
 use stopped_rounds::{Bounded, BoundedMap};
-
-/// The stamp that turns of the updater give to merged nodes, and the greatest that they release.
-const STAMP: u64 = 1;
 
 /// The layout and the generation of a run of the index, and where its members began, for proofs alone.
 pub trait CrashRun {
@@ -288,7 +285,7 @@ impl<L: Ledger, K: CrashRun> BoundedMap for CrashMap<L, K> {
         let updater = self.core.layout().callers();
         let Some(_) = self
             .core
-            .turn_within(updater, STAMP, STAMP, budget, &mut self.steps)
+            .turn_within(updater, LONE_STAMP, LONE_STAMP, budget, &mut self.steps)
         else {
             self.turning = true;
             return;

@@ -4,12 +4,11 @@ ghost use Rattle.std.specs.Prelude.{◌≡◌, IfOk, suc};
 ghost use Rattle.version_lock.specs.Versions.{IsGeneration};
 ghost use Rattle.index_core.specs.CrashLaws.{chosen_index};
 ghost use Rattle.index_core.specs.Indexes.{IsIndex};
-ghost use Rattle.recovery.specs.declared.opening.OpenFault.TheVariants.{NoMemory as OutOfMemory};
 ghost use Rattle.core_crashes.specs.Power.{IsBehindCrash};
 
 use cat_history::NoMemory;
 use index_core::{Core, is_chosen};
-use recovery::{OpenFault, recover};
+use recovery::recover_sound;
 use std::alloc::Global;
 
 /// Makes those image words durable that the seed chooses.
@@ -37,18 +36,5 @@ pub fn fail_power(alloc: Global, core: Core, seed: u64) -> Result<Core, NoMemory
     let mut core = core;
     evict_by_seed(&mut core, seed);
     let crashed = core.crash();
-    match recover(alloc, crashed.image) {
-        Ok(next) => Ok(next),
-        Err(fault) => Err(no_memory(fault)),
-    }
-}
-
-/// Why an image isn't opened that is sound, and of which there is a next generation.
-fn no_memory(fault: OpenFault) -> NoMemory
-    requires { fault ≡ OutOfMemory }
-{
-    match fault {
-        OpenFault::NoMemory => NoMemory,
-        OpenFault::Damaged { .. } | OpenFault::Generations => unreachable!(),
-    }
+    recover_sound(alloc, crashed.image)
 }

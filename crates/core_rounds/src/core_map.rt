@@ -23,16 +23,13 @@ use crate::updated_map::UpdatedMap;
 use call_stages::Once;
 use cat_history::{Items, NoMemory};
 use cat_key::Name;
-use index_core::{Core, CoreCall, listed_pairs};
+use index_core::{Core, CoreCall, LONE_STAMP, listed_pairs};
 use node_ops::PartWords;
 use pm_words::{Image, MOST_WRITES, Steps};
 use shapes::{Full, MapPart};
 use std::alloc::Global;
 use std::marker::{Brand, Model, PhantomData};
 use std::sync::ledger::Ledger;
-
-/// The stamp that turns of the updater give to merged nodes, and the greatest that they release.
-const STAMP: u64 = 1;
 
 /// The layout and the generation of a run of the index, for proofs alone: no call changes them.
 pub trait RunOf {
@@ -196,7 +193,7 @@ impl<L: Ledger, K: RunOf> UpdatedMap for CoreMap<L, K> {
 
     fn turn(&mut self) {
         let updater = self.core.layout().callers();
-        self.core.turn_alone(updater, STAMP, STAMP, &mut self.steps);
+        self.core.turn_alone(updater, LONE_STAMP, LONE_STAMP, &mut self.steps);
     }
 }
 

@@ -29,9 +29,7 @@ use Rattle.index_law.specs.Anchors.{anchors_in}
 use Rattle.index_core.specs.Indexes.{Index, map_of_index, world}
 use Rattle.index_core.specs.Rounds.{BeginsRound}
 use Rattle.index_core.specs.Weights.{weight_of}
-use Rattle.recovery.specs.Opened.{IsOpenedFrom, IsOpenFault}
-use Rattle.recovery.specs.declared.opening.OpenFault.{OpenFault}
-use Rattle.recovery.specs.declared.opening.OpenFault.TheVariants as opening
+use Rattle.recovery.specs.Opened.{IsOpenedFrom}
 use Rattle.core_rounds.specs.LoneCalls.{AreReportCalls}
 use Rattle.recovery.specs.Cores.{IsReopened}
 use Rattle.core_rounds.specs.Rounds.{IsCrashedRound}
@@ -141,12 +139,6 @@ module _ (core mid next : Index) (plan : RoundPlan) (crash : CrashPlan) (image :
     began = ap map_of run.leaves.base ∙ base-is core mid begins;
     leaves = run.leaves.leaves;
   }
-
--- memory alone is why a sound image isn't opened, of which there is a next generation
-pub only-memory : (image : Row) (fault : OpenFault) → IsSoundByAll image.layout image.words → IsGeneration (suc (header_generation image.layout image.words)) → IsOpenFault image fault → fault ≡ opening.NoMemory
-only-memory image (opening.Damaged rule word) sound next broken = let lowest = broken.first.1.lowest.0 in absurd (sound rule broken.first.0 lowest.word lowest.holds)
-only-memory image opening.Generations sound next late = absurd (late.1 next)
-only-memory image opening.NoMemory sound next none = refl
 
 -- what the code reports
 abbrev report-of : List Record → Bool → ℕ → ℕ → RoundReport

@@ -4,7 +4,6 @@ ghost use Rattle.std.specs.Prelude.{◌≡◌, ◌<◌, ◌≤◌, ◌^◌, All,
 ghost use Rattle.core_rounds.specs.LoneCalls.{AreReportCalls};
 ghost use Rattle.index_core.specs.Lone.{IsQuiet};
 ghost use Rattle.recovery.specs.Opened.{IsOpenedFrom};
-ghost use Rattle.recovery.specs.declared.opening.OpenFault.TheVariants.{NoMemory as OutOfMemory};
 ghost use Rattle.image_rules.specs.Rules.{header_generation};
 ghost use Rattle.image_layer_rules.specs.Sound.{IsSoundByAll};
 ghost use Rattle.version_lock.specs.Versions.{IsGeneration};
@@ -15,7 +14,7 @@ use cat_text::RoundReport;
 use index_core::Core;
 use pac_index::Gate;
 use pm_words::Image;
-use recovery::{OpenFault, recover, reopen};
+use recovery::{recover_sound, reopen};
 use std::alloc::Global;
 use std::sync::Wait;
 use std::thread::Threads;
@@ -83,7 +82,7 @@ fn recovered(alloc: Global, records: Records, writes: u64, image: Image) -> Resu
     requires next { IsGeneration (suc (header_generation image.layout image.words)) }
     ensures { IfOk result (λ crowd. IsReportedCrash image records writes crowd.report crowd.core) }
 {
-    let core = opened(alloc, image)?;
+    let core = recover_sound(alloc, image)?;
     let mut records = records;
     settle(&mut records, core.base());
     let names = names_in(&core);
@@ -98,31 +97,9 @@ fn recovered(alloc: Global, records: Records, writes: u64, image: Image) -> Resu
     })
 }
 
-/// Opens an image that is sound, and of which there is a next generation.
-fn opened(alloc: Global, image: Image) -> Result<Core, NoMemory>
-    requires sound { IsSoundByAll image.layout image.words }
-    requires next { IsGeneration (suc (header_generation image.layout image.words)) }
-    ensures { IfOk result (IsOpenedFrom image) }
-{
-    match recover(alloc, image) {
-        Ok(core) => Ok(core),
-        Err(fault) => Err(no_memory(fault)),
-    }
-}
-
 /// How many names a core has that was opened.
 fn names_in(core: &Core) -> u64
     ensures { result ≡ length core.now.base }
 {
     core.base().as_slice().len() as u64
-}
-
-/// Why an image isn't opened that is sound, and of which there is a next generation.
-fn no_memory(fault: OpenFault) -> NoMemory
-    requires { fault ≡ OutOfMemory }
-{
-    match fault {
-        OpenFault::NoMemory => NoMemory,
-        OpenFault::Damaged { .. } | OpenFault::Generations => unreachable!(),
-    }
 }

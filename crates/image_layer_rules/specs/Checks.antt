@@ -5,9 +5,9 @@ use Rattle.pm_words.specs.Locations.{leaf_count}
 use Rattle.image_rules.specs.Nodes.{IsListedNode}
 use Rattle.search_layer.specs.Leaves.{key_in, IsLedBy}
 use Rattle.updater_law.specs.Covers.{IsOpenFor}
-use Rattle.image_layer_rules.specs.declared.marks.Marks.{Marks}
+use Rattle.image_rules.specs.declared.node_set.NodeSet.{NodeSet}
 use Rattle.image_layer_rules.specs.Leaves.{image_leaves, image_anchor, image_lines}
-use Rattle.image_layer_rules.specs.Marks.{HasMark}
+use Rattle.image_rules.specs.NodeSets.{HasNode}
 
 -- The leaf is in use, and its node has its key as the anchor.
 pub record LeadsToAnchor (l : Layout) (image : List ℕ) (leaf : ℕ) : Type 0 where
@@ -27,13 +27,9 @@ pub record IsMissed (l : Layout) (image : List ℕ) (n : ℕ) : Type 0 where
   pub closed : ¬ IsOpenFor (image_lines l image) (image_anchor l image n)
   pub missed : ¬ IsLedBy (leaf_count l) (image_leaves l image) (image_anchor l image n) n
 
--- The nodes with a mark are the listed ones,
-abbrev pub AreListed : Layout → List ℕ → Marks → Type 0
-AreListed l image marks = (n : ℕ) → HasMark marks n ↔ IsListedNode l image n
-
--- or those to which a leaf leads their anchor.
-abbrev pub AreLed : Layout → List ℕ → Marks → Type 0
-AreLed l image marks = (n : ℕ) → HasMark marks n ↔
+-- The nodes of the set are those to which a leaf leads their anchor.
+abbrev pub AreLed : Layout → List ℕ → NodeSet → Type 0
+AreLed l image set = (n : ℕ) → HasNode set n ↔
     IsLedBy (leaf_count l) (image_leaves l image) (image_anchor l image n) n
 
 -- No leaf leads past the nodes.

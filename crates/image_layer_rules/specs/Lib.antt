@@ -1,5 +1,4 @@
 pub mod Leaves
-pub mod Marks
 pub mod Rules
 pub mod Checks
 pub mod Sound

@@ -9,14 +9,14 @@ use pm_words::KEY;
 use search_layer::Key;
 
 /// Whether these words are zero, or those of a name.
-pub(crate) fn is_key(words: Key) -> bool
+pub fn is_key(words: Key) -> bool
     ensures { IsTrue result ↔ AreKeyWords words }
 {
     words == [0; KEY] || Name::of_words(words).is_some()
 }
 
 /// Whether they are one key.
-pub(crate) fn is_same(one: Key, other: Key) -> bool
+pub fn is_same(one: Key, other: Key) -> bool
     ensures { IsTrue result ↔ (key_number one ≡ key_number other) }
 {
     one == other

@@ -12,8 +12,8 @@ mod key;
 pub mod laws;
 mod leaf;
 mod line;
-mod list;
-mod marks;
 mod order;
 
 pub use broken::first_broken_of_all;
+pub use key::{is_key, is_same};
+pub use line::is_open_for;

@@ -13,7 +13,7 @@ use pm_words::offsets::line;
 use search_layer::Key;
 
 /// Whether some line that isn't EMPTY has this anchor.
-pub(crate) fn is_open_for(image: &Image, key: Key) -> bool
+pub fn is_open_for(image: &Image, key: Key) -> bool
     ensures { IsTrue result ↔ IsOpenFor (image_lines image.now.layout image.now.words) (key_number key) }
 {
     for line in 0..line_count(image) {

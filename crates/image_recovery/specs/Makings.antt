@@ -6,6 +6,7 @@ use Rattle.pm_words.specs.declared.machine.Turn.{Turn}
 use Rattle.pm_words.specs.declared.machine.Turn.TheVariants.{Go, Done}
 use Rattle.pm_words.specs.Images.{Row}
 use Rattle.pm_words.specs.Locations.{Header, Node, Cached, word_number, at}
+use Rattle.data_node.specs.Spots.{bitmap_offset}
 use Rattle.search_layer.specs.declared.change.Change.{Change}
 use Rattle.search_layer.specs.ChangeSteps.{IsChange, change_starts, change_asks, change_turned, change_left}
 use Rattle.updater_row_law.specs.Columns.{line_count, line_word}
@@ -37,7 +38,7 @@ MayMake row (Empty line) = line < line_count row.layout
 -- The move as it begins on these rows.
 abbrev pub making_of : Row → Move → Making
 making_of row Raise = Stores (stores row.layout (word_number row.layout (Header 5)) (generation_at row + 1))
-making_of row (Trim node bitmap) = Stores (stores row.layout (word_number row.layout (Node node 1)) bitmap)
+making_of row (Trim node bitmap) = Stores (stores row.layout (word_number row.layout (Node node bitmap_offset)) bitmap)
 making_of row (Unset line) = Changes (change_starts row.layout (anchor_at row line) 0)
 making_of row (Set line node) = Changes (change_starts row.layout (anchor_at row line) (node + 1))
 making_of row (Empty line) = Stores (stores row.layout (word_number row.layout (line_word 0 line)) empty_state)

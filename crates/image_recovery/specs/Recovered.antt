@@ -15,8 +15,8 @@ use Rattle.image_recovery_law.specs.Rest.{Rests}
 use Rattle.image_recovery_law.specs.Rows.{columns_in}
 use Rattle.image_recovery_law.specs.Moves as law
 use Rattle.image_recovery.specs.declared.making.Making.{Making}
-use Rattle.image_recovery.specs.declared.recovering.Refused.{Refused}
-use Rattle.image_recovery.specs.declared.recovering.Refused.TheVariants.{Unsound, LastGeneration, NoMemory}
+use Rattle.image_recovery.specs.declared.recovering.OpenFault.{OpenFault}
+use Rattle.image_recovery.specs.declared.recovering.OpenFault.TheVariants.{Damaged, Generations, NoMemory}
 use Rattle.image_recovery.specs.Plans.{columns, list_of}
 use Rattle.image_recovery.specs.MakingLaw.{IsClearBeside, IsAtMove, IsBetweenMoves}
 
@@ -65,14 +65,14 @@ pub record IsRecoveredTo (image row : Row) : Type 0 where
   pub clear : IsClearBeside image.layout row.words
   pub left : IsLeftOf image (durable_row image.layout row.words)
 
--- Why the image is refused: by the first of all rules that it breaks; or it is sound, and of the last generation; or
--- neither, and there was no memory.
-abbrev pub IsRefusedFor : Row → Refused → Type 0
-IsRefusedFor image (Unsound broken) = IsFirstOfAll image.layout image.words broken
-IsRefusedFor image LastGeneration =
-    IsSoundByAll image.layout image.words × ¬ IsGeneration (suc (columns image).generation)
-IsRefusedFor image NoMemory =
-    IsSoundByAll image.layout image.words × IsGeneration (suc (columns image).generation)
+-- Why an image isn't opened: it isn't sound, and this is the first rule that it breaks and the first word at which it
+-- does; or it is sound, and of the last generation; or neither, and there was no memory.
+abbrev pub IsOpenFault : Row → OpenFault → Type 0
+IsOpenFault image (Damaged rule word) = IsFirstOfAll image.layout image.words (record { rule = rule; word = word })
+IsOpenFault image Generations = IsSoundByAll image.layout image.words ×
+    ¬ IsGeneration (suc (header_generation image.layout image.words))
+IsOpenFault image NoMemory = IsSoundByAll image.layout image.words ×
+    IsGeneration (suc (header_generation image.layout image.words))
 
 -- So does each crash leave it, during a move and between two.
 abbrev pub CrashLeavesSound : Type 0

@@ -6,27 +6,26 @@ ghost use Rattle.version_lock.specs.Versions.{IsGeneration};
 ghost use Rattle.image_layer_rules.specs.Sound.{IsSoundByAll};
 ghost use Rattle.image_recovery_law.specs.Moves as law;
 ghost use Rattle.image_recovery.specs.Plans.{columns, move_of};
-ghost use Rattle.image_recovery.specs.Recovered.{IsRecoverable, IsUnderWay, MayGoOn, MayEnd, IsRecoveredTo, IsRefusedFor};
+ghost use Rattle.image_recovery.specs.Recovered.{IsRecoverable, IsUnderWay, MayGoOn, MayEnd, IsRecoveredTo, IsOpenFault};
 ghost use Rattle.image_recovery.specs.Recoveries.{IsMakingOne, MayFinish};
 
 use crate::making::Making;
 use crate::moves::Move;
 use crate::planning::plan;
 use image_layer_rules::first_broken_of_all;
-use image_rules::Broken;
 use pm_words::offsets::header;
 use pm_words::{Image, Machine, Memory, NoMemory, Steps, Turn};
 use std::alloc::Global;
 use std::sync::ledger::Ledger;
 use version_lock::GENERATION_LIMIT;
 
-/// Why an image isn't recovered.
+/// Why an image isn't opened.
 #[derive(Clone, Copy, PartialEq, Eq, Debug)]
-pub enum Refused {
-    /// It isn't sound: it breaks this rule, at this word.
-    Unsound(Broken),
+pub enum OpenFault {
+    /// It isn't sound. This is the first rule that it breaks, and the number of the first word at which it does.
+    Damaged { rule: u64, word: u64 },
     /// Its generation is the last that there is.
-    LastGeneration,
+    Generations,
     /// There was no memory.
     NoMemory,
 }
@@ -93,16 +92,19 @@ pub fn recovered<L: Ledger>(
 
 /// Why an image isn't to be recovered: its first broken rule, or that its generation is the last. None is told where it
 /// may be.
-pub fn refusal(image: &Image) -> Option<Refused>
+pub fn refusal(image: &Image) -> Option<OpenFault>
     ensures { MatchOption result
         (IsSoundByAll image.now.layout image.now.words × IsGeneration (suc (columns image.now).generation))
-        (IsRefusedFor image.now) }
+        (IsOpenFault image.now) }
 {
     if let Some(broken) = first_broken_of_all(image) {
-        return Some(Refused::Unsound(broken));
+        return Some(OpenFault::Damaged {
+            rule: broken.rule,
+            word: broken.word,
+        });
     }
     if is_last(image) {
-        return Some(Refused::LastGeneration);
+        return Some(OpenFault::Generations);
     }
     None
 }
@@ -115,15 +117,15 @@ pub fn recover<L: Ledger>(
     alloc: Global,
     image: Image,
     steps: &mut Steps<L>,
-) -> Result<Memory, Refused>
+) -> Result<Memory, OpenFault>
     ensures { MatchResult result
-        (λ memory. IsSoundByAll image.layout image.words × IsRecoveredTo image memory) (IsRefusedFor image) }
+        (λ memory. IsSoundByAll image.layout image.words × IsRecoveredTo image memory) (IsOpenFault image) }
 {
-    if let Some(refused) = refusal(&image) {
-        return Err(refused);
+    if let Some(fault) = refusal(&image) {
+        return Err(fault);
     }
     match recovered(alloc, image, steps) {
         Ok(memory) => Ok(memory),
-        Err(_) => Err(Refused::NoMemory),
+        Err(_) => Err(OpenFault::NoMemory),
     }
 }

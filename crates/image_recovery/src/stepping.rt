@@ -4,13 +4,13 @@ ghost use Rattle.std.specs.Prelude.{suc, IfOk, MatchResult};
 ghost use Rattle.version_lock.specs.Versions.{IsGeneration};
 ghost use Rattle.image_layer_rules.specs.Sound.{IsSoundByAll};
 ghost use Rattle.image_recovery.specs.Plans.{columns};
-ghost use Rattle.image_recovery.specs.Recovered.{IsRefusedFor};
+ghost use Rattle.image_recovery.specs.Recovered.{IsOpenFault};
 ghost use Rattle.image_recovery.specs.Recoveries.{IsBegun};
 
 use crate::making::Making;
 use crate::moves::Move;
 use crate::planning::plan;
-use crate::recovering::{Refused, finish, refusal};
+use crate::recovering::{OpenFault, finish, refusal};
 use pm_words::{Image, Machine, Memory, NoMemory, Steps, Turn};
 use std::alloc::Global;
 use std::sync::ledger::Ledger;
@@ -44,16 +44,16 @@ pub fn begin_sound(alloc: Global, image: Image) -> Result<Begun, NoMemory>
 }
 
 /// Begins to recover an image, without an action; it refuses what `recover` does.
-pub fn begin(alloc: Global, image: Image) -> Result<Begun, Refused>
+pub fn begin(alloc: Global, image: Image) -> Result<Begun, OpenFault>
     ensures { MatchResult result
-        (λ begun. IsSoundByAll image.layout image.words × IsBegun image begun) (IsRefusedFor image) }
+        (λ begun. IsSoundByAll image.layout image.words × IsBegun image begun) (IsOpenFault image) }
 {
-    if let Some(refused) = refusal(&image) {
-        return Err(refused);
+    if let Some(fault) = refusal(&image) {
+        return Err(fault);
     }
     match begin_sound(alloc, image) {
         Ok(begun) => Ok(begun),
-        Err(_) => Err(Refused::NoMemory),
+        Err(_) => Err(OpenFault::NoMemory),
     }
 }
 

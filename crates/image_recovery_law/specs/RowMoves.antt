@@ -7,6 +7,7 @@ use Rattle.pm_words.specs.declared.action.Action.TheVariants.{Store}
 use Rattle.pm_words.specs.Locations.{Word, Header, Node, Cached, Durable, row_words, image_words, address_of, at}
 use Rattle.pm_words.specs.Rows.{acted, got, evicted}
 use Rattle.data_node.specs.Lists.{ListNode, IsIn}
+use Rattle.data_node.specs.Spots.{bitmap_offset}
 use Rattle.search_layer.specs.ChangeStages.{Changing, ChangeStep}
 use Rattle.updater_row_law.specs.Columns.{line_count, line_word}
 use Rattle.image_recovery_law.specs.Columns.{Columns, IsSound}
@@ -24,7 +25,7 @@ RowSure l list o s words = Sure l list o s (columns_in l words Cached) (columns_
 pub data MoveStore (l : Layout) (list : List ListNode) (o : Columns) : Stage → Word → ℕ → Stage → Stage → Type 0 where
   of_generation : MoveStore l list o Begins (Header 5) (suc o.generation) Raised (Trims (nodes_of list))
   of_bits : (n bits : ℕ) (left : List ℕ) → n < l.nodes → IsIn list n → TrimsNode l list o n bits →
-      MoveStore l list o (Trims (n ∷ left)) (Node n 1) bits (Trimmed n left) (Trims left)
+      MoveStore l list o (Trims (n ∷ left)) (Node n bitmap_offset) bits (Trimmed n left) (Trims left)
   of_empty : (j : ℕ) → j < line_count l →
       MoveStore l list o (Empties j) (line_word 0 j) empty_state (Emptied j) (Empties (suc j))
 

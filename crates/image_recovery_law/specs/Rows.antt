@@ -10,6 +10,8 @@ use Rattle.pm_words.specs.Locations.{Word, Location, Header, Root, Node, Leaf, C
 use Rattle.pm_words.specs.Locations.{leaf_count, node_words, row_words, image_words, cached_address, address_of, at}
 use Rattle.pm_words.specs.Locations.{word_at}
 use Rattle.pm_words.specs.Rows.{acted, got, evicted, durable_row, row_of}
+use Rattle.pm_words.specs.Offsets.{version_offset}
+use Rattle.data_node.specs.Spots.{bitmap_offset}
 use Rattle.search_layer.specs.Leaves.{LayerWords, leaves_in}
 use Rattle.search_layer.specs.ChangeStages.{Aim, Changing, ChangeStep}
 use Rattle.updater_row_law.specs.Columns.{line_count, line_word}
@@ -32,7 +34,7 @@ abbrev pub columns_by : Layout → (Word → ℕ) → LayerWords → Columns
 columns_by l word leaf = record {
   generation = word (Header 5);
   spare = λ k. word_if (nat_lt k spare_count) (word (spare_word k));
-  version = λ n. word_if (nat_lt n l.nodes) (word (Node n 0));
+  version = λ n. word_if (nat_lt n l.nodes) (word (Node n version_offset));
   spot = λ n o. word_if (nat_lt n l.nodes && (nat_lt 0 o && nat_lt o (node_words l))) (word (Node n o));
   line = λ j o. word_if (nat_lt j (line_count l) && nat_lt o 8) (word (line_word o j));
   leaf = leaf;
@@ -72,7 +74,7 @@ GenerationStores = (l : Layout) (words : List ℕ) (generation : ℕ) → length
 
 abbrev pub BitsStore : Type 0
 BitsStore = (l : Layout) (words : List ℕ) (n bits : ℕ) → length words ≡ row_words l → n < l.nodes →
-    StoresOn l words (Store (address_of l (Cached (Node n 1))) bits) (with_bits (columns_in l words Cached) n bits)
+    StoresOn l words (Store (address_of l (Cached (Node n bitmap_offset))) bits) (with_bits (columns_in l words Cached) n bits)
 
 abbrev pub EmptyStores : Type 0
 EmptyStores = (l : Layout) (words : List ℕ) (j : ℕ) → length words ≡ row_words l → j < line_count l →

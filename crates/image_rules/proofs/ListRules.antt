@@ -7,13 +7,14 @@ use Rattle.pm_words.specs.Locations.{Word, Node, word_number}
 use Rattle.cat_key.specs.Names.{AreNameWords}
 use Rattle.data_node.specs.Spots.{Spot}
 use Rattle.data_node.specs.Lists.{next_offset, anchor_offset, anchor_in, anchor_words}
+use Rattle.data_node.proofs.PositionLemmas.{position_in, in_position, position_bound, position_end}
 use Rattle.image_rules.specs.Lowest.{IsLowest, IsNumberOf}
-use Rattle.image_rules.specs.Nodes.{image_spot, IsListedAt, LeadWithin, next_in}
+use Rattle.image_rules.specs.Nodes.{image_spot, image_list, IsListedAt, LeadWithin, next_in}
 use Rattle.image_rules.specs.Rules.{LeadsOut, LeadsBack, IsMisplaced, BreaksAnchors, BreaksInNode}
 use Rattle.image_rules.specs.Sound.{leads_out, AreKept}
 use Rattle.image_rules.specs.declared.listed.NodeRule.{NodeRule}
 use Rattle.image_rules.specs.declared.node_set.NodeSet.{NodeSet}
-use Rattle.image_rules.specs.NodeSets.{HasNode}
+use Rattle.image_rules.specs.NodeSets.{HasNode, AreListed}
 use Rattle.image_rules.proofs.WalkLemmas.{NoneBefore, IsOfList, one_word, same_node}
 
 -- each rule is broken at positions of the list alone
@@ -130,6 +131,24 @@ reached_more l image set more position node at with_node reached = record {
     | inr here ↦ let same : other ≡ position = omega arith in (with_node n).1 (inl (same_node l image position n node (subst (λ k. IsListedAt l image k n) same there) at))
   ];
 }
+
+-- where no position is behind them, it has the listed nodes
+pub reached_all : (l : Layout) (image : List ℕ) (set : NodeSet) (count : ℕ) → HasReached l image set count → ((position n : ℕ) → IsListedAt l image position n → position < count) → AreListed l image set
+reached_all l image set count reached end n = (
+  λ has. let there = reached.from n has in position_in 0 (image_list l image) there.0 n there.2,
+  λ listed. let there = in_position 0 (image_list l image) n listed in reached.to there.0 n (end there.0 n there.1) there.1,
+)
+
+-- the list ends at a node that leads nowhere, and has no more positions than nodes behind the first
+pub ends_here : (l : Layout) (image : List ℕ) (position node : ℕ) → IsListedAt l image position node → next_in l image node ≡ 0 → (other n : ℕ) → IsListedAt l image other n → other < position + 1
+ends_here l image position node at ends other n there =
+    elim (cases_lt other (position + 1)) as (λ _. other < position + 1) [
+      | inl passed ↦ passed
+      | inr later ↦ absurd (position_end (image_spot l image) l.nodes 0 position node at ends other n (omega arith) there)
+    ]
+
+pub ends_soon : (l : Layout) (image : List ℕ) (count : ℕ) → l.nodes < count → (other n : ℕ) → IsListedAt l image other n → other < count
+ends_soon l image count more other n there = let bound = position_bound (image_spot l image) l.nodes 0 other n there in omega arith
 
 -- A walk that looks at the anchor behind each node came to this node, and no anchor is out of order up to it.
 pub record Ordered (l : Layout) (image : List ℕ) (position node : ℕ) : Type 0 where

@@ -7,6 +7,7 @@ use Rattle.pm_words.specs.Layouts.{IsLayout}
 use Rattle.pm_words.specs.Locations.{Word, Node, Cached, Durable, node_words, word_at}
 use Rattle.pm_words.specs.Locations as positions
 use Rattle.pm_words.specs.Rows.{durable_row, row_of}
+use Rattle.pm_words.specs.Offsets.{version_offset}
 use Rattle.version_lock.specs.Versions.{generation_of}
 use Rattle.cat_history.specs.Maps.{Map}
 use Rattle.data_node.specs.Spots.{IsTidy}
@@ -22,7 +23,8 @@ use Rattle.image_rules.specs.Sound.{IsSound, IsMapOf, image_map}
 pub record KeepsRules (l : Layout) (image : List ℕ) : Type 0 where
   pub generation : IsGeneration (header_generation l image)
   pub spare : (w : Word) → IsSpare w → word_at l image w ≡ 0
-  pub versions : (n : ℕ) → n < l.nodes → generation_of (word_at l image (Node n 0)) ≤ header_generation l image
+  pub versions : (n : ℕ) → n < l.nodes →
+      generation_of (word_at l image (Node n version_offset)) ≤ header_generation l image
   pub list : MakeList l.nodes (image_spot l image) (image_list l image)
   pub tidy : (n : ℕ) → IsListedNode l image n → IsTidy l.slots (image_spot l image n)
   pub lines : (line : ℕ) → line < 8 * l.callers → IsFitLine l.nodes (line_spot l image line)

@@ -4,6 +4,7 @@
 use Rattle.std.specs.Prelude.{◌≡◌, ◌≢◌, ℕ, zero, suc, ◌*◌, ◌/◌, ◌%◌, ◌<◌, ◌≤◌, ◌^◌, ◌⊎◌, List}
 use Rattle.pm_words.specs.declared.layout.Layout.{Layout}
 use Rattle.pm_words.specs.Locations.{Word, Header, Root, Node, Line, word_at}
+use Rattle.pm_words.specs.Offsets.{version_offset}
 use Rattle.version_lock.specs.Versions.{generation_of, IsGeneration}
 use Rattle.cat_key.specs.Names.{IsName, AreNameWords, words_of, fingerprint_of}
 use Rattle.data_node.specs.Spots.{Spot, bitmap_offset, print_offset, slot_offset, IsLiveIn, name_words, print_in_spot}
@@ -31,11 +32,11 @@ BreaksHeader l image w = ((w ≡ Header 5) × ¬ IsGeneration (header_generation
 -- A node whose version word is of a later generation.
 pub record IsLater (l : Layout) (image : List ℕ) (n : ℕ) : Type 0 where
   pub here : n < l.nodes
-  pub later : header_generation l image < generation_of (word_at l image (Node n 0))
+  pub later : header_generation l image < generation_of (word_at l image (Node n version_offset))
 
 -- Rule 2: no version word is of a later generation, whether the node is listed or not.
 abbrev pub BreaksVersions : Layout → List ℕ → Word → Type 0
-BreaksVersions l image w = (n : ℕ) × (w ≡ Node n 0) × IsLater l image n
+BreaksVersions l image w = (n : ℕ) × (w ≡ Node n version_offset) × IsLater l image n
 
 -- Rule 3: a listed node leads on to one of the image's nodes. It is broken at the word that leads elsewhere.
 pub record LeadsOut (l : Layout) (image : List ℕ) (position : ℕ) (w : Word) : Type 0 where

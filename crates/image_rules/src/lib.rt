@@ -16,4 +16,6 @@ mod node_set;
 pub mod read;
 
 pub use broken::{Broken, first_broken};
+pub use list::listed_nodes;
 pub use map::{is_found, number_in};
+pub use node_set::NodeSet;

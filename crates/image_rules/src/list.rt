@@ -4,6 +4,7 @@ ghost use Rattle.std.specs.Prelude.{◌≡◌, ◌⊎◌, ◌<◌, ◌≤◌, �
 ghost use Rattle.cat_key.specs.Names.{AreNameWords};
 ghost use Rattle.data_node.specs.Lists.{anchor_in, anchor_words};
 ghost use Rattle.image_rules.specs.Lowest.{IsFirst};
+ghost use Rattle.image_rules.specs.NodeSets.{AreListed};
 ghost use Rattle.image_rules.specs.Nodes.{image_spot, LeadWithin};
 ghost use Rattle.image_rules.specs.Rules.{LeadsOut, LeadsBack, BreaksAnchors};
 
@@ -56,6 +57,23 @@ pub(crate) fn leads_back(image: &Image) -> Option<u64>
     None
 }
 
+/// The nodes of the list, which goes through none of them twice and leads to no other ones.
+pub fn listed_nodes(image: &Image) -> NodeSet
+    requires { LeadWithin image.now.layout image.now.words }
+    ensures { AreListed image.now.layout image.now.words result }
+{
+    let mut listed = NodeSet::new();
+    let mut node = 0;
+    for _position in 0..image.layout().nodes() + 1 {
+        listed.insert(node);
+        node = next_of(image, node);
+        if node == 0 {
+            return listed;
+        }
+    }
+    listed
+}
+
 /// Whether these words are those of the zero key.
 fn is_zero(key: [u64; WORDS]) -> bool
     ensures { IsTrue result ↔ (key ≡ 0 ∷ 0 ∷ 0 ∷ []) }
@@ -68,7 +86,8 @@ fn is_misplaced(image: &Image, before: u64, node: u64) -> bool
     requires before { before < image.now.layout.nodes }
     requires node { node < image.now.layout.nodes }
     ensures { IsTrue result ↔ ((¬ AreNameWords (anchor_words (image_spot image.now.layout image.now.words node)))
-        ⊎ (anchor_in (image_spot image.now.layout image.now.words node) ≤ anchor_in (image_spot image.now.layout image.now.words before))) }
+        ⊎ (anchor_in (image_spot image.now.layout image.now.words node)
+        ≤ anchor_in (image_spot image.now.layout image.now.words before))) }
 {
     let anchor = anchor_of(image, node);
     Name::of_words(anchor).is_none() || !is_below(&anchor_of(image, before), &anchor)

@@ -14,13 +14,13 @@ const SET_WORDS: usize = 64;
 
 /// Some of an image's nodes, by a bit for each. It takes no memory.
 #[derive(Drop)]
-pub(crate) struct NodeSet {
+pub struct NodeSet {
     bits: [u64; SET_WORDS],
 }
 
 impl NodeSet {
     /// No node.
-    pub(crate) fn new() -> NodeSet
+    pub fn new() -> NodeSet
         ensures { (node : ℕ) → HasNode result node → ⊥ }
     {
         NodeSet {
@@ -29,15 +29,17 @@ impl NodeSet {
     }
 
     /// Whether the node is among them.
-    pub(crate) fn contains(&self, node: u64) -> bool
-        requires { node < MOST_NODES }
+    pub fn contains(&self, node: u64) -> bool
         ensures { IsTrue result ↔ HasNode self.now node }
     {
-        is_live(self.bits[(node / BITS) as usize], node % BITS)
+        match self.bits.get((node / BITS) as usize) {
+            Some(word) => is_live(*word, node % BITS),
+            None => false,
+        }
     }
 
     /// The node is among them from now on.
-    pub(crate) fn insert(&mut self, node: u64)
+    pub fn insert(&mut self, node: u64)
         requires { node < MOST_NODES }
         ensures { (other : ℕ) → HasNode self.new other ↔ ((other ≡ node) ⊎ HasNode self.old other) }
     {

@@ -22,6 +22,7 @@ pub use crash::{Crashed, CutCall, Cuts};
 pub use flight::Flight;
 pub use index::{Core, Parts};
 pub use listing::listed_pairs;
+pub use lone::LONE_STAMP;
 pub use party::{
     CoreCall, CoreReply, InFlight, PartyState, Rechecking, Stepped, Whole, Within, idle_states,
 };

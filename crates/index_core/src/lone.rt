@@ -22,9 +22,9 @@ use node_ops::{Part, PartWords};
 use pm_words::Steps;
 use std::sync::ledger::Ledger;
 
-/// The stamp that a lone call's turns of the updater give to merged nodes, and the greatest that they release: what is
-/// merged by then is FREE at once, since nobody else is about.
-const STAMP: u64 = 1;
+/// The stamp that the updater's turns of a party that is alone give to merged nodes, and the greatest that they release:
+/// what is merged by then is FREE at once, since nobody else is about.
+pub const LONE_STAMP: u64 = 1;
 
 impl Core {
     /// A whole call of a party, with no other in flight. A turn of the updater is answered `Turned`, and leaves what
@@ -174,7 +174,7 @@ impl Core {
         ensures index { IsIndex self.new }
     {
         let updater = self.layout().callers();
-        self.turn_alone(updater, STAMP, STAMP, steps);
+        self.turn_alone(updater, LONE_STAMP, LONE_STAMP, steps);
         self.try_alone(caller, call, steps)
     }
 

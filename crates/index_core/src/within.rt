@@ -22,6 +22,7 @@ ghost use Rattle.index_core.specs.Withins.{ComesInTime, ComesTo, CutsOff, CutsTr
 ghost use Rattle.index_core.specs.Withins.{EndsWithin, RanAlone, TriedAlone, TriedBehindTurn, TriesInTime};
 
 use crate::index::Core;
+use crate::lone::LONE_STAMP;
 use crate::party::{CoreCall, Whole, Within, lacks_line, lacks_node, needs_split};
 use call_stages::{Once, Placed};
 use cat_key::Name;
@@ -29,9 +30,6 @@ use node_ops::{Part, PartWords, Same};
 use pm_words::Steps;
 use std::sync::ledger::Ledger;
 use updater::{TurnReply, Turned};
-
-/// The stamp that a call's turns of the updater give to merged nodes, and the greatest that they release.
-const STAMP: u64 = 1;
 
 impl Core {
     /// A whole call of a party, with no other in flight, as `run_alone` makes it, within a budget of events, of which
@@ -259,7 +257,7 @@ impl Core {
         ensures before { IsIndex self.old }
         ensures index { IsIndex self.new }
     {
-        let Some(_) = self.turn_within(caller, STAMP, STAMP, budget, steps) else {
+        let Some(_) = self.turn_within(caller, LONE_STAMP, LONE_STAMP, budget, steps) else {
             return None;
         };
         self.try_within(caller, call, budget, steps)

@@ -5,6 +5,7 @@ use Rattle.pm_words.specs.declared.action.Action.{Action}
 use Rattle.pm_words.specs.declared.action.Action.TheVariants.{Store}
 use Rattle.pm_words.specs.Locations.{Node, Location, Volatile, Cached, Durable, Clock, HasLocation, at}
 use Rattle.pm_words.specs.Rows.{acted}
+use Rattle.pm_words.specs.Offsets.{prev_offset, status_offset}
 use Rattle.call_stages.specs.Stages.{Stage}
 use Rattle.call_stages.specs.Kinds.{prev_address}
 use Rattle.index_law.specs.Laws.{Allowed}
@@ -13,12 +14,12 @@ use Rattle.index_law.specs.Lawful.{Lawful}
 use Rattle.index_law.specs.Lines.{AreFit}
 
 abbrev pub ArePrevs : Layout → List ℕ → Type 0
-ArePrevs l words = (n : ℕ) → n < l.nodes → at l words (Volatile n 1) < l.nodes
+ArePrevs l words = (n : ℕ) → n < l.nodes → at l words (Volatile n prev_offset) < l.nodes
 
 -- A location that no step on nodes touches.
 pub record IsBeside (p : Location) : Type 0 where
   pub clock : p ≢ Clock
-  pub status : (n : ℕ) → p ≢ Volatile n 0
+  pub status : (n : ℕ) → p ≢ Volatile n status_offset
   pub cached : (n offset : ℕ) → p ≢ Cached (Node n offset)
   pub durable : (n offset : ℕ) → p ≢ Durable (Node n offset)
 

@@ -2,6 +2,7 @@
 use Rattle.std.specs.Prelude.{ℕ, ◌==◌, ◌&&◌, Bool, nat_lt, if◌then◌else◌, List, slice_index}
 use Rattle.pm_words.specs.declared.layout.Layout.{Layout}
 use Rattle.pm_words.specs.Locations.{node_words, Node, Volatile, Durable, at}
+use Rattle.pm_words.specs.Offsets.{status_offset, version_offset}
 use Rattle.cat_history.specs.Maps.{Map}
 use Rattle.cat_history.specs.Writes.{after_all}
 use Rattle.cat_history.specs.declared.op.Write.{Write}
@@ -31,7 +32,7 @@ spot_in l words n offset =
 
 -- The status of a node of the layout.
 unfoldable pub status_in : Layout → List ℕ → ℕ → ℕ
-status_in l words n = if nat_lt n l.nodes then at l words (Volatile n 0) else 0
+status_in l words n = if nat_lt n l.nodes then at l words (Volatile n status_offset) else 0
 
 -- The list by the words of the nodes.
 abbrev pub list_in : Layout → List ℕ → List ListNode
@@ -54,7 +55,7 @@ cached_word f n offset = if offset == 0 then f.version n else f.now n offset
 
 -- The durable twin of a node's version word, and of its other words.
 abbrev pub durable_version : Layout → List ℕ → ℕ → ℕ
-durable_version l words n = at l words (Durable (Node n 0))
+durable_version l words n = at l words (Durable (Node n version_offset))
 
 unfoldable pub durable_spot : Layout → List ℕ → ℕ → Spot
 durable_spot l words n offset =

@@ -6,6 +6,7 @@ use lib.ListN.{get_elem?}
 use Rattle.pm_words.specs.declared.layout.Layout.{Layout}
 use Rattle.pm_words.specs.Layouts.{IsLayout}
 use Rattle.pm_words.specs.Locations.{Volatile, image_words, address_of}
+use Rattle.pm_words.specs.Offsets.{stamp_offset}
 use Rattle.call_stages.specs.Stages.{Idle}
 use Rattle.call_stages.specs.Lines.{HeldLine}
 use Rattle.call_stages.specs.Prevs.{Debt, no_debt}
@@ -70,9 +71,13 @@ RoundIsFooted = (z : Whole) (parties : List Party) (lines : List (Option HeldLin
 -- or a node gets another stamp.
 abbrev pub StampIsFooted : Type 0
 StampIsFooted = (z : Whole) (n : ℕ) → IsFooted z → n < z.world.layout.nodes →
-    Lawful (record (z.world) { words = slice_set z.world.words (address_of z.world.layout (Volatile n 2)) 1 }) →
+    Lawful (record (z.world) {
+      words = slice_set z.world.words (address_of z.world.layout (Volatile n stamp_offset)) 1;
+    }) →
     IsFooted (record z {
-      world = record (z.world) { words = slice_set z.world.words (address_of z.world.layout (Volatile n 2)) 1 };
+      world = record (z.world) {
+        words = slice_set z.world.words (address_of z.world.layout (Volatile n stamp_offset)) 1;
+      };
     })
 
 -- It begins with the row of a fresh image.

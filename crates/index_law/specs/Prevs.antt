@@ -10,6 +10,7 @@ use Rattle.pm_words.specs.declared.action.Action.{Action}
 use Rattle.pm_words.specs.declared.action.Action.TheVariants.{Load}
 use Rattle.pm_words.specs.Locations.{Volatile, at, image_words}
 use Rattle.pm_words.specs.Rows.{acted, got}
+use Rattle.pm_words.specs.Offsets.{prev_offset}
 use Rattle.data_node.specs.Lists.{next_offset}
 use Rattle.call_stages.specs.declared.once.Once.{Once}
 use Rattle.call_stages.specs.declared.once.Placed.{Placed}
@@ -25,7 +26,7 @@ use Rattle.index_law.specs.Laws.{IsAtRest}
 
 -- The prev of a node of the layout.
 unfoldable pub prev_in : Layout → List ℕ → ℕ → ℕ
-prev_in l words n = if nat_lt n l.nodes then at l words (Volatile n 1) else 0
+prev_in l words n = if nat_lt n l.nodes then at l words (Volatile n prev_offset) else 0
 
 -- The world with the debt of each party.
 pub record Traced : Type 0 where

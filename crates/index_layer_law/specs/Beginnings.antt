@@ -6,6 +6,7 @@ use lib.ListN.{get_elem?}
 use Rattle.pm_words.specs.declared.layout.Layout.{Layout}
 use Rattle.pm_words.specs.Layouts.{IsLayout}
 use Rattle.pm_words.specs.Locations.{Volatile, address_of, at}
+use Rattle.pm_words.specs.Offsets.{stamp_offset}
 use Rattle.cat_history.specs.Maps.{Map}
 use Rattle.cat_history.specs.declared.op.Write.{Write}
 use Rattle.call_stages.specs.Stages.{Idle}
@@ -62,14 +63,14 @@ OtherTurnsMayRest = (z : Layered) (turns : List Turning) (i : ℕ) (t : Turning)
 abbrev pub restamped : Whole → ℕ → ℕ → Whole
 restamped z n stamp = record z {
   world = record (z.world) {
-    words = slice_set z.world.words (address_of z.world.layout (Volatile n 2)) stamp;
+    words = slice_set z.world.words (address_of z.world.layout (Volatile n stamp_offset)) stamp;
   };
 }
 
 abbrev pub StampKeepsLayer : Type 0
 StampKeepsLayer = (z : Layered) (n stamp : ℕ) → IsLayered z → AreResting z.turns → n < z.whole.world.layout.nodes →
-    at z.whole.world.layout z.whole.world.words (Volatile n 2) ≢ 0 → stamp ≢ 0 → IsWhole (restamped z.whole n stamp) →
-    AreTended (restamped z.whole n stamp) →
+    at z.whole.world.layout z.whole.world.words (Volatile n stamp_offset) ≢ 0 → stamp ≢ 0 →
+    IsWhole (restamped z.whole n stamp) → AreTended (restamped z.whole n stamp) →
     IsLayered (record { whole = restamped z.whole n stamp; turns = z.turns })
 
 -- A fresh index, in which no call and no turn is in flight, has its search layer.

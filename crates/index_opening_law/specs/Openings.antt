@@ -6,6 +6,7 @@ use Rattle.pm_words.specs.Codes.{free_status, live_status, gone_status}
 use Rattle.pm_words.specs.declared.layout.Layout.{Layout}
 use Rattle.pm_words.specs.Locations.{Header, Root, Cached, Durable, Volatile, Clock, Updater, at}
 use Rattle.pm_words.specs.Rows.{IsRow}
+use Rattle.pm_words.specs.Offsets.{prev_offset, stamp_offset, status_offset}
 use Rattle.cat_history.specs.Maps.{Map}
 use Rattle.data_node.specs.Lists.{ListNode, IsIn, IsMember}
 use Rattle.call_stages.specs.Stages.{Idle}
@@ -28,14 +29,14 @@ abbrev pub LeadBack : (ℕ → ℕ) → ℕ → List ListNode → Type 0
 LeadBack prev here [] = Unit {0}
 LeadBack prev here (m ∷ behind) = (prev m.node ≡ here) × LeadBack prev m.node behind
 
--- The volatile words tell this list: its nodes are LIVE and the others FREE, and prevs lead back along it. No node has a
--- stamp, the clock stands at 0, and nobody has the updater's lock.
+-- The volatile words tell this list: its nodes are LIVE and the others FREE, and prevs lead back along it. No node has
+-- a stamp, the clock stands at 0, and nobody has the updater's lock.
 pub record TellsList (l : Layout) (list : List ListNode) (words : List ℕ) : Type 0 where
-  pub live : (n : ℕ) → IsIn list n → at l words (Volatile n 0) ≡ live_status
-  pub free : (n : ℕ) → n < l.nodes → (IsIn list n → ⊥) → at l words (Volatile n 0) ≡ free_status
-  pub back : LeadBack (λ n. at l words (Volatile n 1)) 0 list
-  pub none : (n : ℕ) → n < l.nodes → (IsMember list n → ⊥) → at l words (Volatile n 1) ≡ 0
-  pub stamps : (n : ℕ) → n < l.nodes → at l words (Volatile n 2) ≡ 0
+  pub live : (n : ℕ) → IsIn list n → at l words (Volatile n status_offset) ≡ live_status
+  pub free : (n : ℕ) → n < l.nodes → (IsIn list n → ⊥) → at l words (Volatile n status_offset) ≡ free_status
+  pub back : LeadBack (λ n. at l words (Volatile n prev_offset)) 0 list
+  pub none : (n : ℕ) → n < l.nodes → (IsMember list n → ⊥) → at l words (Volatile n prev_offset) ≡ 0
+  pub stamps : (n : ℕ) → n < l.nodes → at l words (Volatile n stamp_offset) ≡ 0
   pub clock : at l words Clock ≡ 0
   pub updater : at l words Updater ≡ 0
 

@@ -5,6 +5,7 @@ use Rattle.pm_words.specs.declared.layout.Layout.{Layout}
 use Rattle.pm_words.specs.declared.action.Action.{Action}
 use Rattle.pm_words.specs.declared.action.Action.TheVariants.{Load, Store}
 use Rattle.pm_words.specs.Locations.{address_of, Volatile}
+use Rattle.pm_words.specs.Offsets.{permutation_offset, permutation_version_offset}
 use Rattle.data_node.specs.Spots.{Spot, IsTidy, updated}
 use Rattle.call_stages.specs.Kinds.{version_address}
 use Rattle.call_stages.specs.Footings.{FootStep}
@@ -15,10 +16,10 @@ use Rattle.permutation.specs.Permutations.{IsPermutationOf}
 
 -- The addresses of a node's permutation: its version, and word k of eight.
 abbrev pub permutation_version_address : Layout → ℕ → ℕ
-permutation_version_address l n = address_of l (Volatile n 3)
+permutation_version_address l n = address_of l (Volatile n permutation_version_offset)
 
 abbrev pub permutation_address : Layout → ℕ → ℕ → ℕ
-permutation_address l n k = address_of l (Volatile n (8 + k))
+permutation_address l n k = address_of l (Volatile n (permutation_offset k))
 
 pub data Sorting : Type 0 where
   -- it has stored none of it

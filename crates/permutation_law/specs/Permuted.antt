@@ -6,6 +6,7 @@ use lib.ListN.{get_elem?}
 use Rattle.pm_words.specs.declared.layout.Layout.{Layout}
 use Rattle.pm_words.specs.Codes.{no_permutation}
 use Rattle.pm_words.specs.Locations.{Volatile, at}
+use Rattle.pm_words.specs.Offsets.{permutation_offset, permutation_version_offset}
 use Rattle.version_lock.specs.Versions.{IsFree}
 use Rattle.call_stages.specs.Stages.{Stage, Tells}
 use Rattle.permutation.specs.Permutations.{IsPermutationOf}
@@ -16,10 +17,11 @@ use Rattle.index_law.specs.Lawful.{Lawful}
 
 -- The version of a node's permutation, and its words.
 unfoldable pub made_at : Layout → List ℕ → ℕ → ℕ
-made_at l words n = if nat_lt n l.nodes then at l words (Volatile n 3) else 0
+made_at l words n = if nat_lt n l.nodes then at l words (Volatile n permutation_version_offset) else 0
 
 unfoldable pub permutation_in : Layout → List ℕ → ℕ → ℕ → ℕ
-permutation_in l words n k = if nat_lt n l.nodes && nat_lt k 8 then at l words (Volatile n (8 + k)) else 0
+permutation_in l words n k =
+    if nat_lt n l.nodes && nat_lt k 8 then at l words (Volatile n (permutation_offset k)) else 0
 
 -- The node's permutation is that of its words.
 abbrev pub IsInOrder : Layout → List ℕ → Facts → ℕ → Type 0

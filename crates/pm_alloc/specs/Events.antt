@@ -6,6 +6,7 @@ use Rattle.pm_words.specs.declared.again.Again.TheVariants as again
 use Rattle.pm_words.specs.declared.machine.Turn.{Turn}
 use Rattle.pm_words.specs.declared.machine.Turn.TheVariants.{Go, Done}
 use Rattle.pm_words.specs.Locations.{Node, Volatile, Cached, at}
+use Rattle.pm_words.specs.Offsets.{status_offset, version_offset}
 use Rattle.version_lock.specs.Versions.{IsFree, IsWorn}
 use Rattle.call_stages.specs.Kinds.{Told}
 use Rattle.pm_alloc.specs.declared.claim.Claimed.{Claimed}
@@ -82,7 +83,7 @@ ClaimsHeed = (claim : Claim) (h : Heard) → IsClaim claim →
 -- the lowest node that is FREE and isn't worn, if that is free.
 abbrev pub heard_alone : Layout → List ℕ → ℕ → Heard
 heard_alone l words n = record {
-  version = λ m. at l words (Cached (Node m 0));
-  status = λ m. at l words (Volatile m 0);
-  found = at l words (Cached (Node n 0));
+  version = λ m. at l words (Cached (Node m version_offset));
+  status = λ m. at l words (Volatile m status_offset);
+  found = at l words (Cached (Node n version_offset));
 }

@@ -9,6 +9,7 @@ use Rattle.pm_words.specs.declared.machine.Turn.TheVariants.{Go, Done}
 use Rattle.pm_words.specs.Layouts.{IsLayout}
 use Rattle.pm_words.specs.Locations.{Location, Volatile, HasLocation, address_of, at}
 use Rattle.pm_words.specs.Rows.{IsRow, acted}
+use Rattle.pm_words.specs.Offsets.{stamp_offset, status_offset}
 use Rattle.call_stages.specs.Kinds.{status_address}
 use Rattle.pm_alloc.specs.declared.gone.Retire.{Retire}
 use Rattle.pm_alloc.specs.declared.gone.Release.{Release}
@@ -37,7 +38,7 @@ retire_left retire = 1
 
 -- the address of a node's stamp, and the stamp of a node that has none
 abbrev pub stamp_address : Layout → ℕ → ℕ
-stamp_address l n = address_of l (Volatile n 2)
+stamp_address l n = address_of l (Volatile n stamp_offset)
 
 abbrev pub no_stamp : ℕ
 no_stamp = 0
@@ -76,8 +77,8 @@ release_left release = release_at_left release.at
 
 -- Of a row of words that becomes another: the node is GONE, and every other word is as it was.
 pub record IsRetired (l : Layout) (n : ℕ) (words after : List ℕ) : Type 0 where
-  pub status : at l after (Volatile n 0) ≡ gone_status
-  pub others : (q : Location) → HasLocation l q → q ≢ Volatile n 0 → at l after q ≡ at l words q
+  pub status : at l after (Volatile n status_offset) ≡ gone_status
+  pub others : (q : Location) → HasLocation l q → q ≢ Volatile n status_offset → at l after q ≡ at l words q
 
 -- So it is where a node is retired with no other party about.
 abbrev pub RetiresAlone : Type 0
@@ -86,9 +87,10 @@ RetiresAlone = (l : Layout) (n : ℕ) (words : List ℕ) → IsRow l words → n
 
 -- The node is FREE, without a stamp, and every other word is as it was.
 pub record IsReleased (l : Layout) (n : ℕ) (words after : List ℕ) : Type 0 where
-  pub status : at l after (Volatile n 0) ≡ free_status
-  pub stamp : at l after (Volatile n 2) ≡ no_stamp
-  pub others : (q : Location) → HasLocation l q → q ≢ Volatile n 0 → q ≢ Volatile n 2 → at l after q ≡ at l words q
+  pub status : at l after (Volatile n status_offset) ≡ free_status
+  pub stamp : at l after (Volatile n stamp_offset) ≡ no_stamp
+  pub others : (q : Location) → HasLocation l q → q ≢ Volatile n status_offset → q ≢ Volatile n stamp_offset →
+      at l after q ≡ at l words q
 
 -- So it is where a node is released with no other party about: by both actions, the stamp's first.
 abbrev pub ReleasesAlone : Type 0

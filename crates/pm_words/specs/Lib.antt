@@ -5,5 +5,6 @@ pub mod Images
 pub mod Laws
 pub mod Layouts
 pub mod Locations
+pub mod Offsets
 pub mod Rows
 pub mod Turns

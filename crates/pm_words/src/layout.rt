@@ -5,7 +5,7 @@ ghost use Rattle.pm_words.specs.Locations.{leaf_count, kind_words, word_number, 
 ghost use Rattle.pm_words.specs.Locations.{durable_address, HasWord, HasLocation, Node, Line, Leaf, Cell, Volatile};
 ghost use Rattle.pm_words.specs.Locations.{Mark};
 
-use crate::{KEY, LINE_WORDS, LOG_LINES};
+use crate::{KEY, LINE_WORDS, LOG_LINES, MOST_NODES};
 
 /// A number of a layout.
 #[derive(Clone, Copy, PartialEq, Eq, Debug)]
@@ -44,7 +44,7 @@ impl Layout {
         ensures bad_callers { IsErrOf result (record { field = Field.Callers })
             ↔ (IsNodeCount nodes × IsSlotCount slots × ¬ IsCallerCount callers) }
     {
-        if nodes < 1 || nodes > 4096 {
+        if nodes < 1 || nodes > MOST_NODES {
             return Err(LayoutFault {
                 field: Field::Nodes,
             });

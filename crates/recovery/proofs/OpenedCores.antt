@@ -17,7 +17,7 @@ use Rattle.image_rules.specs.Rules.{header_generation}
 use Rattle.image_rules.proofs.FreshLemmas.{fresh_is_sound}
 use Rattle.image_rules.proofs.MapLemmas.{has_one_map}
 use Rattle.image_rules.proofs.WordLemmas.{image_spot-here}
-use Rattle.image_layer_rules.proofs.FreshLaw.{fresh_is_sound_by_all}
+use Rattle.image_layer_rules.specs.Sound.{IsSoundByAll}
 use Rattle.shapes.specs.Weights.{weight}
 use Rattle.shapes.proofs.Shapes.{len-keys}
 use Rattle.shapes.proofs.Targets.{all-between}
@@ -29,9 +29,7 @@ use Rattle.index_core.specs.Indexes.{Index, map_of_index, world}
 use Rattle.index_core.specs.Weights.{weight_of}
 use Rattle.index_core.proofs.Quiet.{quiet_parties}
 use Rattle.index_image_law.specs.Rest.{IsRestImage, cached_image}
-use Rattle.recovery.specs.Opened.{IsOpenedFrom, IsOpenFault}
-use Rattle.recovery.specs.declared.opening.OpenFault.{OpenFault}
-use Rattle.recovery.specs.declared.opening.OpenFault.TheVariants as opening
+use Rattle.recovery.specs.Opened.{IsOpenedFrom}
 use Rattle.recovery.specs.Cores.{IsReopened, fresh_image}
 
 -- ---- fresh images
@@ -39,13 +37,9 @@ use Rattle.recovery.specs.Cores.{IsReopened, fresh_image}
 fresh_generation : (l : Layout) → header_generation l (fresh_words l) ≡ 1
 fresh_generation l = fresh_at l (Header 5) (omega arith)
 
--- one isn't refused
-pub fresh_is_opened : (l : Layout) (fault : OpenFault) → IsLayout l → IsOpenFault (fresh_image l) fault → fault ≡ opening.NoMemory
-fresh_is_opened l (opening.Damaged rule word) layout is =
-    let lowest = is.first.1.lowest.0 in
-    absurd (fresh_is_sound_by_all l layout rule is.first.0 lowest.word lowest.holds)
-fresh_is_opened l opening.Generations layout is = absurd (is.1 (subst (λ (n : ℕ). IsGeneration (suc n)) (sym (fresh_generation l)) (record { least = omega arith; fits = omega arith })))
-fresh_is_opened l opening.NoMemory layout is = refl
+-- there is a next generation of one
+pub fresh_is_early : (l : Layout) → IsGeneration (suc (header_generation l (fresh_words l)))
+fresh_is_early l = subst (λ (n : ℕ). IsGeneration (suc n)) (sym (fresh_generation l)) (record { least = omega arith; fits = omega arith })
 
 -- it has no names,
 pub fresh_contents : (l : Layout) (s : Index) → IsLayout l → IsOpenedFrom (fresh_image l) s → map_of_index s ≡ empty
@@ -100,11 +94,11 @@ reopens old new image is rest opened_so =
       weighs = omega (arith, new_weight, old_weight);
     }
 
-pub only-memory : (old : Index) (image : Row) (fault : OpenFault) → image ≡ record { layout = old.layout; words = cached_image (world old) } → IsRestImage (world old) →
-    IsGeneration (suc old.generation) → IsOpenFault image fault → fault ≡ opening.NoMemory
-only-memory old image fault is rest next fault_of = by fault (subst (λ (i : Row). IsOpenFault i fault) is fault_of)
-  where
-    by : (f : OpenFault) → IsOpenFault (record { layout = old.layout; words = cached_image (world old) }) f → f ≡ opening.NoMemory
-    by (opening.Damaged rule word) broken = let lowest = broken.first.1.lowest.0 in absurd (rest.sound rule broken.first.0 lowest.word lowest.holds)
-    by opening.Generations late = absurd (late.1 (subst (λ (n : ℕ). IsGeneration (suc n)) (sym rest.generation) next))
-    by opening.NoMemory none = refl
+-- the image of a core at rest may be opened
+pub rest_is_sound : (old : Index) (image : Row) → image ≡ record { layout = old.layout; words = cached_image (world old) } → IsRestImage (world old) → IsSoundByAll image.layout image.words
+rest_is_sound old image is rest = subst (λ (i : Row). IsSoundByAll i.layout i.words) (sym is) rest.sound
+
+pub rest_is_early : (old : Index) (image : Row) → image ≡ record { layout = old.layout; words = cached_image (world old) } → IsRestImage (world old) →
+    IsGeneration (suc old.generation) → IsGeneration (suc (header_generation image.layout image.words))
+rest_is_early old image is rest next =
+    subst (λ (i : Row). IsGeneration (suc (header_generation i.layout i.words))) (sym is) (subst (λ (n : ℕ). IsGeneration (suc n)) (sym rest.generation) next)

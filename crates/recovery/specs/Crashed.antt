@@ -4,8 +4,8 @@ use Rattle.pm_words.specs.Images.{Row}
 use Rattle.index_core.specs.declared.party.PartyState.{PartyState}
 use Rattle.index_core.specs.Crashes.{IsCrash}
 use Rattle.index_core.specs.Indexes.{Index}
-use Rattle.recovery.specs.declared.opening.OpenFault.TheVariants.{Damaged}
-use Rattle.recovery.specs.Opened.{IsOpenFault}
+use Rattle.image_recovery.specs.declared.recovering.OpenFault.TheVariants.{Damaged}
+use Rattle.image_recovery.specs.Recovered.{IsOpenFault}
 
 -- It breaks no rule, whatever was in flight.
 abbrev pub CrashIsUndamaged : Type 0

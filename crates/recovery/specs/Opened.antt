@@ -1,4 +1,4 @@
--- What an image is as it is opened as an index, and why it isn't opened.
+-- What an image is as it is opened as an index.
 use Rattle.std.specs.Prelude.{◌≡◌, suc, []}
 use Rattle.pm_words.specs.Images.{Row}
 use Rattle.pm_words.specs.Locations.{Cached, Durable}
@@ -21,11 +21,7 @@ use Rattle.image_recovery_law.specs.Rest.{Rests}
 use Rattle.image_recovery_law.specs.Rows.{columns_in}
 use Rattle.index_opening_law.specs.Openings.{TellsList}
 use Rattle.image_recovery.specs.Plans.{columns, list_of}
-use Rattle.image_recovery.specs.declared.recovering.Refused.{Refused}
-use Rattle.image_recovery.specs.declared.recovering.Refused.TheVariants as refused
 use Rattle.recovery.specs.Tellings.{HaveNoOrders}
-use Rattle.recovery.specs.declared.opening.OpenFault.{OpenFault}
-use Rattle.recovery.specs.declared.opening.OpenFault.TheVariants.{Damaged, Generations, NoMemory}
 
 -- The index is that of the image. Its base is the image's map, in rising order of names, and nothing is written yet. It
 -- has the image's shape and weight, in the next generation. No call is in flight, no node was locked in its run, and
@@ -53,17 +49,3 @@ pub record IsOpenedFrom (image : Row) (s : Index) : Type 0 where
   pub stamps : HasLowStamps s
   pub locks : locks_left s ≡ LAST_COUNT
   pub short : HasShortWays s
-
--- Why an image isn't opened: it isn't sound, and this is the first rule that it breaks and the first word at which it
--- does; or it is sound, and of the last generation; or neither, and there was no memory.
-abbrev pub IsOpenFault : Row → OpenFault → Type 0
-IsOpenFault image (Damaged rule word) = IsFirstOfAll image.layout image.words (record { rule = rule; word = word })
-IsOpenFault image Generations = IsSoundByAll image.layout image.words ×
-    ¬ IsGeneration (suc (header_generation image.layout image.words))
-IsOpenFault image NoMemory = IsSoundByAll image.layout image.words ×
-    IsGeneration (suc (header_generation image.layout image.words))
-
-abbrev pub fault_of : Refused → OpenFault
-fault_of (refused.Unsound broken) = Damaged broken.rule broken.word
-fault_of refused.LastGeneration = Generations
-fault_of refused.NoMemory = NoMemory

@@ -6,6 +6,7 @@ use Rattle.pm_words.specs.declared.action.Action.TheVariants.{Store}
 use Rattle.pm_words.specs.Images.{Row}
 use Rattle.pm_words.specs.Locations.{Location, Volatile, HasLocation, IsVolatile, at}
 use Rattle.pm_words.specs.Rows.{acted}
+use Rattle.pm_words.specs.Offsets.{permutation_version_offset}
 use Rattle.data_node.specs.Lists.{MakeList}
 use Rattle.call_stages.specs.Kinds.{prev_address, status_address}
 use Rattle.index_law.specs.Facts.{list_in, spot_in}
@@ -35,7 +36,7 @@ told_node row node prev = record row { words = told_words row.layout row.words n
 
 -- No node has a permutation, listed or not.
 abbrev pub HaveNoOrders : Layout → List ℕ → Type 0
-HaveNoOrders l words = (n : ℕ) → n < l.nodes → at l words (Volatile n 3) ≡ no_permutation
+HaveNoOrders l words = (n : ℕ) → n < l.nodes → at l words (Volatile n permutation_version_offset) ≡ no_permutation
 
 abbrev pub IsOrder : Location → Type 0
 IsOrder (Volatile n offset) = offset ≡ 3

@@ -9,10 +9,9 @@ ghost use Rattle.index_core.specs.Indexes.{map_of_index, world};
 ghost use Rattle.index_core.specs.Lone.{IsQuiet};
 ghost use Rattle.index_core.specs.Weights.{weight_of};
 ghost use Rattle.recovery.specs.Opened.{IsOpenedFrom};
-ghost use Rattle.recovery.specs.declared.opening.OpenFault.TheVariants.{NoMemory as OutOfMemory};
 ghost use Rattle.recovery.specs.Cores.{IsReopened, fresh_image};
 
-use crate::opening::{OpenFault, recover};
+use crate::opening::recover_sound;
 use index_core::Core;
 use pm_words::{Image, Layout, NoMemory};
 use std::alloc::Global;
@@ -28,10 +27,7 @@ pub fn open_fresh(alloc: Global, layout: Layout) -> Result<Core, NoMemory>
     ensures generation { IfOk result (λ core. core.generation ≡ 2) }
 {
     let image = Image::fresh(alloc, layout)?;
-    match recover(alloc, image) {
-        Ok(core) => Ok(core),
-        Err(fault) => Err(no_memory(fault)),
-    }
+    recover_sound(alloc, image)
 }
 
 /// Opens the image of a core again, in the next generation: each version word begins anew, and no log line waits.
@@ -41,18 +37,5 @@ pub fn reopen(alloc: Global, core: Core) -> Result<Core, NoMemory>
     ensures { IfOk result (IsReopened core) }
 {
     let image = core.image(alloc)?;
-    match recover(alloc, image) {
-        Ok(next) => Ok(next),
-        Err(fault) => Err(no_memory(fault)),
-    }
-}
-
-/// Why an image isn't opened that is sound, and of which there is a next generation.
-fn no_memory(fault: OpenFault) -> NoMemory
-    requires { fault ≡ OutOfMemory }
-{
-    match fault {
-        OpenFault::NoMemory => NoMemory,
-        OpenFault::Damaged { .. } | OpenFault::Generations => unreachable!(),
-    }
+    recover_sound(alloc, image)
 }

@@ -13,5 +13,6 @@ mod stopping;
 mod telling;
 
 pub use cores::{open_fresh, reopen};
-pub use opening::{OpenFault, recover};
+pub use image_recovery::OpenFault;
+pub use opening::{recover, recover_sound};
 pub use stopping::Recovery;

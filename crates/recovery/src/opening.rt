@@ -1,37 +1,20 @@
 //! An image opened as an index.
 
-ghost use Rattle.std.specs.Prelude.{◌≡◌, ◌<◌, MatchResult};
-ghost use Rattle.recovery.specs.Opened.{IsOpenFault, IsOpenedFrom, fault_of};
+ghost use Rattle.std.specs.Prelude.{◌≡◌, ◌<◌, suc, IfOk, MatchResult};
+ghost use Rattle.version_lock.specs.Versions.{IsGeneration};
+ghost use Rattle.image_rules.specs.Rules.{header_generation};
+ghost use Rattle.image_layer_rules.specs.Sound.{IsSoundByAll};
+ghost use Rattle.image_recovery.specs.declared.recovering.OpenFault.TheVariants.{NoMemory as OutOfMemory};
+ghost use Rattle.image_recovery.specs.Recovered.{IsOpenFault};
+ghost use Rattle.recovery.specs.Opened.{IsOpenedFrom};
 
 use crate::stopping::Recovery;
-use image_recovery::Refused;
+use image_recovery::OpenFault;
 use index_core::Core;
 use pm_words::{Image, NoMemory, Steps};
 use std::alloc::Global;
 use std::marker::Brand;
 use std::sync::ledger::{Blank, Ledger};
-
-/// Why an image isn't opened.
-#[derive(Clone, Copy, PartialEq, Eq, Debug)]
-pub enum OpenFault {
-    /// It isn't sound. This is the first rule that it breaks, and the number of the first word at which it does.
-    Damaged { rule: u64, word: u64 },
-    /// Its generation is the last that there is.
-    Generations,
-    /// There was no memory.
-    NoMemory,
-}
-
-impl From<NoMemory> for OpenFault {
-    ghost use Rattle.std.specs.Prelude.{◌≡◌};
-    ghost use Rattle.recovery.specs.declared.opening.OpenFault.TheVariants.{NoMemory as OutOfMemory};
-
-    ghost from_gives = { λ _ fault. fault ≡ OutOfMemory };
-
-    fn from(_error: NoMemory) -> OpenFault {
-        OpenFault::NoMemory
-    }
-}
 
 /// Recovers an image and opens it as an index.
 ///
@@ -60,16 +43,24 @@ fn recover_on<L: Ledger>(alloc: Global, image: Image, blank: Blank) -> Result<Co
     Ok(recovery.finish())
 }
 
-/// Why an image isn't opened that is refused so.
-pub(crate) fn fault_of(refused: Refused) -> OpenFault
-    ensures { result ≡ fault_of refused }
+/// The same of an image that is sound, and of which there is a next generation: only memory can be wanting.
+pub fn recover_sound(alloc: Global, image: Image) -> Result<Core, NoMemory>
+    requires sound { IsSoundByAll image.layout image.words }
+    requires next { IsGeneration (suc (header_generation image.layout image.words)) }
+    ensures { IfOk result (IsOpenedFrom image) }
 {
-    match refused {
-        Refused::Unsound(broken) => OpenFault::Damaged {
-            rule: broken.rule,
-            word: broken.word,
-        },
-        Refused::LastGeneration => OpenFault::Generations,
-        Refused::NoMemory => OpenFault::NoMemory,
+    match recover(alloc, image) {
+        Ok(core) => Ok(core),
+        Err(fault) => Err(no_memory(fault)),
+    }
+}
+
+/// Why such an image isn't opened.
+fn no_memory(fault: OpenFault) -> NoMemory
+    requires { fault ≡ OutOfMemory }
+{
+    match fault {
+        OpenFault::NoMemory => NoMemory,
+        OpenFault::Damaged { .. } | OpenFault::Generations => unreachable!(),
     }
 }

@@ -7,15 +7,15 @@ ghost use Rattle.pm_words.specs.Locations.{image_words};
 ghost use Rattle.image_layer_rules.specs.Sound.{IsSoundByAll};
 ghost use Rattle.version_lock.specs.Versions.{IsGeneration};
 ghost use Rattle.image_recovery.specs.Plans.{columns};
-ghost use Rattle.recovery.specs.Opened.{IsOpenFault, IsOpenedFrom};
+ghost use Rattle.image_recovery.specs.Recovered.{IsOpenFault};
+ghost use Rattle.recovery.specs.Opened.{IsOpenedFrom};
 ghost use Rattle.recovery.specs.Stops.{IsDone, IsLeftBy, IsRecoveryOf, IsStarted, MayGoOn, StepsOne, crash_of, evicted_in};
 
-use crate::opening::{OpenFault, fault_of};
 use crate::telling::tell_list;
 use cat_history::{Items, Write};
 use cat_key::Pair;
 use image_pairs::image_pairs;
-use image_recovery::{Begun, Recovery as Moves, begin_sound, refusal};
+use image_recovery::{Begun, OpenFault, Recovery as Moves, begin_sound, refusal};
 use index_core::{Core, PartyState, idle_states};
 use pm_words::{Image, Layout, Memory, NoMemory, Steps};
 use std::alloc::Global;
@@ -42,8 +42,8 @@ impl Recovery {
     pub fn start(alloc: Global, image: Image) -> Result<Recovery, OpenFault>
         ensures { MatchResult result (IsStarted image) (IsOpenFault image) }
     {
-        if let Some(refused) = refusal(&image) {
-            return Err(fault_of(refused));
+        if let Some(fault) = refusal(&image) {
+            return Err(fault);
         }
         match Recovery::of_sound(alloc, image) {
             Ok(recovery) => Ok(recovery),

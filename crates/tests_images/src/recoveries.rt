@@ -4,7 +4,7 @@ ghost use Rattle.std.specs.Prelude.{◌≡◌, ◌<◌};
 
 use crate::images::{A, B, C, image_with};
 use image_layer_rules::first_broken_of_all;
-use image_recovery::{Begun, Move, Refused, begin, plan, recover};
+use image_recovery::{Begun, Move, OpenFault, begin, plan, recover};
 use image_rules::{Broken, first_broken};
 use pm_words::{Image, Steps};
 use std::alloc::Global;
@@ -94,7 +94,7 @@ fn recovered_words<L: Ledger>(
     image: Image,
     places: [u64; 3],
     steps: &mut Steps<L>,
-) -> Option<Result<[u64; 3], Refused>> {
+) -> Option<Result<[u64; 3], OpenFault>> {
     match recover(alloc, image, steps) {
         Ok(memory) => Some(Ok(words_at(&memory.crash(), places)?)),
         Err(refused) => Some(Err(refused)),
@@ -107,7 +107,7 @@ fn recovered<L: Ledger>(
     blank: Blank,
     changes: Changes,
     places: [u64; 3],
-) -> Option<Result<[u64; 3], Refused>>
+) -> Option<Result<[u64; 3], OpenFault>>
     requires name { blank.name ≡ L.name }
     requires parts { (blank.parts ≡ L.parts) × (0 < L.parts) }
 {
@@ -152,7 +152,13 @@ fn refusals(rt: HostRuntime) {
     ] {
         let changes = one_change(word, value);
         let found = recovered::<Brand>(rt.alloc(), Blank::new(1), changes, [0; 3]);
-        assert!(rt; found == Some(Err(Refused::Unsound(broken))));
+        assert!(rt;
+            found
+                == Some(Err(OpenFault::Damaged {
+                    rule: broken.rule,
+                    word: broken.word,
+                }))
+        );
     }
 }
 
@@ -160,7 +166,7 @@ fn refusals(rt: HostRuntime) {
 fn refuses_the_last_generation(rt: HostRuntime) {
     let changes = one_change(5, (1 << 24) - 1);
     let found = recovered::<Brand>(rt.alloc(), Blank::new(1), changes, [0; 3]);
-    assert!(rt; found == Some(Err(Refused::LastGeneration)));
+    assert!(rt; found == Some(Err(OpenFault::Generations)));
 }
 
 /// What a crash leaves where a recovery is stopped after so many actions.

@@ -6,7 +6,6 @@ pub mod WalkLemmas
 pub mod RightLemmas
 pub mod CountLemmas
 pub mod CoverLaw
-pub mod ListedLemmas
 pub mod StrayLemmas
 pub mod LookLemmas
 pub mod CoverLemmas

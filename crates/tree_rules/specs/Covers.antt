@@ -7,14 +7,8 @@ use Rattle.updater_law.specs.Covers.{IsOpenFor}
 use Rattle.image_layer_rules.specs.Leaves.{image_anchor, image_lines}
 use Rattle.tree_law.specs.Trees.{Reference, Leaf, Reaches, find, node_at, way_length}
 use Rattle.tree_law.specs.Words.{reference_of}
-use Rattle.tree_rules.specs.declared.marks.Marks.{Marks}
 use Rattle.tree_rules.specs.Faults.{image_tree}
-use Rattle.tree_rules.specs.Marks.{HasMark}
 use Rattle.tree_rules.specs.Rules.{image_map}
-
--- the nodes with a mark are the listed ones
-abbrev pub AreListed : Layout → List ℕ → Marks → Type 0
-AreListed l image marks = (n : ℕ) → HasMark marks n ↔ IsListedNode l image n
 
 -- the node is a listed one with this anchor
 abbrev pub IsListedWith : Layout → List ℕ → ℕ → ℕ → Type 0

@@ -6,6 +6,5 @@ pub mod Checks
 pub mod Counts
 pub mod Rules
 pub mod Laws
-pub mod Marks
 pub mod Covers
 pub mod Visits

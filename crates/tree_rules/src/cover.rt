@@ -5,17 +5,17 @@ ghost use Rattle.image_rules.specs.Sound.{IsSound};
 ghost use Rattle.search_layer.specs.Keys.{key_number};
 ghost use Rattle.tree_floor.specs.Keys.{IsKey};
 ghost use Rattle.data_node.specs.Lists.{anchor_words};
+ghost use Rattle.image_rules.specs.NodeSets.{AreListed};
 ghost use Rattle.image_rules.specs.Nodes.{image_spot};
-ghost use Rattle.tree_rules.specs.Covers.{AreListed, IsMissed};
+ghost use Rattle.tree_rules.specs.Covers.{IsMissed};
 ghost use Rattle.tree_rules.specs.Rules.{BreaksTree, image_map};
 
-use crate::line::is_open_for;
-use crate::list::listed_nodes;
 use crate::look::node_from;
-use crate::marks::Marks;
 use crate::stray::is_stray_from;
 use crate::words::root_of;
+use image_layer_rules::is_open_for;
 use image_rules::read::anchor_of;
+use image_rules::{NodeSet, listed_nodes};
 use pm_words::Image;
 use radix_nodes::Key;
 
@@ -40,12 +40,12 @@ fn leads_to(image: &Image, key: &Key, node: u64) -> bool
 }
 
 /// Whether a node is listed, and the tree doesn't lead its anchor to it, if no line exempts the anchor.
-fn is_missed(image: &Image, listed: &Marks, node: u64) -> bool
+fn is_missed(image: &Image, listed: &NodeSet, node: u64) -> bool
     requires right { ¬ BreaksTree image.now.layout image.now.words 10 }
     requires listed { AreListed image.now.layout image.now.words listed.now }
     ensures { IsTrue result ↔ IsMissed image.now.layout image.now.words node }
 {
-    if !listed.has(node) {
+    if !listed.contains(node) {
         return false;
     }
     let anchor = anchor_key(image, node);
@@ -56,7 +56,7 @@ fn is_missed(image: &Image, listed: &Marks, node: u64) -> bool
 }
 
 /// Whether there is such a node.
-fn has_missed(image: &Image, listed: &Marks) -> bool
+fn has_missed(image: &Image, listed: &NodeSet) -> bool
     requires sound { IsSound image.now.layout image.now.words }
     requires right { ¬ BreaksTree image.now.layout image.now.words 10 }
     requires listed { AreListed image.now.layout image.now.words listed.now }

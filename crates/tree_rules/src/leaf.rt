@@ -4,8 +4,8 @@ ghost use Rattle.std.specs.Prelude.{◌≡◌, ◌↔◌, IsTrue};
 ghost use Rattle.tree_law.specs.Trees.{Leaf};
 ghost use Rattle.tree_rules.specs.Faults.{IsWrong};
 
-use crate::key::is_key;
 use crate::words::{leaf_count, leaf_key, leaf_word};
+use image_layer_rules::is_key;
 use pm_words::Image;
 use pm_words::offsets::leaf;
 

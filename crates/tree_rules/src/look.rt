@@ -10,8 +10,8 @@ ghost use Rattle.tree_rules.specs.Checks.{IsWrongFrom};
 ghost use Rattle.tree_rules.specs.Covers.{LeadsTo};
 
 use crate::children::child_of;
-use crate::key::is_same;
 use crate::words::{KIND, LEAF, cell_word, leaf_key, leaf_word, read_cell};
+use image_layer_rules::is_same;
 use pm_words::Image;
 use pm_words::offsets::leaf;
 use radix_nodes::{Key, key_byte};

@@ -6,6 +6,7 @@ use Rattle.pm_words.specs.declared.action.Action.{Action}
 use Rattle.pm_words.specs.declared.action.Action.TheVariants.{Load, Store, Exchange}
 use Rattle.pm_words.specs.declared.layout.Layout.{Layout}
 use Rattle.pm_words.specs.Locations.{Cached, Volatile, Updater, Node, address_of, row_words}
+use Rattle.pm_words.specs.Offsets.{version_offset}
 use Rattle.version_lock.specs.Versions.{is_free_word, is_worn_word}
 use Rattle.search_layer.specs.ChangeStages.{Changing, Looks, Changed, ChangeStep}
 use Rattle.updater_row_law.specs.Columns.{RowTerms, line_count, line_word}
@@ -25,7 +26,7 @@ abbrev pub volatile_at : Layout → ℕ → ℕ → ℕ
 volatile_at l n offset = address_of l (Volatile n offset)
 
 abbrev pub version_at : Layout → ℕ → ℕ
-version_at l n = address_of l (Cached (Node n 0))
+version_at l n = address_of l (Cached (Node n version_offset))
 
 pub data RowStep (r : RowTerms) : RowStage → Action → ℕ → RowStage → Type 0 where
   -- it takes the updater lock, or finds it taken

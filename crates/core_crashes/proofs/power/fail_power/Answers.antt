@@ -1,9 +1,16 @@
-use Rattle.core_crashes.proofs.Failing.{only_memory, opened_behind}
+use Rattle.core_crashes.proofs.Failing.{is_early, is_sound, opened_behind}
 use Rattle.core_crashes.proofs.power.fail_power.Goals as goal
 
-pub returns-in-Ok : goal.returns-in-Ok
-returns-in-Ok c = opened_behind c.args.core c.evict_by_seed.new.core c.args.seed c.evict_by_seed.ensures.evicted c.evict_by_seed.ensures.index c.crash-crashed.result.image c.crash-crashed.result.cuts c.crash-crashed.ensures c.in-Ok.next c.in-Ok.ensures
+pub recover_sound-requires-clause-sound : goal.recover_sound-requires-clause-sound
+recover_sound-requires-clause-sound c =
+    is_sound c.args.core c.evict_by_seed.new.core c.args.seed c.evict_by_seed.ensures.evicted c.evict_by_seed.ensures.index c.crash-crashed.result.image c.crash-crashed.result.cuts c.crash-crashed.ensures
 
-pub no_memory-requires : goal.no_memory-requires
-no_memory-requires c =
-    only_memory c.args.core c.evict_by_seed.new.core c.args.seed c.evict_by_seed.ensures.evicted c.evict_by_seed.ensures.index c.crash-crashed.result.image c.crash-crashed.result.cuts c.crash-crashed.ensures c.in-Err.fault c.requires.next c.in-Err.ensures
+pub recover_sound-requires-clause-next : goal.recover_sound-requires-clause-next
+recover_sound-requires-clause-next c =
+    is_early c.args.core c.evict_by_seed.new.core c.args.seed c.evict_by_seed.ensures.evicted c.evict_by_seed.ensures.index c.crash-crashed.result.image c.crash-crashed.result.cuts c.crash-crashed.ensures c.requires.next
+
+pub returns : goal.returns
+returns c = elim c.recover_sound.result as (λ r. IfOk r (IsOpenedFrom c.crash-crashed.result.image) → IfOk r (IsBehindCrash c.args.seed c.args.core)) [
+  | Ok next ↦ opened_behind c.args.core c.evict_by_seed.new.core c.args.seed c.evict_by_seed.ensures.evicted c.evict_by_seed.ensures.index c.crash-crashed.result.image c.crash-crashed.result.cuts c.crash-crashed.ensures next
+  | Err fault ↦ λ none. none
+] c.recover_sound.ensures

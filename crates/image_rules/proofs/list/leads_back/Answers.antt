@@ -28,16 +28,6 @@ returns-then-next-eq0 c =
     walk_ends l image (LeadsBack l image) c.loop-position._position c.loop-position.node (back_listed l image) at ends
     (none_more (LeadsBack l image) c.loop-position._position walks.none (back_kept l image c.loop-position._position c.loop-position.node at (inl ends)))
 
-pub contains-requires : goal.contains-requires
-contains-requires c =
-    let l = c.args.image.now.layout in
-    let image = c.args.image.now.words in
-    let nodes : c.nodes-position-end.result ≡ l.nodes = c.nodes-position-end.ensures ∙ ap (λ (k : Layout). k.nodes) c.layout.ensures.layout in
-    let nodes_few = c.layout.ensures.image.layout.nodes in
-    let next = c.next_of-next.ensures in
-    let inside = c.requires c.loop-position._position c.loop-position.node (c.loop-position.invariant.walks.at (omega arith)) (λ none. c.if-next-eq0.false (next ∙ none)) in
-    omega arith
-
 pub number_of-requires-clause-node : goal.number_of-requires-clause-node
 number_of-requires-clause-node c = c.loop-position.invariant.walks.here
 

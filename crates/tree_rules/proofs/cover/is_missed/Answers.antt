@@ -11,6 +11,6 @@ returns-then-leads_to c = (
 
 pub returns : goal.returns
 returns c =
-    let has : c.has.result ≡ true = search rules in
+    let has : c.contains.result ≡ true = search rules in
     missed_told c.args.image.now.layout c.args.image.now.words c.args.node c.anchor_key-anchor.result c.is_open_for.result c.anchor_key-anchor.ensures.words
-    ((c.requires.listed c.args.node).0 (c.has.ensures.0 has)) (λ leads. false≢true (sym c.if-leads_to.false ∙ c.leads_to.ensures.1 leads)) c.is_open_for.ensures
+    ((c.requires.listed c.args.node).0 (c.contains.ensures.0 has)) (λ leads. false≢true (sym c.if-leads_to.false ∙ c.leads_to.ensures.1 leads)) c.is_open_for.ensures
