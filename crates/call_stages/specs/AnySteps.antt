@@ -4,7 +4,8 @@ use Rattle.std.specs.Prelude.{◌≡◌, ℕ, ◌<◌, ◌≤◌, ◌^◌, ◌�
 use Rattle.pm_words.specs.declared.layout.Layout.{Layout}
 use Rattle.pm_words.specs.declared.action.Action.{Action}
 use Rattle.pm_words.specs.declared.action.Action.TheVariants.{Load, Store, Drain}
-use Rattle.pm_words.specs.Locations.{Leaf, Cached, Volatile, leaf_count, address_of}
+use Rattle.pm_words.specs.Locations.{Word, Cached, Volatile, address_of}
+use Rattle.layer_map.specs.Places.{IsLayerPlace}
 use Rattle.call_stages.specs.declared.once.Once.{Once}
 use Rattle.call_stages.specs.declared.once.Placed.{Placed}
 use Rattle.call_stages.specs.Stages.{Stage, counted}
@@ -14,13 +15,6 @@ use Rattle.call_stages.specs.Lines.{line_address}
 -- The line j of the caller c and the offset are of this layout.
 abbrev pub HasLineWord : Layout → ℕ → ℕ → ℕ → Type 0
 HasLineWord l c j offset = (c < l.callers) × (j < 8) × (offset < 8)
-
--- The leaf and the offset are of this layout.
-abbrev pub HasLeafWord : Layout → ℕ → ℕ → Type 0
-HasLeafWord l leaf offset = (leaf < leaf_count l) × (offset < 8)
-
-abbrev pub leaf_address : Layout → ℕ → ℕ → ℕ
-leaf_address l leaf offset = address_of l (Cached (Leaf leaf offset))
 
 -- The offset, among a node's volatile words, of its permutation's version, or of one of its eight words.
 abbrev pub IsOfPermutation : ℕ → Type 0
@@ -44,7 +38,7 @@ pub data IsBeside (l : Layout) : Action → Type 0 where
   drains_line : {c j offset y : ℕ} → HasLineWord l c j offset → y < 2 ^ 64 →
       IsBeside l (Drain (line_address l c j offset) y)
   stores_prev : {n y : ℕ} → n < l.nodes → y < 2 ^ 64 → IsBeside l (Store (prev_address l n) y)
-  loads_leaf : {leaf offset : ℕ} → HasLeafWord l leaf offset → IsBeside l (Load (leaf_address l leaf offset))
+  loads_layer : {w : Word} → IsLayerPlace l w → IsBeside l (Load (address_of l (Cached w)))
   on_permutation : {action : Action} → IsOnPermutation l action → IsBeside l action
 
 -- A step on nodes, or one beside them of a party that isn't about to count a change. That one leaves its stage.

@@ -13,8 +13,10 @@ use Rattle.call_stages.specs.Stages.{Held, Grip, Filling, Linked, Gathered, Join
 use Rattle.call_stages.specs.Stages.{IsSwitched, Tells, counted}
 use Rattle.call_stages.specs.Kinds.{Step}
 use Rattle.call_stages.specs.Lines.{HeldLine, Notes}
-use Rattle.call_stages.specs.AnySteps.{HasLeafWord, leaf_address, IsOnPermutation, IsBeside}
+use Rattle.call_stages.specs.AnySteps.{IsOnPermutation, IsBeside}
 use Rattle.call_stages.specs.Prevs.{Debt, Deals, Prevs}
+use Rattle.pm_words.specs.Locations.{Word, Cached, address_of}
+use Rattle.layer_map.specs.Places.{IsLayerPlace}
 
 -- The stage of its call, its log line, and what it knows and owes of prevs.
 pub record Footing : Type 0 where
@@ -112,9 +114,9 @@ pub data FootStep (l : Layout) (g c : ℕ) : Footing → Action → ℕ → Foot
         line = line;
         debt = debt';
       }) None
-  on_layer : {stage : Stage} {line : Option HeldLine} {debt : Debt} {leaf offset x : ℕ} →
-      counted stage ≡ None → HasLeafWord l leaf offset →
-      FootStep l g c (record { stage = stage; line = line; debt = debt }) (Load (leaf_address l leaf offset)) x (record {
+  on_layer : {stage : Stage} {line : Option HeldLine} {debt : Debt} {w : Word} {x : ℕ} → counted stage ≡ None →
+      IsLayerPlace l w →
+      FootStep l g c (record { stage = stage; line = line; debt = debt }) (Load (address_of l (Cached w))) x (record {
         stage = stage;
         line = line;
         debt = debt;

@@ -25,7 +25,8 @@ use Rattle.call_stages.specs.declared.once.Placed.{Placed}
 use Rattle.call_stages.specs.Stages.{Known, Knows, KnowsDurable, IsAmong, Held, Sight, Sees, no_sight, Grip, Tells}
 use Rattle.call_stages.specs.Stages.{AreCopies}
 use Rattle.call_stages.specs.Stages.{Phase, Filling, Linked, Parted, Pace, Gathered, Joined, Gone, Stage, Idle, Saw}
-use Rattle.call_stages.specs.Stages.{Wears, Reads, Holds, Eyes, Splits, Leaves, Meets, Joins, IsLoose, full_grip, fresh_grip}
+use Rattle.call_stages.specs.Stages.{Wears, Reads, Holds, Eyes, Splits, Leaves, Meets, Joins, IsLoose, full_grip}
+use Rattle.call_stages.specs.Stages.{fresh_grip}
 use Rattle.call_stages.specs.Stages.{left_grip, just_held, merged_held, pended}
 
 -- The addresses of the clock, of a node's version word, and of a node's word by its offset.

@@ -104,8 +104,9 @@ pub data Stage : Type 0 where
   Saw : ℕ → ℕ → ℕ → Sight → Stage
   -- of this node it loaded this free version word, from which no lock can be taken any more
   Wears : ℕ → ℕ → Stage
-  -- it takes no lock: of this node it loaded this free version word, and what the walk saw since; and once it has loaded
-  -- the clock, what it has learnt, as of a call that holds the node. All that stands as long as that version word does
+  -- it takes no lock: of this node it loaded this free version word, and what the walk saw since; and once it has
+  -- loaded the clock, what it has learnt, as of a call that holds the node. All that stands as long as that version
+  -- word does
   Reads : ℕ → ℕ → Sight → Option Held → Stage
   -- it holds this node, whose version word is this
   Holds : ℕ → ℕ → Held → Stage

@@ -1,5 +1,6 @@
 -- What one caller's answers say of its calls, and which round callers make that meet in one history.
-use Rattle.std.specs.Prelude.{◌≡◌, ℕ, ◌+◌, ◌*◌, ◌/◌, ◌<◌, ◌≤◌, ◌==◌, Bool, true, List, [], ◌∷◌, ◌++◌, All, Contains, IfSome, length, map}
+use Rattle.std.specs.Prelude.{◌≡◌, ℕ, ◌+◌, ◌*◌, ◌/◌, ◌<◌, ◌≤◌, ◌==◌, Bool, true, List, [], ◌∷◌, ◌++◌, All, Contains}
+use Rattle.std.specs.Prelude.{IfSome, length, map}
 use Rattle.std.specs.FinMap.{len}
 use Rattle.std.specs.List.{enumerate_from, filter, flat_map}
 use Rattle.std.specs.Option.{option_to_list}
@@ -126,8 +127,8 @@ CrashNamesRise = (base : Map) (calls : List Call) (limit : ℕ) (records : List 
 abbrev pub HadManyNames : ℕ → Map → List Write → Type 0
 HadManyNames slots base seen = (place : ℕ) × (place ≤ length seen) × (slots ≤ len (after base seen place))
 
--- What a caller knows of room that has seen these writes: how many names its puts have added, of which its records tell;
--- and where one of its calls was full, that no node was FREE, which it has noted, and that there were many names.
+-- What a caller knows of room that has seen these writes: how many names its puts have added, of which its records
+-- tell; and where one of its calls was full, that no node was FREE, which it has noted, and that there were many names.
 pub record KnowsRoom (slots : ℕ) (base : Map) (seen : List Write) (noted : Bool) (added : ℕ) (records : List Record) :
     Type 0 where
   pub told : added ≤ puts_added records

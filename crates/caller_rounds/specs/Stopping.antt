@@ -20,8 +20,8 @@ use Rattle.stopped_rounds.specs.MoreCuts.{AreAmong}
 use Rattle.caller_rounds.specs.CallerRounds.{Begins, HasReplies, IsRepliedSince, asked_of, by_caller, own_writes}
 
 -- A caller that was asked these has come so far with its calls and stopped once: behind a call that wasn't answered it
--- began none. What became of a write that was cut off without a place is open. One whose calls were all answered is such
--- a caller too.
+-- began none. What became of a write that was cut off without a place is open. One whose calls were all answered is
+-- such a caller too.
 pub record HasStopped (base : Map) (limit caller : ℕ) (asked : List Op) (seen : List Write) (records : List Record) :
     Type 0 where
   pub replies : HasReplies base limit caller asked seen records

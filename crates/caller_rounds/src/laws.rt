@@ -10,8 +10,8 @@ pub fn caller_law()
     ensures stay { RepliesStay }
 {}
 
-/// Callers that have come so far with their calls of a script in one history, whose writes are theirs alone, have made a
-/// legal round of them, with the history as its writes; and one that was joined, where each call was answered.
+/// Callers that have come so far with their calls of a script in one history, whose writes are theirs alone, have made
+/// a legal round of them, with the history as its writes; and one that was joined, where each call was answered.
 pub fn meeting_law()
     ensures legal { RepliesMakeRound }
     ensures joined { CallersMakeRound }
@@ -60,8 +60,8 @@ pub fn stopping_law()
 {}
 
 /// Callers that each stopped once within their budgets in one history, whose writes are theirs alone, have made a legal
-/// round of their calls that stopped, with the history as its writes; and what a crash leaves of what they had in flight
-/// is what it may leave of the changes that the records tell as cut off.
+/// round of their calls that stopped, with the history as its writes; and what a crash leaves of what they had in
+/// flight is what it may leave of the changes that the records tell as cut off.
 pub fn stop_law()
     ensures round { StopsMakeRound }
     ensures end { StopsEndSo }
@@ -69,8 +69,8 @@ pub fn stop_law()
 
 ghost use Rattle.caller_rounds.specs.Settling.{SettledStay};
 
-/// As the marks of a round's records are settled, as many puts may have added a name, and what was paid for and stood by
-/// caller is and does so still.
+/// As the marks of a round's records are settled, as many puts may have added a name, and what was paid for and stood
+/// by caller is and does so still.
 pub fn settled_law()
     ensures { SettledStay }
 {}

@@ -111,7 +111,8 @@ is_answered Unstarted = false
 abbrev pub answered_records : List Record → List Record
 answered_records records = filter (λ r. is_answered r.reply) records
 
--- Where each call was answered those are all; and where the first calls were answered and none of the others, the first.
+-- Where each call was answered those are all; and where the first calls were answered and none of the others, the
+-- first.
 abbrev pub AnsweredAreAll : Type 0
 AnsweredAreAll = (records : List Record) → All (λ r. IsAnswered r.reply) records → answered_records records ≡ records
 

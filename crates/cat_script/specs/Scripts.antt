@@ -17,12 +17,13 @@ use Rattle.cat_script.specs.declared.script.Need.TheVariants.{Caller, Budgets, N
 use Rattle.cat_script.specs.declared.script.Script.{Script}
 use Rattle.cat_script.specs.declared.script.ScriptLine.{ScriptLine}
 
--- The lines that are not blank, each with its number, where the first of all has this number, and with what it asks of a
--- layout: a call its caller, and a crash one caller for each budget.
+-- The lines that are not blank, each with its number, where the first of all has this number, and with what it asks of
+-- a layout: a call its caller, and a crash one caller for each budget.
 abbrev pub numbered : ℕ → List Line → List ScriptLine
 numbered number [] = []
 numbered number (Blank ∷ lines) = numbered (number + 1) lines
-numbered number (Call caller op ∷ lines) = record { number = number; need = Caller caller } ∷ numbered (number + 1) lines
+numbered number (Call caller op ∷ lines) = record { number = number; need = Caller caller } ∷
+    numbered (number + 1) lines
 numbered number (Join ∷ lines) = record { number = number; need = Nothing } ∷ numbered (number + 1) lines
 numbered number (Crash plan ∷ lines) =
     record { number = number; need = Budgets (length plan.budgets) } ∷ numbered (number + 1) lines

@@ -35,8 +35,8 @@ use Rattle.catalog_cli.specs.declared.status.Status.TheVariants as status
 
 -- ---- commands and scripts
 
--- The words of a command that reads a script, to play it on an empty catalogue of this layout. (A run on a file has those
--- of `RunsScript`.)
+-- The words of a command that reads a script, to play it on an empty catalogue of this layout. (A run on a file has
+-- those of `RunsScript`.)
 abbrev pub ReadsScript : List (List ℕ) → Layout → Type 0
 ReadsScript words layout = IsCommand words (Play layout)
 
@@ -144,8 +144,8 @@ SavesFresh words files files' = (layout : Layout) × Formats words layout ×
 abbrev pub SavesRun : List (List ℕ) → Seen → Type 0
 SavesRun words told = RunsScript words × IsFileAfterRun told.left told.files told.files' (file_of words)
 
--- What a command leaves that was done or whose text could not be written whole: a new file, the file of its run, or each
--- file as it was.
+-- What a command leaves that was done or whose text could not be written whole: a new file, the file of its run, or
+-- each file as it was.
 abbrev pub LeavesFiles : List (List ℕ) → Seen → Type 0
 LeavesFiles words told = SavesFresh words told.files told.files' ⊎ SavesRun words told ⊎
     ((¬ FormatsSome words) × (¬ RunsScript words) × KeepsFiles told.files told.files')

@@ -50,8 +50,8 @@ IsRefusedBy callers bytes (status.Image refusal) = ⊥
 
 -- ---- reports
 
--- What the rounds of a script begin from: a catalogue of this layout, with this map in this shape; what that weighs, and
--- how many names the map has.
+-- What the rounds of a script begin from: a catalogue of this layout, with this map in this shape; what that weighs,
+-- and how many names the map has.
 pub record Opening : Type 0 where
   pub layout : Layout
   pub map : Map

@@ -60,9 +60,9 @@ abbrev pub LinesWait : Row → List RoundReport → Row → Type 0
 LinesWait old reports new = ImageWaits new
     (changes_made old.layout.slots (image_map old.layout old.words) (image_anchors old.layout old.words) reports)
 
--- Rounds of one caller each that no crash ends make no turn, of the updater or of their own: at most eight of their calls
--- are puts or deletes, as many as a caller has log lines, and their puts and the members of the image are fewer than its
--- nodes.
+-- Rounds of one caller each that no crash ends make no turn, of the updater or of their own: at most eight of their
+-- calls are puts or deletes, as many as a caller has log lines, and their puts and the members of the image are fewer
+-- than its nodes.
 pub record NeedNoTurns (old : Row) (plans : List RoundPlan) : Type 0 where
   pub lone : AreLoneRounds plans
   pub joined : AreJoined plans

@@ -17,7 +17,8 @@ use Rattle.image_recovery.specs.declared.recovering.OpenFault.TheVariants as ope
 use Rattle.catalog_cli.specs.declared.status.ImageRefusal.{ImageRefusal}
 use Rattle.catalog_cli.specs.declared.status.ImageRefusal.TheVariants as image
 use Rattle.catalog_cli.specs.declared.status.Status.{Status}
-use Rattle.catalog_cli.specs.declared.status.Status.TheVariants.{Done, Usage, Script, Read, Write, Shelf, NoMemory, Image}
+use Rattle.catalog_cli.specs.declared.status.Status.TheVariants.{Done, Usage, Script, Read, Write, Shelf, NoMemory}
+use Rattle.catalog_cli.specs.declared.status.Status.TheVariants.{Image}
 
 -- The exit code of a status.
 abbrev pub code_of : Status → ℕ

@@ -33,7 +33,8 @@ use std::thread::Threads;
 ///
 /// - `play NODES SLOTS CALLERS` plays the script that the source gives, from an empty catalogue of that layout, and
 ///   writes its report. The script is read to its end and looked through before anything is played.
-/// - `run FILE` plays the script that the source gives on the catalogue in a file of the shelf. The image that its rounds
+/// - `run FILE` plays the script that the source gives on the catalogue in a file of the shelf. The image that its
+/// rounds
 ///   leave is saved under the same name, once and whole, and then the report is written. The script is read to its end
 ///   before the file is loaded, and it is looked through once the file is known to be a sound image.
 /// - `gen SEED COUNT CALLERS` plays a round of calls that the seed makes, and writes a line that sums them up.
@@ -58,11 +59,11 @@ pub fn catalog<R: Threads + Wait + Sync, S: Source, K: Sink, H: Shelf, G: Gate>(
     gate: &G,
 ) -> Status
     // What was written: the text of a report of the grammar, that of the script, each of whose rounds is legal, and in
-    // rounds that a crash ends calls are answered in time; for a run on a file the very rounds that the file has now; or
-    // the summary of a legal round of the generated calls; or the line of a fresh image; or the words of a file; or a
-    // beginning of one of these; or nothing. What the shelf has then: a new file of a fresh image, a file with the image
-    // that a run on it left, or what it had; no other file ever changes. Each status has its cause, and comes where that
-    // is given, unless memory runs out.
+    // rounds that a crash ends calls are answered in time; for a run on a file the very rounds that the file has now;
+    // or the summary of a legal round of the generated calls; or the line of a fresh image; or the words of a file; or
+    // a beginning of one of these; or nothing. What the shelf has then: a new file of a fresh image, a file with the
+    // image that a run on it left, or what it had; no other file ever changes. Each status has its cause, and comes
+    // where that is given, unless memory runs out.
     ensures run { IsRunOf (map string_bytes words.now)
         (seen (S.left script.old) (H.files shelf.old) (H.files shelf.new) (S.faults script.old) (S.faults script.new)
         (H.faults shelf.old) (H.faults shelf.new)) (K.written out.old) (K.written out.new) (K.faults out.old)

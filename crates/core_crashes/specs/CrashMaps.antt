@@ -77,9 +77,9 @@ writes_of m = if m.stopped then 2 ^ 62 else writes_left_of m.index
 abbrev pub weighs_of : Stoppable → ℕ
 weighs_of m = weight_sum (world m.index)
 
--- None of these calls, made one after another by any one caller, makes a turn of the updater itself: ways are short, for
--- each put and delete there is an EMPTY log line of each caller, and for each put a FREE node; and when all are made no
--- more than eight lines are READY.
+-- None of these calls, made one after another by any one caller, makes a turn of the updater itself: ways are short,
+-- for each put and delete there is an EMPTY log line of each caller, and for each put a FREE node; and when all are
+-- made no more than eight lines are READY.
 pub record MakeNoTurns (s : Index) (asked : List CallerOp) : Type 0 where
   pub short : HasShortWays s
   pub changes : ℕ
@@ -128,8 +128,8 @@ abbrev pub anchors_left : ℕ → MapState → Option Change → Anchors
 anchors_left slots s None = s.anchors
 anchors_left slots s (Some change) = anchors_changed slots s.contents s.anchors change
 
--- A call on a name was answered: it is full exactly where it is so in the shape, and then nothing has changed; else it was
--- told the number that the name had, and made its change.
+-- A call on a name was answered: it is full exactly where it is so in the shape, and then nothing has changed; else it
+-- was told the number that the name had, and made its change.
 abbrev pub Gave : ℕ → ℕ → MapState → CoreCall → Result (Option ℕ) Full → MapState → Type 0
 Gave slots most s c answer new = MatchResult answer
     (λ old. (PutsFull slots most s.contents s.anchors (as_op (op_of c)) → ⊥) ×

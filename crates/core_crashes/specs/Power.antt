@@ -8,9 +8,9 @@ use Rattle.index_core.specs.Indexes.{Index, map_of_index, world}
 use Rattle.index_core.specs.Weights.{weight_of}
 use Rattle.recovery.specs.Opened.{IsOpenedFrom}
 
--- Power failed once those words were durable that the seed chooses, and the image that was left of the index was opened, in
--- the next generation. Its map is the one after the whole history and after those of the unplaced writes in flight that are
--- found in it.
+-- Power failed once those words were durable that the seed chooses, and the image that was left of the index was
+-- opened, in the next generation. Its map is the one after the whole history and after those of the unplaced writes in
+-- flight that are found in it.
 pub record IsBehindCrash (seed : ℕ) (old new : Index) : Type 0 where
   pub opened : IsOpenedFrom (crash_image (chosen_index old seed)) new
   pub layout : new.layout ≡ old.layout

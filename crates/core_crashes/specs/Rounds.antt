@@ -35,8 +35,8 @@ pub record IsPlayedLoneCrash (core : Index) (plan : RoundPlan) (crash : CrashPla
   pub within : IsShapeWithin core.layout.slots core.layout.nodes (weight_of core + puts_added report.records)
       (len (map_of_index core) + puts_added report.records) (map_of_index next) (anchors_in (world next))
   pub weighs : weight_of next ≤ weight_of core + puts_added report.records
-  -- where neither the calls nor the updater make turns, each call on a name is answered for which, and for each one before
-  -- it, its caller's budget has 70,000 events
+  -- where neither the calls nor the updater make turns, each call on a name is answered for which, and for each one
+  -- before it, its caller's budget has 70,000 events
   pub in_time : (caller budget : ℕ) → All (λ a. a.caller ≡ caller) plan.ops →
       slice_get crash.budgets caller ≡ Some budget → MakeNoTurns core plan.ops → AreOnNames plan.ops → HasNoTurns plan →
       AreInTime most_events budget report.records

@@ -131,7 +131,8 @@ impl<L: Ledger, K: CrashRun> CrashMap<L, K> {
         ensures calls_left { calls_of self.old ≤ calls_of self.new + 1 }
         ensures writes_left { writes_of self.old ≤ writes_of self.new + most_writes call }
         ensures weighs { weighs_of self.new ≤ weighs_of self.old + added_within (op_of call) result }
-        ensures in_time { (a : CallerOp) (rest : List CallerOp) → a.op ≡ as_op (op_of call) → IsTurnless self.old (a ∷ rest) →
+        ensures in_time { (a : CallerOp) (rest : List CallerOp) → a.op ≡ as_op (op_of call) →
+            IsTurnless self.old (a ∷ rest) →
             IsInTime result most_events budget.old budget.new (IsTurnless self.new rest) }
         ensures room { (a : CallerOp) (rest : List CallerOp) → a.op ≡ as_op (op_of call) →
             FindRoom K.anchors self.old (a ∷ rest) →
@@ -160,8 +161,8 @@ impl<L: Ledger, K: CrashRun> CrashMap<L, K> {
         }
     }
 
-    /// A whole part of a scan within a budget: the first names from the low one on, so many at most, of those that belong
-    /// to its member.
+    /// A whole part of a scan within a budget: the first names from the low one on, so many at most, of those that
+    /// belong to its member.
     fn list(&mut self, low: &Name, count: u64, budget: &mut u64) -> Bounded<PartWords>
         requires uncut { (state_of K.anchors self.old).cut ≡ [] }
         requires calls { 0 < calls_of self.old }

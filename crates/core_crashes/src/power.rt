@@ -26,8 +26,8 @@ fn evict_by_seed(core: &mut Core, seed: u64)
 }
 
 /// Power fails, once those words are durable that the seed chooses, and the image that is left is opened in the next
-/// generation. Its map is the one after all placed writes, and after those of the unplaced ones in flight that the image
-/// shows. Memory that runs out is the only refusal.
+/// generation. Its map is the one after all placed writes, and after those of the unplaced ones in flight that the
+/// image shows. Memory that runs out is the only refusal.
 pub fn fail_power(alloc: Global, core: Core, seed: u64) -> Result<Core, NoMemory>
     requires index { IsIndex core }
     requires next { IsGeneration (suc core.generation) }

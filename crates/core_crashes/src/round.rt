@@ -22,17 +22,17 @@ use std::marker::Brand;
 use std::sync::ledger::{Blank, Ledger};
 use stopped_rounds::{StoppedRound, run_crash_round};
 
-/// A round of one caller that a crash ended: what is reported of it, and the core that the image opens as which the crash
-/// left.
+/// A round of one caller that a crash ended: what is reported of it, and the core that the image opens as which the
+/// crash left.
 #[derive(Drop)]
 pub struct CrashedRound {
     pub report: RoundReport,
     pub core: Core,
 }
 
-/// Plays a round of one caller on the map of a core, each party within its budget of events, up to the crash of the plan.
-/// Then power fails, the image that is left is opened in the next generation, and its map tells what became of a write
-/// that was cut off without a place. Memory that runs out is the only refusal.
+/// Plays a round of one caller on the map of a core, each party within its budget of events, up to the crash of the
+/// plan. Then power fails, the image that is left is opened in the next generation, and its map tells what became of a
+/// write that was cut off without a place. Memory that runs out is the only refusal.
 pub fn crash_round(
     alloc: Global,
     core: Core,

@@ -71,8 +71,8 @@ changes_for s (call.Part low count) = 0
 changes_for s (call.Recheck node version) = 0
 changes_for s (call.Turn stamp release) = 0
 
--- So many log lines are READY, each of which waits for the updater. So many more puts and deletes of each caller, of which
--- so many are puts, have an EMPTY line and a FREE node each.
+-- So many log lines are READY, each of which waits for the updater. So many more puts and deletes of each caller, of
+-- which so many are puts, have an EMPTY line and a FREE node each.
 pub record Waits (s : Index) (changes writes puts : ℕ) : Type 0 where
   pub ready : ready_lines (world s) ≡ changes
   pub lines : (caller : ℕ) → caller < s.layout.callers → writes ≤ empty_lines caller (world s)
@@ -95,8 +95,8 @@ abbrev pub HasNoLines : Index → Type 0
 HasNoLines s = (j : ℕ) → line_state (world s) j ≡ empty_state
 
 -- What is known of an index that an image was opened as, before anything is done with it: the names, the shape and the
--- weight of the image. Its base has each name once. No line waits, and the first caller's eight are EMPTY; all nodes but
--- those of the list are FREE.
+-- weight of the image. Its base has each name once. No line waits, and the first caller's eight are EMPTY; all nodes
+-- but those of the list are FREE.
 pub record IsOpenedMap (image : Row) (s : Index) : Type 0 where
   pub contents : map_of_index s ≡ image_map image.layout image.words
   pub anchors : anchors_in (world s) ≡ image_anchors image.layout image.words
@@ -126,7 +126,8 @@ pub record ImageWaits (image : Row) (changes : ℕ) : Type 0 where
   pub others : (j : ℕ) → j < 8 * image.layout.callers →
       (image_line image j ≡ empty_state) ⊎ (image_line image j ≡ ready_state)
 
--- The image keeps the index: its cached words, which are sound by all rules, with its map, its shape and its generation.
+-- The image keeps the index: its cached words, which are sound by all rules, with its map, its shape and its
+-- generation.
 pub record IsImageOf (s : Index) (image : Row) : Type 0 where
   pub layout : image.layout ≡ s.layout
   pub words : image.words ≡ cached_row s.layout s.words

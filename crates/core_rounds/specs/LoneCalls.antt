@@ -1,5 +1,6 @@
 -- The calls of rounds, whether one caller makes them, and behind which rounds the index is opened again.
-use Rattle.std.specs.Prelude.{◌≡◌, ℕ, ◌+◌, ◌<◌, ◌≤◌, ◌==◌, ◌||◌, ◌↔◌, ◌++◌, Bool, true, false, if◌then◌else◌, is_some, None}
+use Rattle.std.specs.Prelude.{◌≡◌, ℕ, ◌+◌, ◌<◌, ◌≤◌, ◌==◌, ◌||◌, ◌↔◌, ◌++◌, Bool, true, false, if◌then◌else◌, is_some}
+use Rattle.std.specs.Prelude.{None}
 use Rattle.std.specs.Prelude.{List, [], ◌∷◌, All, length}
 use Rattle.std.specs.List.{sum_by}
 use Rattle.cat_history.specs.Maps.{Map}

@@ -72,9 +72,9 @@ RoundsEndWithTurn (plan ∷ next ∷ plans) = RoundsEndWithTurn (next ∷ plans)
 
 -- ---- rounds of several callers
 
--- A legal round of the plan's calls under the plan's limit, by several callers at once, from the base map on, joined and
--- reported: with these writes, in the order of their places. Each full answer is paid for by so much weight and so many
--- names, and the puts of the round that added a name. At its end the report has the number of placed writes and of
+-- A legal round of the plan's calls under the plan's limit, by several callers at once, from the base map on, joined
+-- and reported: with these writes, in the order of their places. Each full answer is paid for by so much weight and so
+-- many names, and the puts of the round that added a name. At its end the report has the number of placed writes and of
 -- names. Where calls of different callers are about different names, and each took place, the map is that of the calls
 -- in the order of the script.
 pub record IsCrowdRound (slots nodes weighs names : ℕ) (base : Map) (plan : RoundPlan) (report : RoundReport)
@@ -90,10 +90,10 @@ pub record IsCrowdRound (slots nodes weighs names : ℕ) (base : Map) (plan : Ro
 
 -- ---- rounds that a crash ends
 
--- A round of the plan's calls under the plan's limit, from the base map on, that this crash ended, settled and reported:
--- each caller came as far as its budget let it, these are the writes that have a place, in the order of their places, and
--- the map that was found again is the one after them and after those cut off without a place that are reported found. At
--- its end the report has the number of placed writes, and that of the names of the map found.
+-- A round of the plan's calls under the plan's limit, from the base map on, that this crash ended, settled and
+-- reported: each caller came as far as its budget let it, these are the writes that have a place, in the order of their
+-- places, and the map that was found again is the one after them and after those cut off without a place that are
+-- reported found. At its end the report has the number of placed writes, and that of the names of the map found.
 pub record IsCrashedRound (base : Map) (plan : RoundPlan) (crash : CrashPlan) (report : RoundReport)
     (writes : List Write) (end : Map) : Type 0 where
   pub legal : IsCrashRound base (numbered plan.ops) plan.limit crash.budgets report.records writes end
@@ -102,8 +102,8 @@ pub record IsCrashedRound (base : Map) (plan : RoundPlan) (crash : CrashPlan) (r
   pub names_are : report.names ≡ len end
 
 -- In one of one caller its records are in the order of the script, and its answered calls are as in a round that is
--- joined: each answered on the map as the earlier ones left it, `spent` exactly where the placed writes reach the limit,
--- `full` exactly by the shape, and each part of a scan bounded by it.
+-- joined: each answered on the map as the earlier ones left it, `spent` exactly where the placed writes reach the
+-- limit, `full` exactly by the shape, and each part of a scan bounded by it.
 pub record IsLoneCrash (slots nodes : ℕ) (base : Map) (anchors : Anchors) (plan : RoundPlan) (records : List Record) :
     Type 0 where
   pub in_script_order : map call_of records ≡ numbered plan.ops
@@ -119,8 +119,8 @@ pub record IsLoneCrash (slots nodes : ℕ) (base : Map) (anchors : Anchors) (pla
 -- there can be as many members as nodes. The first two numbers are what the opening weighed and how many names it had,
 -- each with the puts since then that added a name or were cut off: they pay for each full answer.
 --
--- Behind a joined round in which one caller at most has calls, the shape is what its calls made of the one before. Behind
--- any other round it has the names of the map that the round left, and no more weight than is paid for.
+-- Behind a joined round in which one caller at most has calls, the shape is what its calls made of the one before.
+-- Behind any other round it has the names of the map that the round left, and no more weight than is paid for.
 pub data ArePlayed (slots nodes : ℕ) : ℕ → ℕ → Map → Anchors → List RoundPlan → List RoundReport → Map → Anchors →
     Type 0 where
   ends : {weighs names : ℕ} {base : Map} {anchors : Anchors} →

@@ -193,7 +193,8 @@ impl<L: Ledger, K: RunOf> UpdatedMap for CoreMap<L, K> {
 
     fn turn(&mut self) {
         let updater = self.core.layout().callers();
-        self.core.turn_alone(updater, LONE_STAMP, LONE_STAMP, &mut self.steps);
+        self.core
+            .turn_alone(updater, LONE_STAMP, LONE_STAMP, &mut self.steps);
     }
 }
 
@@ -244,8 +245,8 @@ fn call_alone<L: Ledger>(
     }
 }
 
-/// A whole part of a scan on an index that has calls left, with no call in flight: it lists the first names from the low
-/// one on, so many at most, of those that belong to its member.
+/// A whole part of a scan on an index that has calls left, with no call in flight: it lists the first names from the
+/// low one on, so many at most, of those that belong to its member.
 fn list_alone<L: Ledger>(
     core: &mut Core,
     caller: u64,

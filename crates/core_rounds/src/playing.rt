@@ -132,7 +132,8 @@ fn play_on_map<M: UpdatedMap>(
         (M.anchors map.new)) }
     ensures report { IfOk result (λ reports. All IsReportRound reports.items) }
     ensures weighs { IfOk result (λ reports. M.weighs map.new ≤ M.weighs map.old + added_in reports.items) }
-    ensures names { IfOk result (λ reports. len (M.contents map.new) ≤ len (M.contents map.old) + added_in reports.items) }
+    ensures names { IfOk result
+        (λ reports. len (M.contents map.new) ≤ len (M.contents map.old) + added_in reports.items) }
     ensures calls_left { IfOk result (λ _. (calls : ℕ) →
         (calls + calls_in plans.now) * M.most map.old ≤ M.calls_left map.old →
         calls * M.most map.old ≤ M.calls_left map.new) }

@@ -99,8 +99,8 @@ pub fn run_lone_round<M: UpdatedMap>(
 }
 
 /// Answers one call at once, on the map as it is, and makes a turn of the updater behind it where one is due. So many
-/// writes have a place by now, and so many may have one before a put or a delete is refused. Where there is no memory for
-/// the parts of a scan, the map is as it was.
+/// writes have a place by now, and so many may have one before a put or a delete is refused. Where there is no memory
+/// for the parts of a scan, the map is as it was.
 fn answer<M: UpdatedMap>(
     alloc: Global,
     map: &mut M,

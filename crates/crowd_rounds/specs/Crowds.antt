@@ -38,9 +38,9 @@ pub record IsPlayedCrowd (core : Index) (plan : RoundPlan) (report : RoundReport
   pub image : Row
   pub opened : IsOpenedFrom image next
 
--- A round of several callers was played on the map of this core up to its crash, settled and reported, with these writes
--- that have their place; and the image was opened that the crash left. That has the map which is reported found, and a
--- shape that the weight and the names before the round and the puts that added a name, or were cut off, pay for.
+-- A round of several callers was played on the map of this core up to its crash, settled and reported, with these
+-- writes that have their place; and the image was opened that the crash left. That has the map which is reported found,
+-- and a shape that the weight and the names before the round and the puts that added a name, or were cut off, pay for.
 pub record IsPlayedCrowdCrash (core : Index) (plan : RoundPlan) (crash : CrashPlan) (report : RoundReport)
     (next : Index) : Type 0 where
   pub writes : List Write
@@ -74,8 +74,8 @@ pub record IsReportedBehind (met : Index) (records : List Record) (writes : ℕ)
   pub reported : report ≡ record { records = records; crashed = false; writes = writes; names = length next.base }
   pub names_fit : length next.base < 2 ^ 64
 
--- What is reported of a round that a crash ended, and the core that the image was opened as which it left: each mark says
--- what that core's map says.
+-- What is reported of a round that a crash ended, and the core that the image was opened as which it left: each mark
+-- says what that core's map says.
 pub record IsReportedCrash (image : Row) (records : List Record) (writes : ℕ) (report : RoundReport) (next : Index) :
     Type 0 where
   pub opened : IsOpenedFrom image next

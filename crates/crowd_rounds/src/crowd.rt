@@ -27,9 +27,9 @@ pub(crate) struct Crowd {
     pub(crate) core: Core,
 }
 
-/// Plays a round of several callers on the map of a core. Where they are joined, the image is opened again in which they
-/// meet: so each version word begins anew, and the next round finds no worn node. Where a crash ends the round, the image
-/// is opened that it leaves, and the map that is found there says what became of each write that was cut off.
+/// Plays a round of several callers on the map of a core. Where they are joined, the image is opened again in which
+/// they meet: so each version word begins anew, and the next round finds no worn node. Where a crash ends the round,
+/// the image is opened that it leaves, and the map that is found there says what became of each write that was cut off.
 pub(crate) fn play_crowd<R: Threads + Wait + Sync, G: Gate>(
     rt: &R,
     alloc: Global,

@@ -44,8 +44,8 @@ pub struct PlayedRounds {
 
 /// Plays the rounds, one after another, from an empty catalogue of this layout.
 ///
-/// In a round of several callers each waits for nodes that others hold, and `gate` is called before each call and before
-/// each of its steps. Memory that runs out is the only refusal.
+/// In a round of several callers each waits for nodes that others hold, and `gate` is called before each call and
+/// before each of its steps. Memory that runs out is the only refusal.
 pub fn play_plans<R: Threads + Wait + Sync, G: Gate>(
     rt: &R,
     alloc: Global,
@@ -150,8 +150,8 @@ fn play_mixed<R: Threads + Wait + Sync, G: Gate>(
     })
 }
 
-/// Plays the rounds up to the first one behind which the index is opened again and that one, or all of them, where there
-/// is none. Where some are left, an image was opened as the core.
+/// Plays the rounds up to the first one behind which the index is opened again and that one, or all of them, where
+/// there is none. Where some are left, an image was opened as the core.
 fn play_segment<R: Threads + Wait + Sync, G: Gate>(
     rt: &R,
     alloc: Global,
@@ -209,15 +209,16 @@ fn plain_at_first(plans: &[RoundPlan]) -> usize
     plans.len()
 }
 
-/// A round that was played, behind which the index was opened again: what is reported of it, and the core that the image
-/// opens as.
+/// A round that was played, behind which the index was opened again: what is reported of it, and the core that the
+/// image opens as.
 #[derive(Drop)]
 struct Restarted {
     report: RoundReport,
     core: Core,
 }
 
-/// Plays a round behind which the index is opened again: one of several callers, or one of one caller that a crash ends.
+/// Plays a round behind which the index is opened again: one of several callers, or one of one caller that a crash
+/// ends.
 fn play_restart<R: Threads + Wait + Sync, G: Gate>(
     rt: &R,
     alloc: Global,

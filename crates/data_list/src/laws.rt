@@ -18,8 +18,8 @@ pub fn walks_are_watches()
 
 ghost use Rattle.data_list.specs.Laws.{WalksAreViews};
 
-/// Each turn of a walk is a look for a call that takes no lock: it relies on the version word of the node that it is at,
-/// whether or not a lock can be taken from that, and on what it saw of the node since.
+/// Each turn of a walk is a look for a call that takes no lock: it relies on the version word of the node that it is
+/// at, whether or not a lock can be taken from that, and on what it saw of the node since.
 pub fn walks_are_views()
     ensures { WalksAreViews }
 {}

@@ -1,5 +1,6 @@
 -- The words that the calls on bitmaps and fingerprints give, as numbers.
-use Rattle.std.specs.Prelude.{ℕ, zero, suc, ◌+◌, ◌-◌, ◌*◌, ◌%◌, ◌^◌, ◌==◌, ◌&&◌, nat_lt, if◌then◌else◌, List, Option, Some}
+use Rattle.std.specs.Prelude.{ℕ, zero, suc, ◌+◌, ◌-◌, ◌*◌, ◌%◌, ◌^◌, ◌==◌, ◌&&◌, nat_lt, if◌then◌else◌, List, Option}
+use Rattle.std.specs.Prelude.{Some}
 use Rattle.std.specs.Prelude.{None, slice_set, bit_and, bit_or}
 use Rattle.std.specs.Int.{w64, bit_at, trailing_ones, trailing_zeros, from_le_bytes}
 use Rattle.data_node.specs.Slots.{prints_of, print_of}

@@ -24,7 +24,8 @@ HasRead m released = Contains m.made (EpochLoad (released + 2))
 
 -- Each release number that a party has read is below each pin that is checked.
 abbrev pub IsPinSafe : State (Unit {0}) (List PinMember) → Type 0
-IsPinSafe s = (reader holder : PinMember) (released number : ℕ) → Stands s reader → HasRead reader released → Stands s holder →
+IsPinSafe s = (reader holder : PinMember) (released number : ℕ) → Stands s reader → HasRead reader released →
+    Stands s holder →
     holder.pin ≡ Checked number → released < number
 
 -- So it is at each moment at which the table keeps its rule.
@@ -35,8 +36,8 @@ KeptIsSafe = (parties : ℕ) (s : State (Unit {0}) (List PinMember)) → Kept pa
 abbrev pub begun : ℕ → State (Unit {0}) (List PinMember)
 begun parties = opening (first_epoch ∷ replicate parties 0) [] (first_view parties)
 
--- What the table is once the seat's party has made a step; once a seat has come that has no party; once a seat has parted
--- from its first one; and once a seat has taken in the parties of another.
+-- What the table is once the seat's party has made a step; once a seat has come that has no party; once a seat has
+-- parted from its first one; and once a seat has taken in the parties of another.
 abbrev pub stepped : State (Unit {0}) (List PinMember) → ℕ → PinMember → Made → State (Unit {0}) (List PinMember)
 stepped s id m step = record {
   words = words_after s.words m step;
@@ -49,12 +50,14 @@ with_views s views = record { words = s.words; homes = s.homes; views = views }
 
 -- One step of a schedule, of whichever kind.
 pub data Moves (parties : ℕ) : State (Unit {0}) (List PinMember) → State (Unit {0}) (List PinMember) → Type 0 where
-  steps : {s : State (Unit {0}) (List PinMember)} (id : ℕ) (m : PinMember) (step : Made) → get_elem? s.views id ≡ some (m ∷ []) →
+  steps : {s : State (Unit {0}) (List PinMember)} (id : ℕ) (m : PinMember) (step : Made) →
+      get_elem? s.views id ≡ some (m ∷ []) →
       MayMake parties s.words m step → Moves parties s (stepped s id m step)
   comes : {s : State (Unit {0}) (List PinMember)} → Moves parties s (with_views s (s.views ++ [] ∷ []))
   parts : {s : State (Unit {0}) (List PinMember)} (id : ℕ) (view : List PinMember) → get_elem? s.views id ≡ some view →
       Moves parties s (with_views s (slice_set s.views id (rest_of view) ++ first_of view ∷ []))
-  joins : {s : State (Unit {0}) (List PinMember)} (id other : ℕ) (view its : List PinMember) → get_elem? s.views id ≡ some view →
+  joins : {s : State (Unit {0}) (List PinMember)} (id other : ℕ) (view its : List PinMember) →
+      get_elem? s.views id ≡ some view →
       get_elem? s.views other ≡ some its → other ≢ id →
       Moves parties s (with_views s (slice_set (slice_set s.views id (view ++ its)) other []))
 
@@ -68,9 +71,10 @@ pub data Leads (parties : ℕ) : State (Unit {0}) (List PinMember) → State (Un
 abbrev pub LeadsToKept : Type 0
 LeadsToKept = (parties : ℕ) (s : State (Unit {0}) (List PinMember)) → Leads parties (begun parties) s → Kept parties s
 
--- A release number that was read at some moment of a schedule is below each pin that is checked at that moment or a later
--- one.
+-- A release number that was read at some moment of a schedule is below each pin that is checked at that moment or a
+-- later one.
 abbrev pub ReadStaysBelow : Type 0
-ReadStaysBelow = (parties : ℕ) (s t : State (Unit {0}) (List PinMember)) → Leads parties (begun parties) s → Leads parties s t →
+ReadStaysBelow = (parties : ℕ) (s t : State (Unit {0}) (List PinMember)) → Leads parties (begun parties) s →
+    Leads parties s t →
     (reader holder : PinMember) (released number : ℕ) → Stands s reader → HasRead reader released → Stands t holder →
     holder.pin ≡ Checked number → released < number

@@ -5,8 +5,8 @@
 //! may be freed: each pin that is held then, or is taken later, has a greater number. So while a pin is held, nothing
 //! that is stamped with its number or a greater one is freed.
 //!
-//! Word 0 of the table is the epoch, word `1 + p` the pin of party `p`, which is 0 where it has none. The epoch rises by
-//! one where each pin is found 0 or the epoch itself, so a pin that is held lets it rise once and no further.
+//! Word 0 of the table is the epoch, word `1 + p` the pin of party `p`, which is 0 where it has none. The epoch rises
+//! by one where each pin is found 0 or the epoch itself, so a pin that is held lets it rise once and no further.
 //!
 //! To pin, a party loads the epoch, stores what it found as its pin, and loads the epoch again. Without the second load
 //! this could happen, from top to bottom:

@@ -9,40 +9,41 @@ use Rattle.data_node.proofs.KeyLemmas.{anchor-number}
 use Rattle.image_rules.specs.Lowest.{IsLowest}
 use Rattle.image_rules.specs.Nodes.{image_spot, IsListedNode}
 use Rattle.image_rules.specs.Sound.{IsSound}
-use Rattle.search_layer.specs.Keys.{key_number}
+use Rattle.layer_map.specs.Keys.{key_number}
 use Rattle.search_layer.specs.Leaves.{key_in, IsLedBy}
 use Rattle.search_layer.proofs.CountLemmas.{leaves_lead}
 use Rattle.search_layer.proofs.LayerLemmas.{has_made, layer_found}
 use Rattle.updater_law.specs.Covers.{IsOpenFor}
-use Rattle.image_layer_rules.specs.Leaves.{image_leaves, image_anchor, image_lines, key_words}
+use Rattle.image_layer_rules.specs.Leaves.{image_anchor, image_lines, key_words}
+use Rattle.search_layer.specs.Rows.{image_layer_words}
 use Rattle.image_layer_rules.specs.Rules.{BreaksLayer, uncovered}
 use Rattle.image_layer_rules.specs.Checks.{LeadsToAnchor, IsStray, IsMissed}
 use Rattle.image_layer_rules.proofs.RuleLemmas.{row_if, key_if, anchor_is_key}
 
 -- a leaf leads to its node's anchor where the words are the same
-pub leads_if : (l : Layout) (image : List ℕ) (leaf word : ℕ) (one other : List ℕ) → word ≡ image_leaves l image leaf 3 → word ≢ 0
-    → one ≡ anchor_words (image_spot l image (word - 1)) → other ≡ key_words (image_leaves l image) leaf → (key_number one ≡ key_number other) ↔ LeadsToAnchor l image leaf
+pub leads_if : (l : Layout) (image : List ℕ) (leaf word : ℕ) (one other : List ℕ) → word ≡ image_layer_words l image leaf 3 → word ≢ 0
+    → one ≡ anchor_words (image_spot l image (word - 1)) → other ≡ key_words (image_layer_words l image) leaf → (key_number one ≡ key_number other) ↔ LeadsToAnchor l image leaf
 leads_if l image leaf word one other is some first second =
-    let anchor : image_anchor l image (image_leaves l image leaf 3 - 1) ≡ key_number one = ap (λ k. image_anchor l image (k - 1)) (sym is) ∙ anchor-number (image_spot l image (word - 1)) ∙ ap key_number (sym first) in
-    let key : key_number other ≡ key_in (image_leaves l image) leaf = ap key_number second in
+    let anchor : image_anchor l image (image_layer_words l image leaf 3 - 1) ≡ key_number one = ap (λ k. image_anchor l image (k - 1)) (sym is) ∙ anchor-number (image_spot l image (word - 1)) ∙ ap key_number (sym first) in
+    let key : key_number other ≡ key_in (image_layer_words l image) leaf = ap key_number second in
     (λ same. record { used = λ none. some (is ∙ none); anchor = anchor ∙ same ∙ key }, λ leads. sym anchor ∙ leads.anchor ∙ sym key)
 
 -- a node to which such a leaf leads is one to which a leaf leads its anchor, and the other way round
-pub led_if : (l : Layout) (image : List ℕ) (leaf n : ℕ) → leaf < leaf_count l → LeadsToAnchor l image leaf → image_leaves l image leaf 3 ≡ n + 1
-    → IsLedBy (leaf_count l) (image_leaves l image) (image_anchor l image n) n
+pub led_if : (l : Layout) (image : List ℕ) (leaf n : ℕ) → leaf < leaf_count l → LeadsToAnchor l image leaf → image_layer_words l image leaf 3 ≡ n + 1
+    → IsLedBy (leaf_count l) (image_layer_words l image) (image_anchor l image n) n
 led_if l image leaf n within leads word =
-    let node : image_leaves l image leaf 3 - 1 ≡ n = omega arith in
+    let node : image_layer_words l image leaf 3 - 1 ≡ n = omega arith in
     record { leaf = leaf; within = within; key_is = sym leads.anchor ∙ ap (image_anchor l image) node; word = word }
 
-pub leads_back : (l : Layout) (image : List ℕ) (n : ℕ) → (led : IsLedBy (leaf_count l) (image_leaves l image) (image_anchor l image n) n) → LeadsToAnchor l image led.leaf
+pub leads_back : (l : Layout) (image : List ℕ) (n : ℕ) → (led : IsLedBy (leaf_count l) (image_layer_words l image) (image_anchor l image n) n) → LeadsToAnchor l image led.leaf
 leads_back l image n led =
-    let word : image_leaves l image led.leaf 3 ≡ n + 1 = led.word in
-    let node : image_leaves l image led.leaf 3 - 1 ≡ n = omega arith in
+    let word : image_layer_words l image led.leaf 3 ≡ n + 1 = led.word in
+    let node : image_layer_words l image led.leaf 3 - 1 ≡ n = omega arith in
     record { used = λ none. omega (arith, word, none); anchor = ap (image_anchor l image) node ∙ sym led.key_is }
 
 -- a listed node to which no leaf leads its anchor is missed where no line has it
 pub missed_if : (l : Layout) (image : List ℕ) (n : ℕ) (exempt : Bool) (one : List ℕ) → one ≡ anchor_words (image_spot l image n) → IsListedNode l image n
-    → ¬ IsLedBy (leaf_count l) (image_leaves l image) (image_anchor l image n) n → IsTrue exempt ↔ IsOpenFor (image_lines l image) (key_number one) → IsTrue (not exempt) ↔ IsMissed l image n
+    → ¬ IsLedBy (leaf_count l) (image_layer_words l image) (image_anchor l image n) n → IsTrue exempt ↔ IsOpenFor (image_lines l image) (key_number one) → IsTrue (not exempt) ↔ IsMissed l image n
 missed_if l image n exempt one first listed missed tells =
     let anchor : image_anchor l image n ≡ key_number one = anchor-number (image_spot l image n) ∙ ap key_number (sym first) in
     elim exempt as (λ b. IsTrue b ↔ IsOpenFor (image_lines l image) (key_number one) → IsTrue (not b) ↔ IsMissed l image n) [
@@ -63,7 +64,7 @@ none_lowest P (Some n) lowest found = let clash : true ≡ false = found in absu
 module _ (l : Layout) (image : List ℕ) (kept : ¬ BreaksLayer l image 10) where
   pub stray_breaks : (leaf : ℕ) → IsStray l image leaf → BreaksLayer l image 12
   stray_breaks leaf is =
-      let w = image_leaves l image in
+      let w = image_layer_words l image in
       uncovered (key_in w leaf) (w leaf 3 - 1) (record {
         is_key = key_if l image kept leaf is.within is.used;
         closed = is.closed;
@@ -78,12 +79,12 @@ module _ (l : Layout) (image : List ℕ) (kept : ¬ BreaksLayer l image 10) wher
       uncovered (image_anchor l image n) n (record {
         is_key = anchor_is_key l image sound n is.listed;
         closed = is.closed;
-        differ = inr (λ leads. is.missed ((leaves_lead (leaf_count l) l.nodes (image_leaves l image) (row_if l image kept) (image_anchor l image n) n).0 leads), is.listed, refl);
+        differ = inr (λ leads. is.missed ((leaves_lead (leaf_count l) l.nodes (image_layer_words l image) (row_if l image kept) (image_anchor l image n) n).0 leads), is.listed, refl);
       })
 
   pub none_breaks : ((leaf : ℕ) → ¬ IsStray l image leaf) → ((n : ℕ) → ¬ IsMissed l image n) → ¬ BreaksLayer l image 12
   none_breaks no_stray no_missed (uncovered key node is) =
-      let w = image_leaves l image in
+      let w = image_layer_words l image in
       let lead = leaves_lead (leaf_count l) l.nodes w (row_if l image kept) key node in
       elim is.differ as (λ _. ⊥) [
         | inl leads ↦

@@ -4,7 +4,7 @@ use Rattle.std.proofs.lemmas.Bool.{cases_eq, eq-eqb, ne_eqb}
 use Rattle.pm_words.specs.declared.layout.Layout.{Layout}
 use Rattle.pm_words.specs.Images.{fresh_words}
 use Rattle.pm_words.specs.Layouts.{IsLayout}
-use Rattle.pm_words.specs.Locations.{Root, Node, Cached, leaf_count}
+use Rattle.pm_words.specs.Locations.{Root, Node, Cached}
 use Rattle.pm_words.specs.Rows.{row_of}
 use Rattle.pm_words.proofs.Made.{fresh_at, fresh_image}
 use Rattle.data_node.specs.Spots.{Spot}
@@ -13,13 +13,14 @@ use Rattle.image_rules.specs.Nodes.{image_spot, image_list, IsListedNode}
 use Rattle.image_rules.proofs.FreshLemmas.{fresh_is_sound}
 use Rattle.image_rules.proofs.TidyLemmas.{sound_keeps}
 use Rattle.image_rules.proofs.WordLemmas.{image_spot-here}
-use Rattle.search_layer.specs.Layers.{HasFew, AreSame}
+use Rattle.layer_map.specs.Layers.{HasFew, AreSame}
 use Rattle.search_layer.specs.Laws.{fresh_layer}
-use Rattle.search_layer.specs.Leaves.{LayerWords, leaves_in, layer_in, IsLayerRow}
+use Rattle.search_layer.specs.Rows.{LayerWords, layer_words, image_layer_words}
 use Rattle.search_layer.proofs.Fresh.{fresh_is_at_rest}
-use Rattle.image_layer_rules.specs.Leaves.{image_leaves, image_layer, image_anchor}
+use Rattle.search_layer.specs.Kept.{kept, IsKept}
+use Rattle.image_layer_rules.specs.Leaves.{image_layer, image_anchor}
 use Rattle.image_layer_rules.specs.Laws.{IsCoveredImage, FreshIsSoundByAll}
-use Rattle.image_layer_rules.proofs.LeafLemmas.{start_caches_leaves}
+use Rattle.image_layer_rules.proofs.LeafLemmas.{start_caches_layer}
 use Rattle.image_layer_rules.proofs.LayerLaws.{layer_makes_sound}
 
 -- a list whose first node leads nowhere has no node behind it
@@ -38,12 +39,12 @@ leads_zero key node leads = elim (cases_eq key 0) [
 ]
 
 module _ (l : Layout) (is : IsLayout l) where
-  -- its leaves are those that a start caches
-  same_leaves : leaves_in l (row_of l (fresh_words l)) Cached ≡ image_leaves l (fresh_words l)
-  same_leaves = λ i leaf offset. start_caches_leaves l (fresh_words l) leaf offset (fresh_image l is) i
+  -- its words of the layer are those that a start caches
+  same_words : layer_words l (row_of l (fresh_words l)) Cached ≡ image_layer_words l (fresh_words l)
+  same_words = start_caches_layer l (fresh_words l) (fresh_image l is)
 
   same_layer : AreSame (image_layer l (fresh_words l)) fresh_layer
-  same_layer = subst (λ (w : LayerWords). AreSame (layer_in w (leaf_count l)) fresh_layer) same_leaves (fresh_is_at_rest l is).2
+  same_layer = subst (λ (w : LayerWords). AreSame (kept l w) fresh_layer) same_words (fresh_is_at_rest l is).2
 
   first_anchor : image_anchor l (fresh_words l) 0 ≡ 0
   first_anchor = (sound_keeps l (fresh_words l) (fresh_is_sound l is).0).list.lowest
@@ -70,8 +71,8 @@ pub fresh_is_sound_by_all : FreshIsSoundByAll
 fresh_is_sound_by_all l is =
     layer_makes_sound l (fresh_words l) (fresh_image l is) (fresh_is_sound l is).0 (record {
       root = fresh_at l (Root 0) (omega arith);
-      row = subst (λ (w : LayerWords). IsLayerRow (leaf_count l) l.nodes w) (same_leaves l is) (fresh_is_at_rest l is).0.row;
+      row = subst (λ (w : LayerWords). IsKept l w) (same_words l is) (fresh_is_at_rest l is).0.row;
       keys = λ key node leads. inl (leads_zero key node (sym (same_layer l is key) ∙ leads)).0;
-      few = subst (λ (w : LayerWords). HasFew l.nodes (layer_in w (leaf_count l))) (same_leaves l is) (fresh_is_at_rest l is).1;
+      few = subst (λ (w : LayerWords). HasFew l.nodes (kept l w)) (same_words l is) (fresh_is_at_rest l is).1;
       covered = covered l is;
     })

@@ -6,7 +6,7 @@ use Rattle.pm_words.specs.Locations.{Root, leaf_count}
 use Rattle.image_rules.specs.Sound.{IsSound}
 use Rattle.search_layer.specs.Leaves.{key_in}
 use Rattle.search_layer.proofs.LayerLemmas.{has_made, layer_found}
-use Rattle.image_layer_rules.specs.Leaves.{image_leaves}
+use Rattle.search_layer.specs.Rows.{image_layer_words}
 use Rattle.image_layer_rules.specs.Rules.{BreaksLayer, has_root, leads_nowhere, has_no_key, share_a_key, has_many, uncovered}
 use Rattle.image_layer_rules.specs.Sound.{in_image, in_layer}
 use Rattle.image_layer_rules.specs.Laws.{KeepsLayerRules, SoundKeepsLayer, LayerMakesSound, RuleOnCount, RuleOnCover}
@@ -36,7 +36,7 @@ layer_kept : (l : Layout) (image : List ℕ) → IsImage l image → KeepsLayerR
 layer_kept l image is keeps rule (has_root some) = some keeps.root
 layer_kept l image is keeps rule (leads_nowhere leaf nowhere) = let fits = keeps.row.nodes leaf nowhere.within in let past = nowhere.past in omega arith
 layer_kept l image is keeps rule (has_no_key leaf none) =
-    let w = image_leaves l image in
+    let w = image_layer_words l image in
     let leads = layer_found (leaf_count l) l.nodes w (key_in w leaf) leaf keeps.row none.within (has_made w leaf (key_in w leaf) none.used refl) in
     none.wrong (words_are l image leaf is.fits (keeps.keys (key_in w leaf) _ leads))
 layer_kept l image is keeps rule (share_a_key leaf other share) = share.apart (keeps.row.apart leaf other share.within share.other_within share.used share.other_used share.same)

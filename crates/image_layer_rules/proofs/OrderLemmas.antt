@@ -19,12 +19,13 @@ use Rattle.std.proofs.lemmas.Map.Made.{AllPairs-from_IsDistinct, IsDistinct-from
 use Rattle.std.proofs.lemmas.Map.Lookups.{exact_bytes}
 use Rattle.pm_words.specs.declared.layout.Layout.{Layout}
 use Rattle.pm_words.specs.Locations.{leaf_count}
-use Rattle.search_layer.specs.Keys.{key_number}
-use Rattle.search_layer.specs.Leaves.{LayerWords, key_in}
-use Rattle.search_layer.proofs.KeyLemmas.{words_told}
-use Rattle.image_layer_rules.specs.Leaves.{image_leaves, key_words, used_leaves, has_lower_key}
+use Rattle.layer_map.specs.Keys.{key_number}
+use Rattle.search_layer.specs.Leaves.{key_in}
+use Rattle.search_layer.specs.Rows.{LayerWords, image_layer_words}
+use Rattle.layer_map.proofs.KeyLemmas.{words_told}
+use Rattle.image_layer_rules.specs.Leaves.{key_words, used_leaves, has_lower_key}
 use Rattle.image_layer_rules.specs.Rules.{ShareAKey}
-use Rattle.image_layer_rules.proofs.LeafLemmas.{image_leaves-fits}
+use Rattle.image_layer_rules.proofs.LeafLemmas.{image_words-fits}
 
 -- one leaf more is in use, or isn't
 pub used-more : (w : LayerWords) (leaf : ℕ) → w leaf 3 ≢ 0 → used_leaves w (suc leaf) ≡ used_leaves w leaf ++ (leaf ∷ [])
@@ -113,20 +114,20 @@ flips x y = elim (cases_eq x y) as (λ _. eqb x y ≡ eqb y x) [
 ]
 
 -- leaves with one key have one key's words
-pub same_words : (l : Layout) (image : List ℕ) (leaf other : ℕ) → ((k : ℕ) → slice_index image k < 2 ^ 64) → key_in (image_leaves l image) leaf ≡ key_in (image_leaves l image) other
-    → key_words (image_leaves l image) leaf ≡ key_words (image_leaves l image) other
+pub same_words : (l : Layout) (image : List ℕ) (leaf other : ℕ) → ((k : ℕ) → slice_index image k < 2 ^ 64) → key_in (image_layer_words l image) leaf ≡ key_in (image_layer_words l image) other
+    → key_words (image_layer_words l image) leaf ≡ key_words (image_layer_words l image) other
 same_words l image leaf other fits same =
-    let w = image_leaves l image in
-    let told = words_told (w leaf 0) (w leaf 1) (w leaf 2) (w other 0) (w other 1) (w other 2) (image_leaves-fits l image leaf 1 fits) (image_leaves-fits l image leaf 2 fits)
-    (image_leaves-fits l image other 1 fits) (image_leaves-fits l image other 2 fits) same in
+    let w = image_layer_words l image in
+    let told = words_told (w leaf 0) (w leaf 1) (w leaf 2) (w other 0) (w other 1) (w other 2) (image_words-fits l image leaf 1 fits) (image_words-fits l image leaf 2 fits)
+    (image_words-fits l image other 1 fits) (image_words-fits l image other 2 fits) same in
     λ i. told.first i ∷ told.second i ∷ told.third i ∷ []
 
 -- What the leaves in use, in whatever order, show of two that have one key.
-module _ (l : Layout) (image leaves : List ℕ) (moved : IsPermutation (used_leaves (image_leaves l image) (leaf_count l)) leaves) where
-  pub twins_share : (k : ℕ) → k + 1 < length leaves → key_words (image_leaves l image) (slice_index leaves k) ≡ key_words (image_leaves l image) (slice_index leaves (k + 1))
+module _ (l : Layout) (image leaves : List ℕ) (moved : IsPermutation (used_leaves (image_layer_words l image) (leaf_count l)) leaves) where
+  pub twins_share : (k : ℕ) → k + 1 < length leaves → key_words (image_layer_words l image) (slice_index leaves k) ≡ key_words (image_layer_words l image) (slice_index leaves (k + 1))
       → ShareAKey l image (slice_index leaves k) (slice_index leaves (k + 1))
   twins_share k within keys =
-      let w = image_leaves l image in
+      let w = image_layer_words l image in
       let used = used_leaves w (leaf_count l) in
       let all = All-permutation (IsUsedBelow w (leaf_count l)) used leaves moved (all_used w (leaf_count l)) in
       let one = All-get_or (IsUsedBelow w (leaf_count l)) leaves k 0 (omega arith) all in
@@ -141,11 +142,11 @@ module _ (l : Layout) (image leaves : List ℕ) (moved : IsPermutation (used_lea
         same = ap key_number keys;
       }
 
-  pub none_share : ((k : ℕ) → slice_index image k < 2 ^ 64) → IsSortedBy (has_lower_key (image_leaves l image)) leaves
-      → ((k : ℕ) → k + 1 < length leaves → ¬ (key_words (image_leaves l image) (slice_index leaves k) ≡ key_words (image_leaves l image) (slice_index leaves (k + 1))))
+  pub none_share : ((k : ℕ) → slice_index image k < 2 ^ 64) → IsSortedBy (has_lower_key (image_layer_words l image)) leaves
+      → ((k : ℕ) → k + 1 < length leaves → ¬ (key_words (image_layer_words l image) (slice_index leaves k) ≡ key_words (image_layer_words l image) (slice_index leaves (k + 1))))
       → (leaf other : ℕ) → ShareAKey l image leaf other → ⊥
   none_share fits up differ leaf other share =
-      let w = image_leaves l image in
+      let w = image_layer_words l image in
       let used = used_leaves w (leaf_count l) in
       no_twins w leaves up differ leaf other (Contains-permutation used leaves leaf moved (has_used w (leaf_count l) leaf share.within share.used))
       (Contains-permutation used leaves other moved (has_used w (leaf_count l) other share.other_within share.other_used)) share.apart (same_words l image leaf other fits share.same)

@@ -15,14 +15,16 @@ use Rattle.image_rules.specs.Rules.{line_spot}
 use Rattle.image_rules.specs.Sound.{IsSound}
 use Rattle.image_rules.proofs.NameCases.{name_words_or_not}
 use Rattle.image_rules.proofs.TidyLemmas.{sound_keeps}
-use Rattle.search_layer.specs.Keys.{key_number}
-use Rattle.search_layer.specs.Layers.{HasFew}
-use Rattle.search_layer.specs.Leaves.{key_in, IsLayerRow}
+use Rattle.layer_map.specs.Keys.{key_number}
+use Rattle.layer_map.specs.Layers.{HasFew}
+use Rattle.search_layer.specs.Leaves.{key_in}
 use Rattle.search_layer.proofs.LayerLemmas.{has_parts, layer_leaf}
-use Rattle.image_layer_rules.specs.Leaves.{image_leaves, image_layer, image_anchor, image_lines, key_words, line_word, AreKeyWords, IsKeyNumber}
+use Rattle.search_layer.specs.Kept.{IsKept}
+use Rattle.image_layer_rules.specs.Leaves.{image_layer, image_anchor, image_lines, key_words, line_word, AreKeyWords, IsKeyNumber}
+use Rattle.search_layer.specs.Rows.{image_layer_words}
 use Rattle.image_layer_rules.specs.Rules.{LeadsNowhere, HasNoKey, ShareAKey, BreaksLayer, has_root, leads_nowhere, has_no_key, share_a_key, has_many, uncovered}
 use Rattle.image_layer_rules.specs.Laws.{IsCoveredImage, CoverTellsKeys}
-use Rattle.image_layer_rules.proofs.LeafLemmas.{image_leaves-fits, line_word-here, line_word-outside}
+use Rattle.image_layer_rules.proofs.LeafLemmas.{image_words-fits, line_word-here, line_word-outside}
 
 -- words are those of a key or not
 key_or_not : (words : List ℕ) → AreKeyWords words ⊎ ¬ AreKeyWords words
@@ -42,12 +44,12 @@ key_is words (inr named) = inr (named.0, named.1, ap key_number (sym named.2) �
 
 -- a leaf's key as a node's anchor
 abbrev leaf_spot : Layout → List ℕ → ℕ → Spot
-leaf_spot l image leaf offset = image_leaves l image leaf (offset - 3)
+leaf_spot l image leaf offset = image_layer_words l image leaf (offset - 3)
 
-pub words_are : (l : Layout) (image : List ℕ) (leaf : ℕ) → ((k : ℕ) → slice_index image k < 2 ^ 64) → IsKeyNumber (key_in (image_leaves l image) leaf) → AreKeyWords (key_words (image_leaves l image) leaf)
+pub words_are : (l : Layout) (image : List ℕ) (leaf : ℕ) → ((k : ℕ) → slice_index image k < 2 ^ 64) → IsKeyNumber (key_in (image_layer_words l image) leaf) → AreKeyWords (key_words (image_layer_words l image) leaf)
 words_are l image leaf fits (inl none) = inl (zero_anchor (leaf_spot l image leaf) (anchor-number (leaf_spot l image leaf) ∙ none))
 words_are l image leaf fits (inr named) =
-    inr (named_anchor (leaf_spot l image leaf) named.0 (λ offset. image_leaves-fits l image leaf (offset - 3) fits) named.1 (anchor-number (leaf_spot l image leaf) ∙ named.2))
+    inr (named_anchor (leaf_spot l image leaf) named.0 (λ offset. image_words-fits l image leaf (offset - 3) fits) named.1 (anchor-number (leaf_spot l image leaf) ∙ named.2))
 
 -- each anchor of a listed node is a key, and the node is one of the image's
 anchor_at : (l : Layout) (image : List ℕ) → IsSound l image → (position n : ℕ) → IsAtPosition 0 (image_list l image) position n → IsKeyNumber (image_anchor l image n)
@@ -95,9 +97,9 @@ module _ (l : Layout) (image : List ℕ) (kept : ¬ BreaksLayer l image 10) wher
   pub root_if : word_at l image (Root 0) ≡ 0
   root_if = elim (cases_eq (word_at l image (Root 0)) 0) as (λ _. word_at l image (Root 0) ≡ 0) [ inl none ↦ none | inr some ↦ absurd (kept (has_root some)) ]
 
-  pub row_if : IsLayerRow (leaf_count l) l.nodes (image_leaves l image)
+  pub row_if : IsKept l (image_layer_words l image)
   row_if = record {
-    nodes = λ leaf within. elim (cases_lt l.nodes (image_leaves l image leaf 3)) as (λ _. image_leaves l image leaf 3 ≤ l.nodes) [
+    nodes = λ leaf within. elim (cases_lt l.nodes (image_layer_words l image leaf 3)) as (λ _. image_layer_words l image leaf 3 ≤ l.nodes) [
       | inl past ↦ absurd (kept (leads_nowhere leaf (record { within = within; past = past })))
       | inr fits ↦ fits
     ];
@@ -107,16 +109,16 @@ module _ (l : Layout) (image : List ℕ) (kept : ¬ BreaksLayer l image 10) wher
     ];
   }
 
-  pub key_if : (leaf : ℕ) → leaf < leaf_count l → image_leaves l image leaf 3 ≢ 0 → IsKeyNumber (key_in (image_leaves l image) leaf)
-  key_if leaf within used = elim (key_or_not (key_words (image_leaves l image) leaf)) as (λ _. IsKeyNumber (key_in (image_leaves l image) leaf)) [
-    | inl are ↦ key_is (key_words (image_leaves l image) leaf) are
+  pub key_if : (leaf : ℕ) → leaf < leaf_count l → image_layer_words l image leaf 3 ≢ 0 → IsKeyNumber (key_in (image_layer_words l image) leaf)
+  key_if leaf within used = elim (key_or_not (key_words (image_layer_words l image) leaf)) as (λ _. IsKeyNumber (key_in (image_layer_words l image) leaf)) [
+    | inl are ↦ key_is (key_words (image_layer_words l image) leaf) are
     | inr wrong ↦ absurd (kept (has_no_key leaf (record { within = within; used = used; wrong = wrong })))
   ]
 
   pub keys_if : (key node : ℕ) → image_layer l image key ≡ Some node → IsKeyNumber key
   keys_if key node leads =
-      let found = layer_leaf (image_leaves l image) (leaf_count l) key node leads in
-      let parts = has_parts (image_leaves l image) found.leaf key found.has in
+      let found = layer_leaf (image_layer_words l image) (leaf_count l) key node leads in
+      let parts = has_parts (image_layer_words l image) found.leaf key found.has in
       subst IsKeyNumber parts.1 (key_if found.leaf found.within parts.0)
 
   -- the layer is covered where it keeps rule 12 too
@@ -178,10 +180,10 @@ open_key l image sound line some = elim (cases_lt line (8 * l.callers)) as (λ _
 -- So are the keys of a covered layer: each is the anchor of a listed node, or one of a line.
 pub cover_tells_keys : CoverTellsKeys
 cover_tells_keys l image is sound covered key node leads =
-    let found = layer_leaf (image_leaves l image) (leaf_count l) key node leads in
-    let own = (has_parts (image_leaves l image) found.leaf key found.has).1 in
-    elim (key_or_not (key_words (image_leaves l image) found.leaf)) as (λ _. IsKeyNumber key) [
-      | inl words ↦ subst IsKeyNumber own (key_is (key_words (image_leaves l image) found.leaf) words)
+    let found = layer_leaf (image_layer_words l image) (leaf_count l) key node leads in
+    let own = (has_parts (image_layer_words l image) found.leaf key found.has).1 in
+    elim (key_or_not (key_words (image_layer_words l image) found.leaf)) as (λ _. IsKeyNumber key) [
+      | inl words ↦ subst IsKeyNumber own (key_is (key_words (image_layer_words l image) found.leaf) words)
       | inr none ↦
           let wrong : ¬ IsKeyNumber key = λ is_key. none (words_are l image found.leaf is.fits (subst IsKeyNumber (sym own) is_key)) in
           let has = (covered key node (λ line. wrong (subst IsKeyNumber line.anchor (open_key l image sound line.line line.state)))).0 leads in

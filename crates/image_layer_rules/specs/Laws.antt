@@ -3,15 +3,16 @@ use Rattle.std.specs.Prelude.{◌≡◌, ℕ, ◌*◌, ◌/◌, ◌%◌, ◌<◌
 use Rattle.pm_words.specs.declared.layout.Layout.{Layout}
 use Rattle.pm_words.specs.Images.{IsImage, fresh_words}
 use Rattle.pm_words.specs.Layouts.{IsLayout}
-use Rattle.pm_words.specs.Locations.{Root, Line, Cached, Durable, leaf_count, word_at, at}
+use Rattle.pm_words.specs.Locations.{Root, Line, Cached, Durable, word_at, at}
 use Rattle.pm_words.specs.Rows.{durable_row, row_of}
 use Rattle.image_rules.specs.Nodes.{IsListedNode}
 use Rattle.image_rules.specs.Sound.{IsSound}
-use Rattle.search_layer.specs.Layers.{HasFew}
-use Rattle.search_layer.specs.Leaves.{leaves_in, IsLayerRow}
+use Rattle.layer_map.specs.Layers.{HasFew}
+use Rattle.search_layer.specs.Rows.{layer_words, image_layer_words}
+use Rattle.search_layer.specs.Kept.{IsKept}
 use Rattle.updater_law.specs.Covered.{IsCovered}
 use Rattle.updater_law.specs.Covers.{IsOpenFor}
-use Rattle.image_layer_rules.specs.Leaves.{image_leaves, image_layer, image_anchor, line_word, image_lines, IsKeyNumber}
+use Rattle.image_layer_rules.specs.Leaves.{image_layer, image_anchor, line_word, image_lines, IsKeyNumber}
 use Rattle.image_layer_rules.specs.Rules.{BreaksLayer}
 use Rattle.image_layer_rules.specs.Sound.{IsSoundByAll}
 
@@ -23,7 +24,7 @@ IsCoveredImage l image =
 -- The rules on the layer, by what they want.
 pub record KeepsLayerRules (l : Layout) (image : List ℕ) : Type 0 where
   pub root : word_at l image (Root 0) ≡ 0
-  pub row : IsLayerRow (leaf_count l) l.nodes (image_leaves l image)
+  pub row : IsKept l (image_layer_words l image)
   pub keys : (key node : ℕ) → image_layer l image key ≡ Some node → IsKeyNumber key
   pub few : HasFew l.nodes (image_layer l image)
   pub covered : IsCoveredImage l image
@@ -55,15 +56,15 @@ CoverTellsKeys = (l : Layout) (image : List ℕ) → IsImage l image → IsSound
 abbrev pub FreshIsSoundByAll : Type 0
 FreshIsSoundByAll = (l : Layout) → IsLayout l → IsSoundByAll l (fresh_words l)
 
--- The words of leaves and of log lines in the image that a crash leaves are those that were durable; and a start caches
--- those of the image.
-abbrev pub CrashKeepsLeaves : Type 0
-CrashKeepsLeaves = (l : Layout) (words : List ℕ) (leaf offset : ℕ) →
-    image_leaves l (durable_row l words) leaf offset ≡ leaves_in l words Durable leaf offset
+-- The words of the layer and of log lines in the image that a crash leaves are those that were durable; and a start
+-- caches those of the image.
+abbrev pub CrashKeepsLayer : Type 0
+CrashKeepsLayer = (l : Layout) (words : List ℕ) →
+    image_layer_words l (durable_row l words) ≡ layer_words l words Durable
 
-abbrev pub StartCachesLeaves : Type 0
-StartCachesLeaves = (l : Layout) (image : List ℕ) (leaf offset : ℕ) → IsImage l image →
-    leaves_in l (row_of l image) Cached leaf offset ≡ image_leaves l image leaf offset
+abbrev pub StartCachesLayer : Type 0
+StartCachesLayer = (l : Layout) (image : List ℕ) → IsImage l image →
+    layer_words l (row_of l image) Cached ≡ image_layer_words l image
 
 abbrev pub CrashKeepsLines : Type 0
 CrashKeepsLines = (l : Layout) (words : List ℕ) (line offset : ℕ) → line < 8 * l.callers → offset < 8 →

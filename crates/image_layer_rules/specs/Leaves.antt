@@ -4,24 +4,20 @@ use Rattle.std.specs.Prelude.{List, [], ◌∷◌, take}
 use Rattle.std.specs.Ordering.{nat_cmp, is_lt}
 use Rattle.std.specs.Cmp.Lexicographic.{slice_cmp}
 use Rattle.pm_words.specs.declared.layout.Layout.{Layout}
-use Rattle.pm_words.specs.Locations.{Line, Leaf, leaf_count, word_at}
+use Rattle.pm_words.specs.Locations.{Line, word_at}
 use Rattle.cat_key.specs.Names.{IsName, AreNameWords}
 use Rattle.data_node.specs.Lists.{key_of, anchor_in}
 use Rattle.image_rules.specs.Nodes.{image_spot}
-use Rattle.search_layer.specs.Keys as keys
-use Rattle.search_layer.specs.Layers.{Layer}
-use Rattle.search_layer.specs.Leaves.{LayerWords, layer_in}
+use Rattle.layer_map.specs.Keys as keys
+use Rattle.layer_map.specs.Layers.{Layer}
+use Rattle.search_layer.specs.Rows.{LayerWords, image_layer_words}
+use Rattle.search_layer.specs.Kept.{kept}
 use Rattle.updater_law.specs.Covers.{Lines}
 use Rattle.image_layer_rules.specs.declared.order.UsedLeaves.{UsedLeaves}
 
--- The words of an image's leaves, by leaf and offset.
-unfoldable pub image_leaves : Layout → List ℕ → ℕ → ℕ → ℕ
-image_leaves l image leaf offset =
-    if nat_lt leaf (leaf_count l) && nat_lt offset 8 then word_at l image (Leaf leaf offset) else 0
-
--- The layer that they keep.
+-- The layer that an image keeps.
 abbrev pub image_layer : Layout → List ℕ → Layer
-image_layer l image = layer_in (image_leaves l image) (leaf_count l)
+image_layer l image = kept l (image_layer_words l image)
 
 -- The words of a leaf's key.
 abbrev pub key_words : LayerWords → ℕ → List ℕ

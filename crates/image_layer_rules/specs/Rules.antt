@@ -3,31 +3,32 @@ use Rattle.std.specs.Prelude.{◌≡◌, ◌≢◌, ℕ, ◌<◌, ◌⊎◌, Lis
 use Rattle.pm_words.specs.declared.layout.Layout.{Layout}
 use Rattle.pm_words.specs.Locations.{Root, leaf_count, word_at}
 use Rattle.image_rules.specs.Nodes.{IsListedNode}
-use Rattle.search_layer.specs.Layers.{HasFew}
+use Rattle.layer_map.specs.Layers.{HasFew}
 use Rattle.search_layer.specs.Leaves.{key_in}
 use Rattle.updater_law.specs.Covers.{IsOpenFor}
-use Rattle.image_layer_rules.specs.Leaves.{image_leaves, image_layer, image_anchor, image_lines, key_words, AreKeyWords}
+use Rattle.image_layer_rules.specs.Leaves.{image_layer, image_anchor, image_lines, key_words, AreKeyWords}
+use Rattle.search_layer.specs.Rows.{image_layer_words}
 use Rattle.image_layer_rules.specs.Leaves.{IsKeyNumber}
 
 -- A leaf whose node word is that of no node.
 pub record LeadsNowhere (l : Layout) (image : List ℕ) (leaf : ℕ) : Type 0 where
   pub within : leaf < leaf_count l
-  pub past : l.nodes < image_leaves l image leaf 3
+  pub past : l.nodes < image_layer_words l image leaf 3
 
 -- A leaf in use whose key is neither zero nor a name.
 pub record HasNoKey (l : Layout) (image : List ℕ) (leaf : ℕ) : Type 0 where
   pub within : leaf < leaf_count l
-  pub used : image_leaves l image leaf 3 ≢ 0
-  pub wrong : ¬ AreKeyWords (key_words (image_leaves l image) leaf)
+  pub used : image_layer_words l image leaf 3 ≢ 0
+  pub wrong : ¬ AreKeyWords (key_words (image_layer_words l image) leaf)
 
 -- Two leaves in use that have one key.
 pub record ShareAKey (l : Layout) (image : List ℕ) (leaf other : ℕ) : Type 0 where
   pub within : leaf < leaf_count l
   pub other_within : other < leaf_count l
-  pub used : image_leaves l image leaf 3 ≢ 0
-  pub other_used : image_leaves l image other 3 ≢ 0
+  pub used : image_layer_words l image leaf 3 ≢ 0
+  pub other_used : image_layer_words l image other 3 ≢ 0
   pub apart : leaf ≢ other
-  pub same : key_in (image_leaves l image) leaf ≡ key_in (image_leaves l image) other
+  pub same : key_in (image_layer_words l image) leaf ≡ key_in (image_layer_words l image) other
 
 -- A key that no line of the log has which isn't EMPTY, and a node: either the key leads to the node, which isn't a
 -- listed one with this anchor; or the node is a listed one with this anchor, and the key doesn't lead to it.

@@ -1,7 +1,7 @@
 //! Keys, by their words.
 
 ghost use Rattle.std.specs.Prelude.{◌≡◌, ◌↔◌, IsTrue};
-ghost use Rattle.search_layer.specs.Keys.{key_number};
+ghost use Rattle.layer_map.specs.Keys.{key_number};
 ghost use Rattle.image_layer_rules.specs.Leaves.{AreKeyWords};
 
 use cat_key::Name;

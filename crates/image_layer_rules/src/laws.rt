@@ -1,7 +1,7 @@
 //! The laws of images that are sound by all rules, each named by the contract of a function.
 
 ghost use Rattle.image_layer_rules.specs.Laws.{SoundKeepsLayer, LayerMakesSound, RuleOnCount, RuleOnCover};
-ghost use Rattle.image_layer_rules.specs.Laws.{CoverTellsKeys, FreshIsSoundByAll, CrashKeepsLeaves, StartCachesLeaves};
+ghost use Rattle.image_layer_rules.specs.Laws.{CoverTellsKeys, FreshIsSoundByAll, CrashKeepsLayer, StartCachesLayer};
 ghost use Rattle.image_layer_rules.specs.Laws.{CrashKeepsLines, StartCachesLines};
 
 /// An image is sound by all rules exactly where it is by those on its header, list, nodes and log, its leaves are in
@@ -26,8 +26,8 @@ pub fn fresh_law()
 /// The words of leaves and of log lines go unchanged from the durable words into the image, and from the image into the
 /// cached words.
 pub fn words_law()
-    ensures crash_leaves { CrashKeepsLeaves }
-    ensures start_leaves { StartCachesLeaves }
+    ensures crash_layer { CrashKeepsLayer }
+    ensures start_layer { StartCachesLayer }
     ensures crash_lines { CrashKeepsLines }
     ensures start_lines { StartCachesLines }
 {}

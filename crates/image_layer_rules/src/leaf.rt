@@ -5,7 +5,8 @@ ghost use Rattle.pm_words.specs.Images.{IsImage};
 ghost use Rattle.pm_words.specs.Locations.{leaf_count};
 ghost use Rattle.search_layer.specs.Leaves.{used_count};
 ghost use Rattle.image_rules.specs.Lowest.{IsLowest};
-ghost use Rattle.image_layer_rules.specs.Leaves.{image_leaves, key_words};
+ghost use Rattle.image_layer_rules.specs.Leaves.{key_words};
+ghost use Rattle.search_layer.specs.Rows.{image_layer_words};
 ghost use Rattle.image_layer_rules.specs.Rules.{LeadsNowhere, HasNoKey};
 
 use crate::key::is_key;
@@ -28,7 +29,7 @@ pub(crate) fn leaf_count(image: &Image) -> u64
 /// A word of a leaf; 0 where there is no such leaf.
 fn leaf_word(image: &Image, leaf: u64, offset: u64) -> u64
     requires { offset < 8 }
-    ensures { result ≡ image_leaves image.now.layout image.now.words leaf offset }
+    ensures { result ≡ image_layer_words image.now.layout image.now.words leaf offset }
 {
     if leaf_count(image) <= leaf {
         return 0;
@@ -38,14 +39,14 @@ fn leaf_word(image: &Image, leaf: u64, offset: u64) -> u64
 
 /// The node word of a leaf: the number of its node plus one, or 0 where the leaf isn't in use.
 pub(crate) fn node_word_of(image: &Image, leaf: u64) -> u64
-    ensures { result ≡ image_leaves image.now.layout image.now.words leaf 3 }
+    ensures { result ≡ image_layer_words image.now.layout image.now.words leaf 3 }
 {
     leaf_word(image, leaf, leaf::NODE)
 }
 
 /// The words of a leaf's key.
 pub(crate) fn key_of(image: &Image, leaf: u64) -> Key
-    ensures { result ≡ key_words (image_leaves image.now.layout image.now.words) leaf }
+    ensures { result ≡ key_words (image_layer_words image.now.layout image.now.words) leaf }
 {
     [
         leaf_word(image, leaf, leaf::KEY),
@@ -56,7 +57,7 @@ pub(crate) fn key_of(image: &Image, leaf: u64) -> Key
 
 /// How many leaves are in use.
 pub(crate) fn used_count(image: &Image) -> u64
-    ensures { result ≡ used_count (image_leaves image.now.layout image.now.words) (leaf_count image.now.layout) }
+    ensures { result ≡ used_count (image_layer_words image.now.layout image.now.words) (leaf_count image.now.layout) }
 {
     let mut count = 0;
     for leaf in 0..leaf_count(image) {

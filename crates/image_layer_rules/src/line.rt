@@ -1,7 +1,7 @@
 //! Which keys the lines of the log exempt.
 
 ghost use Rattle.std.specs.Prelude.{◌↔◌, IsTrue};
-ghost use Rattle.search_layer.specs.Keys.{key_number};
+ghost use Rattle.layer_map.specs.Keys.{key_number};
 ghost use Rattle.updater_law.specs.Covers.{IsOpenFor};
 ghost use Rattle.image_layer_rules.specs.Leaves.{image_lines};
 

@@ -4,7 +4,8 @@ ghost use Rattle.std.specs.Prelude.{◌≡◌, ℕ, ◌+◌, ◌<◌, ◌≤◌,
 ghost use Rattle.std.specs.List.Sorted.{IsPermutation, IsSortedBy};
 ghost use Rattle.pm_words.specs.Images.{IsImage};
 ghost use Rattle.pm_words.specs.Locations.{leaf_count};
-ghost use Rattle.image_layer_rules.specs.Leaves.{image_leaves, key_words, used_leaves, listed, has_lower_key};
+ghost use Rattle.image_layer_rules.specs.Leaves.{key_words, used_leaves, listed, has_lower_key};
+ghost use Rattle.search_layer.specs.Rows.{image_layer_words};
 ghost use Rattle.image_layer_rules.specs.Rules.{ShareAKey};
 
 use crate::leaf::{key_of, leaf_count, node_word_of};
@@ -21,7 +22,7 @@ struct UsedLeaves {
 
 /// The leaves in use, in rising order of their numbers.
 fn used_leaves(image: &Image) -> UsedLeaves
-    ensures listed { listed result ≡ used_leaves (image_leaves image.now.layout image.now.words)
+    ensures listed { listed result ≡ used_leaves (image_layer_words image.now.layout image.now.words)
         (leaf_count image.now.layout) }
     ensures len { result.len ≤ 4100 }
     ensures image { IsImage image.now.layout image.now.words }
@@ -42,11 +43,11 @@ fn used_leaves(image: &Image) -> UsedLeaves
 /// Puts leaves in rising order of their keys.
 fn sort_leaves(image: &Image, leaves: &mut [u64])
     ensures same { IsPermutation leaves.old leaves.new }
-    ensures rising { IsSortedBy (has_lower_key (image_leaves image.now.layout image.now.words)) leaves.new }
+    ensures rising { IsSortedBy (has_lower_key (image_layer_words image.now.layout image.now.words)) leaves.new }
 {
     leaves.sort_unstable_by_key(
         |leaf|
-            ensures { result ≡ key_words (image_leaves image.entry.now.layout image.entry.now.words) leaf.now }
+            ensures { result ≡ key_words (image_layer_words image.entry.now.layout image.entry.now.words) leaf.now }
         { key_of(image, *leaf) },
     );
 }
@@ -54,8 +55,8 @@ fn sort_leaves(image: &Image, leaves: &mut [u64])
 /// Whether some leaf has the key of the one behind it.
 fn has_twins(image: &Image, leaves: &[u64]) -> bool
     ensures { IsTrue result ↔ ((k : ℕ) × (k + 1 < length leaves.now)
-        × (key_words (image_leaves image.now.layout image.now.words) (slice_index leaves.now k)
-        ≡ key_words (image_leaves image.now.layout image.now.words) (slice_index leaves.now (k + 1)))) }
+        × (key_words (image_layer_words image.now.layout image.now.words) (slice_index leaves.now k)
+        ≡ key_words (image_layer_words image.now.layout image.now.words) (slice_index leaves.now (k + 1)))) }
 {
     for k in 1..leaves.len() {
         if key_of(image, leaves[k - 1]) == key_of(image, leaves[k]) {
@@ -68,7 +69,7 @@ fn has_twins(image: &Image, leaves: &[u64]) -> bool
 /// Whether two of the leaves in use have one key, which are put in the order of their keys.
 fn share_among(image: &Image, leaves: &mut [u64]) -> bool
     requires image { IsImage image.now.layout image.now.words }
-    requires used { leaves.old ≡ used_leaves (image_leaves image.now.layout image.now.words)
+    requires used { leaves.old ≡ used_leaves (image_layer_words image.now.layout image.now.words)
         (leaf_count image.now.layout) }
     ensures { IsTrue result ↔ ((leaf : ℕ) × (other : ℕ) × ShareAKey image.now.layout image.now.words leaf other) }
 {

@@ -14,8 +14,8 @@ use Rattle.data_node.specs.Spots.{Spot, name_words, value_in}
 use Rattle.data_node.specs.Lists.{key_of}
 use Rattle.data_node.specs.Weights.{has_name_in}
 use Rattle.data_node.proofs.KeyLemmas.{key-number}
-use Rattle.search_layer.specs.Keys.{key_number}
-use Rattle.search_layer.proofs.KeyLemmas.{numbers_keep_order}
+use Rattle.layer_map.specs.Keys.{key_number}
+use Rattle.layer_map.proofs.KeyLemmas.{numbers_keep_order}
 use Rattle.image_rules.specs.Sound.{with_slots}
 
 abbrev pub Entry : Type 0

@@ -1,10 +1,10 @@
 -- The anchor of a line that is set or taken out, turn by turn, is a move of the law; and how each move begins.
-use Rattle.std.proofs.Common.{◌≡◌, ℕ, suc, ◌^◌, ◌<◌, ◌≤◌, List, [], ◌∷◌, refl, sym, subst, ◌∙◌, arith}
+use Rattle.std.proofs.Common.{◌≡◌, ℕ, suc, ◌^◌, ◌<◌, ◌≤◌, List, [], ◌∷◌, refl, sym, subst, ◌∙◌, arith, false}
 use Rattle.pm_words.specs.declared.layout.Layout.{Layout}
 use Rattle.pm_words.specs.declared.action.Action.{Action}
 use Rattle.pm_words.specs.declared.machine.Turn.{Turn}
 use Rattle.pm_words.specs.declared.machine.Turn.TheVariants.{Go, Done}
-use Rattle.pm_words.specs.Locations.{Root, Cached, Durable, IsVolatile}
+use Rattle.pm_words.specs.Locations.{Root, Cached, Durable, IsVolatile, Location, Clock, Updater, Volatile, Mark}
 use Rattle.pm_words.specs.Rows.{IsRow, CanAct, acted, got}
 use Rattle.pm_words.proofs.Kept.{acted_row}
 use Rattle.data_node.specs.Lists.{ListNode}
@@ -12,8 +12,8 @@ use Rattle.search_layer.specs.declared.change.Change.{Change}
 use Rattle.search_layer.specs.ChangeSteps.{IsChange, change_asks, change_turned}
 use Rattle.search_layer.specs.ChangeStages.{Aim, Changed, ChangeStep}
 use Rattle.search_layer.specs.Laws.{stage_of, aim_of, stage_after, SoundAfter}
-use Rattle.search_layer.specs.Layers.{Layer, HasFew}
-use Rattle.search_layer.specs.Leaves.{leaves_in}
+use Rattle.layer_map.specs.Layers.{Layer, HasFew}
+use Rattle.search_layer.specs.Rows.{layer_words}
 use Rattle.search_layer.proofs.ChangeSteps.{change_step_keeps}
 use Rattle.search_layer.proofs.ChangeTurns.{changes_are_steps}
 use Rattle.search_layer.proofs.ChangeSound.{changes_stay_sound}
@@ -28,6 +28,7 @@ use Rattle.image_recovery_law.proofs.Steps.{steps_keep}
 use Rattle.image_recovery.specs.Makings.{of_change}
 use Rattle.image_recovery.specs.MakingLaw.{IsClearBeside, sure_unsets, sure_sets, IsAfterTurn}
 use Rattle.image_recovery.proofs.StoringLaw.{given_word}
+use Rattle.layer_map.specs.Places.{is_of_layer}
 
 -- the aim at a line is the same on the columns of the first image and on those that mend it
 pub aim_same : (l : Layout) (list : List ListNode) (o now : Columns) (line word : ℕ) → MendsNodes l list o now → aim_at o line word ≡ aim_at now line word
@@ -35,6 +36,15 @@ aim_same l list o now line word mends = λ i. record {
   key = sym (mends.fields line 3 (λ e. cc)) i ∷ sym (mends.fields line 4 (λ e. cc)) i ∷ sym (mends.fields line 5 (λ e. cc)) i ∷ [];
   word = word;
 }
+
+-- no volatile word is of the layer
+volatile_outside : (p : Location) → IsVolatile p → is_of_layer p ≡ false
+volatile_outside Clock volatile = refl
+volatile_outside Updater volatile = refl
+volatile_outside (Volatile n o) volatile = refl
+volatile_outside (Mark kind k) volatile = refl
+volatile_outside (Cached w) volatile = absurd (let three : 3 < 3 = volatile in omega arith)
+volatile_outside (Durable w) volatile = absurd (let four : 4 < 3 = volatile in omega arith)
 
 module _ (l : Layout) (list : List ListNode) (o : Columns) (rest : List law.Move) (words : List ℕ) (change : Change) (sound : IsSound l list o) (row : IsRow l words) (clear : IsClearBeside l words) (fits : IsChange change) (layout : change.layout ≡ l) where
   abbrev now : Columns
@@ -64,18 +74,15 @@ module _ (l : Layout) (list : List ListNode) (o : Columns) (rest : List law.Move
   next_row = acted_row l words action row acts
 
   -- a change leaves the words that no column tells
-  clear_beside : (aim : Aim) (before : Layer) → aim_of change ≡ aim → aim.word ≤ l.nodes → HasFew l.nodes before → ChangesTo l aim before (stage_of change) (leaves_in l words Cached) (leaves_in l words Durable)
+  clear_beside : (aim : Aim) (before : Layer) → aim_of change ≡ aim → aim.word ≤ l.nodes → HasFew l.nodes before → ChangesTo l aim before (stage_of change) (layer_words l words Cached) (layer_words l words Durable)
       → IsClearBeside l (acted l words action)
   clear_beside aim before is word few known =
       let others = (change_step_keeps l aim before words (stage_of change) action (stage_after (change_turned change x)) row.whole known.row word (λ some. few) known.sure known.at (step aim is)).others in
       let eight : 0 < 8 = omega arith in
       record {
-        cached_root = others (Cached (Root 0)) eight (λ leaf offset. ((λ e. cc), (λ e. cc))) ∙ clear.cached_root;
-        durable_root = others (Durable (Root 0)) eight (λ leaf offset. ((λ e. cc), (λ e. cc))) ∙ clear.durable_root;
-        volatile = λ p has volatile. others p has (λ leaf offset. (
-          (λ e. let three : 3 < 3 = subst IsVolatile e volatile in omega arith),
-          (λ e. let four : 4 < 3 = subst IsVolatile e volatile in omega arith),
-        )) ∙ clear.volatile p has volatile;
+        cached_root = others (Cached (Root 0)) eight refl ∙ clear.cached_root;
+        durable_root = others (Durable (Root 0)) eight refl ∙ clear.durable_root;
+        volatile = λ p has volatile. others p has (volatile_outside p volatile) ∙ clear.volatile p has volatile;
       }
 
   -- what a turn leaves
@@ -101,7 +108,7 @@ module _ (l : Layout) (list : List ListNode) (o : Columns) (rest : List law.Move
       → CanAct l words action × IsAfterTurn l list o rest (acted l words action) (of_change (change_turned change x))
   unset_turn line aim sure plan = (
     acts,
-    after_unset line aim plan (clear_beside (aim_at now line 0) sure.0.before (aim ∙ aim_same l list o now line 0 sure.0.nodes) sure.0.word sure.0.first.few sure.0.leaves) (change_turned change x) (changes_stay_sound change x fits told)
+    after_unset line aim plan (clear_beside (aim_at now line 0) sure.0.before (aim ∙ aim_same l list o now line 0 sure.0.nodes) sure.0.word sure.0.first.few sure.0.layer) (change_turned change x) (changes_stay_sound change x fits told)
         (unset_goes l list o words line (stage_of change) (stage_after (change_turned change x)) action row.whole sound sure
         (step (aim_at now line 0) (aim ∙ aim_same l list o now line 0 sure.0.nodes))),
   )
@@ -128,7 +135,7 @@ module _ (l : Layout) (list : List ListNode) (o : Columns) (rest : List law.Move
       → CanAct l words action × IsAfterTurn l list o rest (acted l words action) (of_change (change_turned change x))
   set_turn line n aim sure plan = (
     acts,
-    after_set line n aim plan (clear_beside (aim_at now line (suc n)) sure.0.before (aim ∙ aim_same l list o now line (suc n) sure.0.nodes) sure.0.word sure.0.first.few sure.0.leaves) (change_turned change x) (changes_stay_sound change x fits told)
+    after_set line n aim plan (clear_beside (aim_at now line (suc n)) sure.0.before (aim ∙ aim_same l list o now line (suc n) sure.0.nodes) sure.0.word sure.0.first.few sure.0.layer) (change_turned change x) (changes_stay_sound change x fits told)
         (set_goes l list o words line n (stage_of change) (stage_after (change_turned change x)) action row.whole sound sure
         (step (aim_at now line (suc n)) (aim ∙ aim_same l list o now line (suc n) sure.0.nodes))),
   )

@@ -27,6 +27,8 @@ use Rattle.image_recovery.specs.declared.making.Making.{Making}
 use Rattle.image_recovery.specs.Recoveries.{IsRecoveringAt, StopLeavesSound, moves_left}
 use Rattle.image_recovery.proofs.MakingLemmas.{makings_are_sure}
 use Rattle.image_recovery.proofs.SoundColumns.{sound_all, list_is}
+use Rattle.search_layer.proofs.RowLemmas.{mix_of_durable}
+use Rattle.search_layer.specs.Rows.{layer_words}
 
 -- the sum over a list where each part is the same
 total_same : (v w : ℕ → ℕ) (here : ℕ) (list : List ListNode) → ((n : ℕ) → (n ≡ here) ⊎ IsMember list n → w n ≡ v n) → total w here list ≡ total v here list
@@ -51,7 +53,7 @@ module _ (image : Row) (recoverable : IsRecoverable image) (words : List ℕ) (r
     version = λ n. inr refl;
     spot = λ n offset. inr refl;
     line = λ n offset. inr refl;
-    leaf = λ n offset. inr refl;
+    layer = mix_of_durable (layer_words l words Cached) (layer_words l words Durable);
   })
 
   same : image_columns l left ≡ safe

@@ -7,11 +7,9 @@ use Rattle.pm_words.specs.Rows.{IsRow, CanAct, acted, got, evicted}
 use Rattle.pm_words.proofs.Kept.{evicted_row}
 use Rattle.version_lock.specs.Versions.{IsGeneration}
 use Rattle.data_node.specs.Lists.{ListNode}
-use Rattle.search_layer.specs.Laws.{stage_of, aim_of}
+use Rattle.search_layer.specs.Laws.{stage_of, aim_of, start_stage}
 use Rattle.search_layer.specs.ChangeSteps.{change_starts}
-use Rattle.search_layer.specs.ChangeStages.{Looks}
 use Rattle.updater_row_law.specs.Columns.{line_count, line_word}
-use Rattle.updater_row_law.specs.RowStages.{start_sight}
 use Rattle.image_recovery_law.specs.Columns.{Columns, IsSound, anchor_of, line_anchor, MendsNodes}
 use Rattle.image_recovery_law.specs.Stages.{Stage, Begins, Raised, Trims, Trimmed, Unsets, Unsetting, Sets, Setting, Empties, Emptied, nodes_of, aim_at, unsets, sets, LacksAnchor}
 use Rattle.image_recovery_law.specs.RowMoves.{RowSure, of_generation, of_bits, of_empty}
@@ -129,7 +127,7 @@ module _ (l : Layout) (list : List ListNode) (o : Columns) (rest : List law.Move
           clear = clear;
           fits = fits;
           sure = sure_unsets (change_starts l (anchor_at here j) 0) j refl (aims j 0 within mends)
-              (steps_keep l list o now safe now safe (Unsets j) (Unsetting j (Looks start_sight)) sound sure (unsets j (λ e. busy (sym (sure.1 j) ∙ e)) lacks_now)) plan;
+              (steps_keep l list o now safe now safe (Unsets j) (Unsetting j (start_stage l (aim_at now j 0))) sound sure (unsets j (λ e. busy (sym (sure.1 j) ∙ e)) lacks_now)) plan;
         },
       )
 
@@ -146,7 +144,7 @@ module _ (l : Layout) (list : List ListNode) (o : Columns) (rest : List law.Move
           clear = clear;
           fits = fits;
           sure = sure_sets (change_starts l (anchor_at here j) (n + 1)) j n refl (aims j (n + 1) within mends ∙ ap (aim_at o j) one)
-              (steps_keep l list o now safe now safe (Sets j) (Setting j n (Looks start_sight)) sound sure (sets j n (λ e. busy (sym (sure.1 j) ∙ e)) is has_now)) plan;
+              (steps_keep l list o now safe now safe (Sets j) (Setting j n (start_stage l (aim_at now j (suc n)))) sound sure (sets j n (λ e. busy (sym (sure.1 j) ∙ e)) is has_now)) plan;
         },
       )
 

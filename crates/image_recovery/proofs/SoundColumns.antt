@@ -1,30 +1,24 @@
 -- The columns of an image that is sound by all rules are those of a sound image.
-use Rattle.std.proofs.Common.{Some, ◌≡◌, ℕ, ◌⊎◌, List, inl, inr, refl, sym, subst}
+use Rattle.std.proofs.Common.{◌≡◌, ℕ, ◌⊎◌, List, inl, inr, refl, sym, subst}
 use Rattle.pm_words.specs.declared.layout.Layout.{Layout}
 use Rattle.pm_words.specs.Images.{IsImage}
-use Rattle.pm_words.specs.Locations.{Root, leaf_count, word_at}
+use Rattle.pm_words.specs.Locations.{Root, word_at}
 use Rattle.data_node.specs.Spots.{Spot}
 use Rattle.data_node.specs.Lists.{ListNode, IsIn, MakeList, Rise, anchor_in}
 use Rattle.data_node.proofs.ListLemmas.{members_few, chain_is}
 use Rattle.image_rules.specs.Nodes.{image_spot, image_list}
-use Rattle.search_layer.specs.Layers.{HasFew}
-use Rattle.search_layer.specs.Leaves.{LayerWords, layer_in, IsLayerRow}
 use Rattle.updater_law.specs.Covered.{IsCovered}
 use Rattle.updater_law.specs.Covers.{Lines, IsOpenFor}
 use Rattle.image_layer_rules.specs.Leaves as layer
 use Rattle.image_layer_rules.specs.Sound.{IsSoundByAll}
 use Rattle.image_layer_rules.proofs.LayerLaws.{sound_keeps_layer, layer_makes_sound}
-use Rattle.image_recovery_law.specs.Columns.{Columns, IsSound, IsNameKey, HasNameKeys, lines_of, layer_kept}
-use Rattle.image_recovery_law.specs.Rows.{word_if, image_leaves, image_columns}
+use Rattle.image_recovery_law.specs.Columns.{Columns, IsSound, IsNameKey, lines_of, layer_kept}
+use Rattle.image_recovery_law.specs.Rows.{word_if, image_columns}
 use Rattle.image_recovery_law.proofs.SoundColumns.{spots_are, sound_nodes, columns_are_sound}
 
 module _ (l : Layout) (words : List ℕ) where
   abbrev o : Columns
   o = image_columns l words
-
-  leaves_are : layer.image_leaves l words ≡ image_leaves l words
-  unfolding layer.image_leaves image_leaves
-  leaves_are = refl
 
   lines_are : layer.image_lines l words ≡ lines_of o
   unfolding layer.line_word word_if anchor_in
@@ -41,12 +35,11 @@ module _ (l : Layout) (words : List ℕ) where
       record {
         nodes = sound_nodes l words is both.0;
         layer = record {
-          row = subst (λ (w : LayerWords). IsLayerRow (leaf_count l) l.nodes w) leaves_are keeps.row;
-          keys = subst (λ (w : LayerWords). HasNameKeys (layer_in w (leaf_count l))) leaves_are (λ key node leads. key_named key (keeps.keys key node leads));
-          few = subst (λ (w : LayerWords). HasFew l.nodes (layer_in w (leaf_count l))) leaves_are keeps.few;
+          row = keeps.row;
+          keys = λ key node leads. key_named key (keeps.keys key node leads);
+          few = keeps.few;
           covered = subst (λ (now : ℕ → Spot). IsCovered (IsIn (image_list l words)) (λ n. anchor_in (now n)) (layer_kept l o) (IsOpenFor (lines_of o))) (sym (spots_are l words))
-              (subst (λ (lines : Lines). IsCovered (IsIn (image_list l words)) (λ n. anchor_in (image_spot l words n)) (layer_kept l o) (IsOpenFor lines)) lines_are
-              (subst (λ (w : LayerWords). IsCovered (IsIn (image_list l words)) (λ n. anchor_in (image_spot l words n)) (layer_in w (leaf_count l)) (IsOpenFor (layer.image_lines l words))) leaves_are keeps.covered));
+              (subst (λ (lines : Lines). IsCovered (IsIn (image_list l words)) (λ n. anchor_in (image_spot l words n)) (layer_kept l o) (IsOpenFor lines)) lines_are keeps.covered);
         };
       }
 
@@ -58,12 +51,11 @@ module _ (l : Layout) (words : List ℕ) where
   pub sound_all : IsImage l words → word_at l words (Root 0) ≡ 0 → IsSound l (image_list l words) o → IsSoundByAll l words
   sound_all is root sound = layer_makes_sound l words is ((columns_are_sound l words is).0 sound.nodes) (record {
     root = root;
-    row = subst (λ (w : LayerWords). IsLayerRow (leaf_count l) l.nodes w) (sym leaves_are) sound.layer.row;
-    keys = λ key node leads. name_keyed key (sound.layer.keys key node (subst (λ (w : LayerWords). layer_in w (leaf_count l) key ≡ Some node) leaves_are leads));
-    few = subst (λ (w : LayerWords). HasFew l.nodes (layer_in w (leaf_count l))) (sym leaves_are) sound.layer.few;
-    covered = subst (λ (w : LayerWords). IsCovered (IsIn (image_list l words)) (λ n. anchor_in (image_spot l words n)) (layer_in w (leaf_count l)) (IsOpenFor (layer.image_lines l words))) (sym leaves_are)
-        (subst (λ (lines : Lines). IsCovered (IsIn (image_list l words)) (λ n. anchor_in (image_spot l words n)) (layer_kept l o) (IsOpenFor lines)) (sym lines_are)
-        (subst (λ (now : ℕ → Spot). IsCovered (IsIn (image_list l words)) (λ n. anchor_in (now n)) (layer_kept l o) (IsOpenFor (lines_of o))) (spots_are l words) sound.layer.covered));
+    row = sound.layer.row;
+    keys = λ key node leads. name_keyed key (sound.layer.keys key node leads);
+    few = sound.layer.few;
+    covered = subst (λ (lines : Lines). IsCovered (IsIn (image_list l words)) (λ n. anchor_in (image_spot l words n)) (layer_kept l o) (IsOpenFor lines)) (sym lines_are)
+        (subst (λ (now : ℕ → Spot). IsCovered (IsIn (image_list l words)) (λ n. anchor_in (now n)) (layer_kept l o) (IsOpenFor (lines_of o))) (spots_are l words) sound.layer.covered);
   })
 
   -- the list that the columns make is that of the image

@@ -1,9 +1,9 @@
 //! The recovery of a catalogue's image, as code.
 //!
-//! `image_recovery_law` says which moves a recovery makes, and what they leave whenever it is broken. Here they are planned
-//! on the image (`plan`), and made on the memory, an action at a time (`Making`): to the end at once (`recover`), or
-//! by someone who may stop it after each action (`begin`, `Recovery`). An image that isn't sound by all rules is
-//! refused.
+//! `image_recovery_law` says which moves a recovery makes, and what they leave whenever it is broken. Here they are
+//! planned on the image (`plan`), and made on the memory, an action at a time (`Making`): to the end at once
+//! (`recover`), or by someone who may stop it after each action (`begin`, `Recovery`). An image that isn't sound by all
+//! rules is refused.
 #![tactic(auto)]
 
 mod anchored;

@@ -6,7 +6,8 @@ ghost use Rattle.version_lock.specs.Versions.{IsGeneration};
 ghost use Rattle.image_layer_rules.specs.Sound.{IsSoundByAll};
 ghost use Rattle.image_recovery_law.specs.Moves as law;
 ghost use Rattle.image_recovery.specs.Plans.{columns, move_of};
-ghost use Rattle.image_recovery.specs.Recovered.{IsRecoverable, IsUnderWay, MayGoOn, MayEnd, IsRecoveredTo, IsOpenFault};
+ghost use Rattle.image_recovery.specs.Recovered.{IsRecoverable, IsUnderWay, MayGoOn, MayEnd, IsRecoveredTo};
+ghost use Rattle.image_recovery.specs.Recovered.{IsOpenFault};
 ghost use Rattle.image_recovery.specs.Recoveries.{IsMakingOne, MayFinish};
 
 use crate::making::Making;

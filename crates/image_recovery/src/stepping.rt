@@ -63,7 +63,8 @@ impl Recovery {
     ghost use Rattle.pm_words.specs.Images.{Row};
     ghost use Rattle.image_recovery.specs.Plans.{move_of};
     ghost use Rattle.image_recovery.specs.Recovered.{IsRecoverable, IsUnderWay, IsRecoveredTo};
-    ghost use Rattle.image_recovery.specs.Recoveries.{HasEnded, IsRecovering, MayStep, IsMakingOne, moves_left, IsTaken};
+    ghost use Rattle.image_recovery.specs.Recoveries.{HasEnded, IsRecovering, MayStep, IsMakingOne, moves_left};
+    ghost use Rattle.image_recovery.specs.Recoveries.{IsTaken};
     ghost use Rattle.image_recovery.specs.Recoveries.{IsNearer, MakesOne};
 
     /// The recovery that makes these moves.

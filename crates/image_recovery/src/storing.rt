@@ -24,7 +24,8 @@ pub enum StoringAt {
 }
 
 impl Machine for Storing {
-    ghost use Rattle.image_recovery.specs.Storings.{IsStoring, storing_asks, storing_turned, storing_takes, storing_left};
+    ghost use Rattle.image_recovery.specs.Storings.{IsStoring, storing_asks, storing_turned, storing_takes};
+    ghost use Rattle.image_recovery.specs.Storings.{storing_left};
 
     type Answer = ();
 

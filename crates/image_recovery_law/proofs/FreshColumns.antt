@@ -4,22 +4,23 @@ use Rattle.std.proofs.lemmas.Bool.{cases_eq, eq-eqb, ne_eqb}
 use Rattle.pm_words.specs.declared.layout.Layout.{Layout}
 use Rattle.pm_words.specs.Images.{fresh_words}
 use Rattle.pm_words.specs.Layouts.{IsLayout}
-use Rattle.pm_words.specs.Locations.{Node, Cached, leaf_count}
+use Rattle.pm_words.specs.Locations.{Node, Cached}
 use Rattle.pm_words.specs.Rows.{row_of}
 use Rattle.pm_words.proofs.Made.{fresh_at, fresh_image}
 use Rattle.data_node.specs.Spots.{Spot}
 use Rattle.data_node.specs.Lists.{ListNode, next_offset, IsIn, IsChain}
-use Rattle.search_layer.specs.Layers.{HasFew}
-use Rattle.search_layer.specs.Leaves.{LayerWords, leaves_in, layer_in, IsLayerRow}
+use Rattle.layer_map.specs.Layers.{HasFew}
+use Rattle.search_layer.specs.Rows.{LayerWords, layer_words, image_layer_words}
 use Rattle.search_layer.specs.Laws.{fresh_layer}
 use Rattle.search_layer.proofs.Fresh.{fresh_is_at_rest}
+use Rattle.search_layer.specs.Kept.{kept, IsKept}
 use Rattle.updater_law.specs.Covered.{IsCovered}
 use Rattle.updater_law.specs.Covers.{IsOpenFor}
 use Rattle.image_rules.specs.Nodes.{image_spot, image_list}
 use Rattle.image_rules.proofs.FreshLemmas.{fresh_is_sound}
 use Rattle.image_rules.proofs.WordLemmas.{image_spot-here}
 use Rattle.image_recovery_law.specs.Columns.{Columns, anchor_of, lines_of, layer_kept, NodesAreSound}
-use Rattle.image_recovery_law.specs.Rows.{image_leaves, image_columns}
+use Rattle.image_recovery_law.specs.Rows.{image_columns}
 use Rattle.image_recovery_law.specs.SoundImages.{FreshHasSoundColumns}
 use Rattle.image_recovery_law.proofs.RowColumns.{start_has_columns}
 use Rattle.image_recovery_law.proofs.SoundColumns.{spots_are, sound_nodes}
@@ -46,18 +47,18 @@ module _ (l : Layout) (is : IsLayout l) where
   nodes : NodesAreSound l (image_list l words) i
   nodes = sound_nodes l words (fresh_image l is) (fresh_is_sound l is).0
 
-  -- its leaves are those of a fresh row
-  leaves_are : leaves_in l (row_of l words) Cached ≡ image_leaves l words
-  leaves_are = ap (λ (c : Columns). c.leaf) (start_has_columns l words (fresh_image l is)).0
+  -- its layer is that of a fresh row
+  words_are : layer_words l (row_of l words) Cached ≡ image_layer_words l words
+  words_are = ap (λ (c : Columns). c.layer) (start_has_columns l words (fresh_image l is)).0
 
-  row : IsLayerRow (leaf_count l) l.nodes (image_leaves l words)
-  row = subst (λ (w : LayerWords). IsLayerRow (leaf_count l) l.nodes w) leaves_are (fresh_is_at_rest l is).0.row
+  row : IsKept l (image_layer_words l words)
+  row = subst (λ (w : LayerWords). IsKept l w) words_are (fresh_is_at_rest l is).0.row
 
   few : HasFew l.nodes (layer_kept l i)
-  few = subst (λ (w : LayerWords). HasFew l.nodes (layer_in w (leaf_count l))) leaves_are (fresh_is_at_rest l is).1
+  few = subst (λ (w : LayerWords). HasFew l.nodes (kept l w)) words_are (fresh_is_at_rest l is).1
 
   layer_is : (key : ℕ) → layer_kept l i key ≡ fresh_layer key
-  layer_is key = subst (λ (w : LayerWords). layer_in w (leaf_count l) key ≡ fresh_layer key) leaves_are ((fresh_is_at_rest l is).2 key)
+  layer_is key = subst (λ (w : LayerWords). kept l w key ≡ fresh_layer key) words_are ((fresh_is_at_rest l is).2 key)
 
   only_first : (n : ℕ) → IsIn (image_list l words) n → n ≡ 0
   only_first n among =

@@ -2,27 +2,28 @@
 use Rattle.std.proofs.Common.{◌≡◌, ◌≢◌, ℕ, suc, ◌⊎◌, List, inl, inr, refl, sym, subst, ◌∙◌}
 use Rattle.std.proofs.lemmas.Bool.{cases_eq}
 use Rattle.pm_words.specs.declared.layout.Layout.{Layout}
-use Rattle.pm_words.specs.Locations.{leaf_count}
 use Rattle.data_node.specs.Spots.{bitmap_offset}
 use Rattle.data_node.specs.Lists.{ListNode}
-use Rattle.search_layer.specs.Layers.{Layer, AreSame}
-use Rattle.search_layer.specs.Leaves.{layer_in}
-use Rattle.search_layer.specs.ChangeStages.{Aim, Changing, Looks, Fills, CanSwitch, Switched, Changed, MixAt, made_of}
-use Rattle.search_layer.proofs.ChangeLaw.{change_is_backed, change_evicts}
+use Rattle.layer_map.specs.Layers.{AreSame}
+use Rattle.search_layer.specs.ChangeStages.{Aim, Changing, made_of}
+use Rattle.search_layer.proofs.ChangeLaw.{change_is_backed, change_evicts, layer_is_either, mix_is_either}
+use Rattle.search_layer.specs.Kept.{kept}
 use Rattle.image_recovery_law.specs.Columns.{Columns, MendsLayer, Mends, IsMix}
-use Rattle.image_recovery_law.specs.Stages.{with_leaves, aim_at, Begins, Raised, Trims, Trimmed, Unsets, Unsetting, Sets, Setting, Empties, Emptied, Wakes, Part, Nothing, Generation, Bits, State, IsEvenBut, IsStill, IsChanging}
+use Rattle.image_recovery_law.specs.Stages.{with_layer, aim_at, Begins, Raised, Trims, Trimmed, Unsets, Unsetting, Sets, Setting, Empties, Emptied, Wakes, Part, Nothing, Generation, Bits, State, IsEvenBut, IsStill, IsChanging}
 use Rattle.image_recovery_law.specs.Laws.{CrashMends, EvictionsKeep}
+use Rattle.search_layer.specs.Rows.{AreEven}
+use Rattle.search_layer.proofs.RowLemmas.{even_are_same, mixes_are_even}
 
 -- columns with the same words are the same
 pub columns_path : (i i' : Columns) → i'.generation ≡ i.generation → ((k : ℕ) → i'.spare k ≡ i.spare k) → ((k : ℕ) → i'.version k ≡ i.version k) → ((n k : ℕ) → i'.spot n k ≡ i.spot n k)
-    → ((n k : ℕ) → i'.line n k ≡ i.line n k) → ((n k : ℕ) → i'.leaf n k ≡ i.leaf n k) → i' ≡ i
-columns_path i i' generation spare version spot line leaf = λ k. record {
+    → ((n k : ℕ) → i'.line n k ≡ i.line n k) → i'.layer ≡ i.layer → i' ≡ i
+columns_path i i' generation spare version spot line layer = λ k. record {
   generation = generation k;
   spare = λ a. spare a k;
   version = λ a. version a k;
   spot = λ a b. spot a b k;
   line = λ a b. line a b k;
-  leaf = λ a b. leaf a b k;
+  layer = layer k;
 }
 
 -- a word of a mix, where both rows have one word
@@ -55,20 +56,23 @@ module _ (w s mix : ℕ → ℕ → ℕ) (m o : ℕ) (is : (n k : ℕ) → (mix 
   ]
 
 module _ (now safe mix : Columns) (is : IsMix now safe mix) where
+  mixed_layer : AreEven now.layer safe.layer → mix.layer ≡ now.layer
+  mixed_layer even = even_are_same now.layer mix.layer (mixes_are_even now.layer safe.layer mix.layer even is.layer)
+
   -- the mix is the one row, or the other, where these words are
-  mix_now : (part : Part) → IsEvenBut part now safe → ((n k : ℕ) → safe.leaf n k ≡ now.leaf n k) → mix.generation ≡ now.generation → ((n k : ℕ) → mix.spot n k ≡ now.spot n k) → ((j k : ℕ) → mix.line j k ≡ now.line j k) → mix ≡ now
-  mix_now part even leaves generation spot line = columns_path now mix generation
+  mix_now : (part : Part) → IsEvenBut part now safe → AreEven now.layer safe.layer → mix.generation ≡ now.generation → ((n k : ℕ) → mix.spot n k ≡ now.spot n k) → ((j k : ℕ) → mix.line j k ≡ now.line j k) → mix ≡ now
+  mix_now part even layer generation spot line = columns_path now mix generation
       (λ k. first_of (mix.spare k) (now.spare k) (safe.spare k) (is.spare k) (even.spare k))
       (λ n. first_of (mix.version n) (now.version n) (safe.version n) (is.version n) (even.version n))
       spot line
-      (λ n k. first_of (mix.leaf n k) (now.leaf n k) (safe.leaf n k) (is.leaf n k) (leaves n k))
+      (mixed_layer layer)
 
-  mix_safe : (part : Part) → IsEvenBut part now safe → ((n k : ℕ) → safe.leaf n k ≡ now.leaf n k) → mix.generation ≡ safe.generation → ((n k : ℕ) → mix.spot n k ≡ safe.spot n k) → ((j k : ℕ) → mix.line j k ≡ safe.line j k) → mix ≡ safe
-  mix_safe part even leaves generation spot line = columns_path safe mix generation
+  mix_safe : (part : Part) → IsEvenBut part now safe → AreEven now.layer safe.layer → mix.generation ≡ safe.generation → ((n k : ℕ) → mix.spot n k ≡ safe.spot n k) → ((j k : ℕ) → mix.line j k ≡ safe.line j k) → mix ≡ safe
+  mix_safe part even layer generation spot line = columns_path safe mix generation
       (λ k. second_of (mix.spare k) (now.spare k) (safe.spare k) (is.spare k) (even.spare k))
       (λ n. second_of (mix.version n) (now.version n) (safe.version n) (is.version n) (even.version n))
       spot line
-      (λ n k. second_of (mix.leaf n k) (now.leaf n k) (safe.leaf n k) (is.leaf n k) (leaves n k))
+      (mixed_layer layer ∙ sym (even_are_same now.layer safe.layer layer))
 
   -- the words of a part that is durable
   module _ (part : Part) (even : IsEvenBut part now safe) where
@@ -91,27 +95,27 @@ module _ (now safe mix : Columns) (is : IsMix now safe mix) where
     line_second ne j k = second_of (mix.line j k) (now.line j k) (safe.line j k) (is.line j k) (even.line j k (λ e. absurd (ne j e)))
 
   -- at rest but for one word it is the one or the other
-  mix_is : (part : Part) → IsEvenBut part now safe → ((n k : ℕ) → safe.leaf n k ≡ now.leaf n k) → (mix ≡ now) ⊎ (mix ≡ safe)
-  mix_is Nothing even leaves = inl (mix_now Nothing even leaves (generation_first Nothing even (λ e. cc)) (spot_first Nothing even (λ n e. cc)) (line_first Nothing even (λ j e. cc)))
-  mix_is Generation even leaves = elim is.generation [
-    | inl g ↦ inl (mix_now Generation even leaves g (spot_first Generation even (λ n e. cc)) (line_first Generation even (λ j e. cc)))
-    | inr g ↦ inr (mix_safe Generation even leaves g (spot_second Generation even (λ n e. cc)) (line_second Generation even (λ j e. cc)))
+  mix_is : (part : Part) → IsEvenBut part now safe → AreEven now.layer safe.layer → (mix ≡ now) ⊎ (mix ≡ safe)
+  mix_is Nothing even layer = inl (mix_now Nothing even layer (generation_first Nothing even (λ e. cc)) (spot_first Nothing even (λ n e. cc)) (line_first Nothing even (λ j e. cc)))
+  mix_is Generation even layer = elim is.generation [
+    | inl g ↦ inl (mix_now Generation even layer g (spot_first Generation even (λ n e. cc)) (line_first Generation even (λ j e. cc)))
+    | inr g ↦ inr (mix_safe Generation even layer g (spot_second Generation even (λ n e. cc)) (line_second Generation even (λ j e. cc)))
   ]
-  mix_is (Bits m) even leaves =
+  mix_is (Bits m) even layer =
       let others : (n k : ℕ) → (n ≡ m → k ≢ bitmap_offset) → safe.spot n k ≡ now.spot n k = λ n k apart. even.spot n k (λ e. apart (let same : m ≡ n = cc in sym same)) in
       elim (is.spot m bitmap_offset) [
-        | inl g ↦ inl (mix_now (Bits m) even leaves (generation_first (Bits m) even (λ e. cc)) (all_first now.spot safe.spot mix.spot m bitmap_offset is.spot others g) (line_first (Bits m) even (λ j e. cc)))
-        | inr g ↦ inr (mix_safe (Bits m) even leaves (generation_second (Bits m) even (λ e. cc)) (all_second now.spot safe.spot mix.spot m bitmap_offset is.spot others g) (line_second (Bits m) even (λ j e. cc)))
+        | inl g ↦ inl (mix_now (Bits m) even layer (generation_first (Bits m) even (λ e. cc)) (all_first now.spot safe.spot mix.spot m bitmap_offset is.spot others g) (line_first (Bits m) even (λ j e. cc)))
+        | inr g ↦ inr (mix_safe (Bits m) even layer (generation_second (Bits m) even (λ e. cc)) (all_second now.spot safe.spot mix.spot m bitmap_offset is.spot others g) (line_second (Bits m) even (λ j e. cc)))
       ]
-  mix_is (State m) even leaves =
+  mix_is (State m) even layer =
       let others : (n k : ℕ) → (n ≡ m → k ≢ 0) → safe.line n k ≡ now.line n k = λ n k apart. even.line n k (λ e. apart (let same : m ≡ n = cc in sym same)) in
       elim (is.line m 0) [
-        | inl g ↦ inl (mix_now (State m) even leaves (generation_first (State m) even (λ e. cc)) (spot_first (State m) even (λ n e. cc)) (all_first now.line safe.line mix.line m 0 is.line others g))
-        | inr g ↦ inr (mix_safe (State m) even leaves (generation_second (State m) even (λ e. cc)) (spot_second (State m) even (λ n e. cc)) (all_second now.line safe.line mix.line m 0 is.line others g))
+        | inl g ↦ inl (mix_now (State m) even layer (generation_first (State m) even (λ e. cc)) (spot_first (State m) even (λ n e. cc)) (all_first now.line safe.line mix.line m 0 is.line others g))
+        | inr g ↦ inr (mix_safe (State m) even layer (generation_second (State m) even (λ e. cc)) (spot_second (State m) even (λ n e. cc)) (all_second now.line safe.line mix.line m 0 is.line others g))
       ]
 
   pub still_mends : (l : Layout) (list : List ListNode) (o : Columns) (part : Part) → IsStill l list o part now safe → Mends l list o mix
-  still_mends l list o part still = elim (mix_is part still.even still.leaves) [
+  still_mends l list o part still = elim (mix_is part still.even still.layer) [
     | inl same ↦ subst (Mends l list o) (sym same) still.cached
     | inr same ↦ subst (Mends l list o) (sym same) still.durable
   ]
@@ -130,45 +134,42 @@ module _ (now safe mix : Columns) (is : IsMix now safe mix) where
     cached = still.cached;
     durable = still_mends l list o part still;
     even = even_mix part still.even;
-    leaves = λ i k. first_of (mix.leaf i k) (now.leaf i k) (safe.leaf i k) (is.leaf i k) (still.leaves i k);
+    layer = mixes_are_even now.layer safe.layer mix.layer still.layer is.layer;
   }
 
--- whichever leaves are durable, their layer is the one before the change, or the one after it
-mix_either : (aim : Aim) (before : Layer) (c : Changing) (layer : Layer) → MixAt aim before c layer → AreSame layer before ⊎ AreSame layer (made_of aim before)
-mix_either aim before (Looks sight) layer same = inl same
-mix_either aim before (Fills leaf stored drained hand) layer same = inl same
-mix_either aim before (CanSwitch leaf) layer same = inl same
-mix_either aim before (Switched leaf drained hand) layer (inl same) = inr same
-mix_either aim before (Switched leaf drained hand) layer (inr same) = inl same.1
-mix_either aim before Changed layer same = inr same
-
 module _ (l : Layout) (list : List ListNode) (o : Columns) (aim : Aim) (c : Changing) (now safe mix : Columns) (is : IsMix now safe mix) (ch : IsChanging l list o aim c now safe) where
-  layer_mends : MendsLayer l o (layer_in mix.leaf (leaf_count l))
+  layer_mends : MendsLayer l o (kept l mix.layer)
   layer_mends =
-      let backs = change_is_backed (leaf_count l) l.nodes aim ch.before c now.leaf safe.leaf ch.leaves.row ch.word ch.leaves.sure ch.leaves.at in
-      elim (mix_either aim ch.before c (layer_in mix.leaf (leaf_count l)) (backs.layer mix.leaf is.leaf)) [
-        | inl same ↦ let path : layer_in mix.leaf (leaf_count l) ≡ ch.before = λ x k. same k x in subst (MendsLayer l o) (sym path) ch.first
-        | inr same ↦ let path : layer_in mix.leaf (leaf_count l) ≡ made_of aim ch.before = λ x k. same k x in subst (MendsLayer l o) (sym path) ch.last
+      let backs = change_is_backed l aim ch.before c now.layer safe.layer ch.layer.row ch.word ch.layer.sure ch.layer.at in
+      elim (mix_is_either aim ch.before c (kept l now.layer) (kept l mix.layer) ch.layer.at (backs.layer mix.layer is.layer)) [
+        | inl now_same ↦ elim (layer_is_either aim ch.before c (kept l now.layer) ch.layer.at) [
+          | inl same ↦ as_before (λ k. now_same k ∙ same k)
+          | inr same ↦ let path : kept l mix.layer ≡ made_of aim ch.before = λ x k. (now_same k ∙ same k) x in subst (MendsLayer l o) (sym path) ch.last
+        ]
+        | inr same ↦ as_before same
       ]
+    where
+      as_before : AreSame (kept l mix.layer) ch.before → MendsLayer l o (kept l mix.layer)
+      as_before same = let path : kept l mix.layer ≡ ch.before = λ x k. same k x in subst (MendsLayer l o) (sym path) ch.first
 
-  mended_leaves : Mends l list o (with_leaves now mix.leaf)
-  mended_leaves = record {
+  mended_layer : Mends l list o (with_layer now mix.layer)
+  mended_layer = record {
     nodes = record { generation = ch.nodes.generation; spare = ch.nodes.spare; version = ch.nodes.version; words = ch.nodes.words; bits = ch.nodes.bits; fields = ch.nodes.fields };
     states = λ j. inl (ch.states j);
-    row = (change_is_backed (leaf_count l) l.nodes aim ch.before c now.leaf safe.leaf ch.leaves.row ch.word ch.leaves.sure ch.leaves.at).row mix.leaf is.leaf;
+    row = (change_is_backed l aim ch.before c now.layer safe.layer ch.layer.row ch.word ch.layer.sure ch.layer.at).row mix.layer is.layer;
     layer = layer_mends;
   }
 
   pub changing_mends : Mends l list o mix
   changing_mends =
-      let same : mix ≡ with_leaves now mix.leaf = columns_path (with_leaves now mix.leaf) mix
+      let same : mix ≡ with_layer now mix.layer = columns_path (with_layer now mix.layer) mix
       (generation_first now safe mix is Nothing ch.even (λ e. cc))
       (λ k. first_of (mix.spare k) (now.spare k) (safe.spare k) (is.spare k) (ch.even.spare k))
       (λ n. first_of (mix.version n) (now.version n) (safe.version n) (is.version n) (ch.even.version n))
       (spot_first now safe mix is Nothing ch.even (λ n e. cc))
       (line_first now safe mix is Nothing ch.even (λ j e. cc))
-      (λ n k. refl) in
-      subst (Mends l list o) (sym same) mended_leaves
+      refl in
+      subst (Mends l list o) (sym same) mended_layer
 
   pub changing_evicts : IsChanging l list o aim c now mix
   changing_evicts = record {
@@ -177,7 +178,7 @@ module _ (l : Layout) (list : List ListNode) (o : Columns) (aim : Aim) (c : Chan
     word = ch.word;
     even = even_mix now safe mix is Nothing ch.even;
     before = ch.before;
-    leaves = record { row = ch.leaves.row; sure = change_evicts (leaf_count l) l.nodes aim ch.before c now.leaf safe.leaf mix.leaf is.leaf ch.leaves.sure; at = ch.leaves.at };
+    layer = record { row = ch.layer.row; sure = change_evicts l aim ch.before c now.layer safe.layer mix.layer is.layer ch.layer.sure; at = ch.layer.at };
     first = ch.first;
     last = ch.last;
   }

@@ -12,6 +12,7 @@ use Rattle.image_recovery_law.proofs.Alike.{nodes_apart}
 use Rattle.image_recovery_law.proofs.Mended.{anchors, mended, same_map}
 use Rattle.image_recovery_law.proofs.Mixes.{columns_path, crash_mends, evictions_keep}
 use Rattle.image_recovery_law.proofs.Steps.{starts, steps_keep}
+use Rattle.search_layer.proofs.RowLemmas.{even_are_same}
 
 untaken : (version g : ℕ) → generation_of version ≤ g → IsUntaken version (suc g)
 untaken version g old = record {
@@ -26,7 +27,7 @@ ends_at_rest l list o now safe sound room (still, generation, done, exact, empty
     record {
       sound = mended l list o sound now still.cached room;
       same_map = same_map l list o sound now still.cached;
-      durable = columns_path now safe (still.even.generation (λ e. cc)) still.even.spare still.even.version (λ n k. still.even.spot n k (λ e. absurd cc)) (λ n k. still.even.line n k (λ e. absurd cc)) still.leaves;
+      durable = columns_path now safe (still.even.generation (λ e. cc)) still.even.spare still.even.version (λ n k. still.even.spot n k (λ e. absurd cc)) (λ n k. still.even.line n k (λ e. absurd cc)) (even_are_same now.layer safe.layer still.layer);
       generation = generation;
       empty = empty;
       exact = λ key node. (

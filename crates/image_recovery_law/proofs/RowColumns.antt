@@ -1,15 +1,17 @@
 -- Columns by the words that are read: which words alike make which columns alike.
-use Rattle.std.proofs.Common.{◌≡◌, ℕ, ◌+◌, ◌-◌, ◌*◌, ◌<◌, ◌≤◌, ◌&&◌, ◌⊎◌, Bool, true, false, cond, List, inl, inr, refl, sym, subst, ap, ◌∙◌, arith}
+use Rattle.std.proofs.Common.{◌≡◌, ℕ, ◌+◌, ◌-◌, ◌*◌, ◌<◌, ◌≤◌, ◌&&◌, ◌⊎◌, Bool, true, false, cond, inl, inr, refl, sym, subst, ap, ◌∙◌, arith}
 use Rattle.std.specs.Prelude.{nat_lt}
-use Rattle.std.proofs.lemmas.Bool.{cases_lt, and_parts, and_from, ltb-true, lt-ltb, false_from_ne_true, cond_both}
+use Rattle.std.proofs.lemmas.Bool.{cases_lt, and_parts, and_from, ltb-true, lt-ltb, false_from_ne_true}
 use Rattle.pm_words.specs.declared.layout.Layout.{Layout}
-use Rattle.pm_words.specs.Locations.{Word, Location, Header, Root, Node, Leaf, Cached, Durable, HasWord, part_of_word, leaf_count, node_words, word_at, at}
+use Rattle.pm_words.specs.Locations.{Word, Location, Header, Root, Node, Leaf, Cached, Durable, HasWord, part_of_word, node_words, word_at, at, Line, Cell}
 use Rattle.pm_words.specs.Rows.{durable_row, row_of}
 use Rattle.pm_words.proofs.Made.{row_of-at, durable_row-at}
-use Rattle.search_layer.specs.Leaves.{LayerWords, leaves_in}
+use Rattle.search_layer.specs.Rows.{LayerWords, layer_words, image_layer_words}
+use Rattle.search_layer.proofs.RowLemmas.{images_alike}
 use Rattle.updater_row_law.specs.Columns.{line_count, line_word}
-use Rattle.image_recovery_law.specs.Rows.{word_if, spare_count, spare_word, columns_by, image_leaves, StartHasColumns, CrashHasColumns}
+use Rattle.image_recovery_law.specs.Rows.{word_if, spare_count, spare_word, columns_by, StartHasColumns, CrashHasColumns}
 use Rattle.image_recovery_law.proofs.Mixes.{columns_path}
+use Rattle.layer_map.specs.Places.{is_layer_word}
 
 pub word_if-alike : (inside : Bool) (x y : ℕ) → (inside ≡ true → x ≡ y) → word_if inside x ≡ word_if inside y
 unfolding word_if
@@ -31,12 +33,21 @@ unfolding word_if
 word_if-either true x a b either = either refl
 word_if-either false x a b either = inl refl
 
--- the words that columns tell are those of an image, and none of a leaf
+-- the words that columns tell by name are those of an image, and none of the layer
 pub not_below : (a b : ℕ) → b ≤ a → nat_lt a b ≡ false
 not_below a b le = false_from_ne_true (nat_lt a b) (λ e. let lt : a < b = ltb-true a b e in omega arith)
 
 abbrev pub IsRest : Layout → Word → Type 0
 IsRest l w = HasWord l w × (part_of_word w ≤ 3)
+
+-- no such word is of the layer
+pub rest_outside : (w : Word) → part_of_word w ≤ 3 → is_layer_word w ≡ false
+rest_outside (Header o) low = refl
+rest_outside (Root o) low = refl
+rest_outside (Node n o) low = refl
+rest_outside (Line c j o) low = refl
+rest_outside (Leaf k o) low = absurd (omega arith)
+rest_outside (Cell kind k o) low = refl
 
 pub generation_rest : (l : Layout) → IsRest l (Header 5)
 generation_rest l = let small : 5 < 8 = omega arith in (small, omega arith)
@@ -104,38 +115,28 @@ module _ (l : Layout) (word word' : Word → ℕ) (Kept : Word → Type 0) (same
   pub line_same : (j o : ℕ) → Kept (line_word o j) → word_if (has_line_word l j o) (word' (line_word o j)) ≡ word_if (has_line_word l j o) (word (line_word o j))
   line_same j o kept = word_if-alike (has_line_word l j o) (word' (line_word o j)) (word (line_word o j)) (λ is. same (line_word o j) (line_rest l j o is) kept)
 
-pub columns_alike : (l : Layout) (word word' : Word → ℕ) (leaf leaf' : LayerWords) → ((w : Word) → IsRest l w → word' w ≡ word w) → ((n k : ℕ) → leaf' n k ≡ leaf n k) → columns_by l word' leaf' ≡ columns_by l word leaf
-columns_alike l word word' leaf leaf' same leaves =
+pub columns_alike : (l : Layout) (word word' : Word → ℕ) (layer layer' : LayerWords) → ((w : Word) → IsRest l w → word' w ≡ word w) → layer' ≡ layer → columns_by l word' layer' ≡ columns_by l word layer
+columns_alike l word word' layer layer' same words =
     let all : (w : Word) → IsRest l w → Unit {0} → word' w ≡ word w = λ w rest kept. same w rest in
-    columns_path (columns_by l word leaf) (columns_by l word' leaf')
+    columns_path (columns_by l word layer) (columns_by l word' layer')
     (generation_same l word word' (λ w. Unit {0}) all tt)
     (λ k. spare_same l word word' (λ w. Unit {0}) all k tt)
     (λ n. version_same l word word' (λ w. Unit {0}) all n tt)
     (λ n o. spot_same l word word' (λ w. Unit {0}) all n o tt)
     (λ j o. line_same l word word' (λ w. Unit {0}) all j o tt)
-    leaves
-
--- the leaves of a twin are those of an image
-leaves_are : (l : Layout) (words image : List ℕ) (twin : Word → Location) → ((n k : ℕ) → n < leaf_count l → k < 8 → at l words (twin (Leaf n k)) ≡ word_at l image (Leaf n k)) → (n k : ℕ) → leaves_in l words twin n k ≡ image_leaves l image n k
-unfolding leaves_in image_leaves
-leaves_are l words image twin same n k =
-    cond_both (nat_lt n (leaf_count l) && nat_lt k 8) (at l words (twin (Leaf n k))) 0
-    (λ (x : ℕ). x ≡ cond (nat_lt n (leaf_count l) && nat_lt k 8) (word_at l image (Leaf n k)) 0)
-    (λ is. let parts = and_parts (nat_lt n (leaf_count l)) (nat_lt k 8) is in
-    same n k (ltb-true n (leaf_count l) parts.0) (ltb-true k 8 parts.1) ∙ sym (rw is refl))
-    (λ past. sym (rw past refl))
+    words
 
 pub start_has_columns : StartHasColumns
 start_has_columns l image is = (
-  columns_alike l (word_at l image) (λ w. at l (row_of l image) (Cached w)) (image_leaves l image) (leaves_in l (row_of l image) Cached)
+  columns_alike l (word_at l image) (λ w. at l (row_of l image) (Cached w)) (image_layer_words l image) (layer_words l (row_of l image) Cached)
       (λ w rest. (row_of-at l image w is rest.0).0)
-      (leaves_are l (row_of l image) image Cached (λ n k here small. (row_of-at l image (Leaf n k) is (here, small)).0)),
-  columns_alike l (word_at l image) (λ w. at l (row_of l image) (Durable w)) (image_leaves l image) (leaves_in l (row_of l image) Durable)
+      (sym (images_alike l (row_of l image) image Cached (λ w place. sym (row_of-at l image w is place.there).0))),
+  columns_alike l (word_at l image) (λ w. at l (row_of l image) (Durable w)) (image_layer_words l image) (layer_words l (row_of l image) Durable)
       (λ w rest. (row_of-at l image w is rest.0).1)
-      (leaves_are l (row_of l image) image Durable (λ n k here small. (row_of-at l image (Leaf n k) is (here, small)).1)),
+      (sym (images_alike l (row_of l image) image Durable (λ w place. sym (row_of-at l image w is place.there).1))),
 )
 
 pub crash_has_columns : CrashHasColumns
-crash_has_columns l words = sym (columns_alike l (word_at l (durable_row l words)) (λ w. at l words (Durable w)) (image_leaves l (durable_row l words)) (leaves_in l words Durable)
+crash_has_columns l words = sym (columns_alike l (word_at l (durable_row l words)) (λ w. at l words (Durable w)) (image_layer_words l (durable_row l words)) (layer_words l words Durable)
     (λ w rest. sym (durable_row-at l words w))
-    (leaves_are l words (durable_row l words) Durable (λ n k here small. sym (durable_row-at l words (Leaf n k)))))
+    (sym (images_alike l words (durable_row l words) Durable (λ w place. durable_row-at l words w))))

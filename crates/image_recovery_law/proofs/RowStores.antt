@@ -3,11 +3,11 @@ use Rattle.std.proofs.Common.{◌≡◌, ◌≢◌, ℕ, ◌+◌, ◌*◌, ◌/�
 use Rattle.std.specs.Prelude.{nat_lt}
 use Rattle.std.proofs.lemmas.Bool.{cases_eq, cases_lt}
 use Rattle.pm_words.specs.declared.layout.Layout.{Layout}
-use Rattle.pm_words.specs.Locations.{Word, Location, Header, Node, Line, Leaf, Cached, Durable, HasWord, HasLocation, IsVolatile, part_of_address, part_of_word, row_words, image_words, cached_address, durable_address, address_of, at}
+use Rattle.pm_words.specs.Locations.{Word, Location, Header, Node, Line, Cached, Durable, HasWord, HasLocation, IsVolatile, part_of_address, part_of_word, row_words, image_words, cached_address, durable_address, address_of, at}
 use Rattle.pm_words.specs.Rows.{evicted}
 use Rattle.pm_words.proofs.Apart.{at-set_other, at-set_same}
-use Rattle.search_layer.specs.Leaves.{leaves_in}
-use Rattle.search_layer.proofs.LeafRows.{leaves_in-alike, eviction_mixes}
+use Rattle.search_layer.specs.Rows.{layer_words}
+use Rattle.search_layer.proofs.RowLemmas.{eviction_mixes, layer_words_stay, rows_alike}
 use Rattle.updater_row_law.specs.Columns.{line_word}
 use Rattle.updater_row_law.proofs.RowEvicts.{cached, durable}
 use Rattle.image_recovery_law.specs.Columns.{Columns}
@@ -15,7 +15,7 @@ use Rattle.image_recovery_law.specs.Stages.{with_generation, with_bits, with_emp
 use Rattle.image_recovery_law.specs.Rows.{word_if, spare_count, spare_word, columns_in, GenerationStores, BitsStore, EmptyStores, EvictsColumns, EvictionMixesColumns, DrainEvicts, VolatileLeaves}
 use Rattle.image_recovery_law.proofs.Mixes.{columns_path}
 use Rattle.image_recovery_law.proofs.Steps.{bits_word, bits_other, empty_here, empty_other}
-use Rattle.image_recovery_law.proofs.RowColumns.{word_of, word_if-here, word_if-either, IsRest, generation_rest, spare_low, spare_high, spare_rest, version_rest, has_spot_word, spot_rest, spot_here, has_line_word, line_rest, line_here, generation_same, spare_same, version_same, spot_same, line_same, columns_alike}
+use Rattle.image_recovery_law.proofs.RowColumns.{word_of, word_if-here, word_if-either, IsRest, generation_rest, spare_low, spare_high, spare_rest, version_rest, has_spot_word, spot_rest, spot_here, has_line_word, line_rest, line_here, generation_same, spare_same, version_same, spot_same, line_same, columns_alike, rest_outside}
 
 -- numbers by which words are told apart
 abbrev header_at : Word → ℕ
@@ -47,7 +47,7 @@ spare_apart k v late = elim (cases_lt k 2) [
   | inr high ↦ λ e. let same : 1 ≡ part_of_word v = ap part_of_word (sym (spare_high k high) ∙ e) in omega arith
 ]
 
--- a store into a cached word that is none of a leaf
+-- a store into a cached word that is none of the layer
 module _ (l : Layout) (words : List ℕ) (whole : length words ≡ row_words l) (v : Word) (has : HasWord l v) (value : ℕ) (rest : part_of_word v ≤ 3) where
   abbrev words' : List ℕ
   words' = slice_set words (address_of l (Cached v)) value
@@ -62,13 +62,12 @@ module _ (l : Layout) (words : List ℕ) (whole : length words ≡ row_words l) 
   durable_same w has' = at-set_other l words (Cached v) (Durable w) value has has' (λ e. cc)
 
   durable_columns : columns_in l words' Durable ≡ columns_in l words Durable
-  durable_columns = columns_alike l (λ w. at l words (Durable w)) (λ w. at l words' (Durable w)) (leaves_in l words Durable) (leaves_in l words' Durable)
+  durable_columns = columns_alike l (λ w. at l words (Durable w)) (λ w. at l words' (Durable w)) (layer_words l words Durable) (layer_words l words' Durable)
       (λ w is. durable_same w is.0)
-      (λ n k. leaves_in-alike l words words' Durable n k (λ here small. durable_same (Leaf n k) (here, small)))
+      (layer_words_stay l words (Cached v) value has (rest_outside v rest)).durable
 
-  leaf_kept : (n k : ℕ) → leaves_in l words' Cached n k ≡ leaves_in l words Cached n k
-  leaf_kept n k = leaves_in-alike l words words' Cached n k
-      (λ here small. at-set_other l words (Cached v) (Cached (Leaf n k)) value has (here, small) (λ e. let same : 4 ≡ part_of_word v = ap part_of_word (ap word_of e) in omega arith))
+  layer_stays : layer_words l words' Cached ≡ layer_words l words Cached
+  layer_stays = (layer_words_stay l words (Cached v) value has (rest_outside v rest)).cached
 
   abbrev before : Word → ℕ
   before w = at l words (Cached w)
@@ -106,7 +105,7 @@ generation_stores l words value whole =
           (versions_kept l words whole v has value low (λ n e. cc))
           (λ n o. spot_kept l words whole v has value low n o (λ e. cc))
           (λ j o. line_kept l words whole v has value low j o (λ e. cc))
-          (leaf_kept l words whole v has value low);
+          (layer_stays l words whole v has value low);
       durable = durable_columns l words whole v has value low;
     }
 
@@ -133,7 +132,7 @@ bits_store l words n value whole within =
             ]
           ])
           (λ j o. line_kept l words whole v has value low j o (λ e. cc))
-          (leaf_kept l words whole v has value low);
+          (layer_stays l words whole v has value low);
       durable = durable_columns l words whole v has value low;
     }
 
@@ -160,7 +159,7 @@ empty_stores l words j whole within =
                   ∙ cached_here l words whole v has 0 low ∙ sym (empty_here i j)))
             ]
           ])
-          (leaf_kept l words whole v has 0 low);
+          (layer_stays l words whole v has 0 low);
       durable = durable_columns l words whole v has 0 low;
     }
 
@@ -171,20 +170,20 @@ module _ (l : Layout) (words : List ℕ) (word : ℕ) (whole : length words ≡ 
 
   evicts : EvictsColumns l words (evicted l words word)
   evicts =
-      let leaves = eviction_mixes l words word whole within in
+      let layer = eviction_mixes l words word whole within in
       let now : Word → ℕ = λ w. at l words (Cached w) in
       let safe : Word → ℕ = λ w. at l words (Durable w) in
       let mix : Word → ℕ = λ w. at l (evicted l words word) (Durable w) in
       record {
-        cached = columns_alike l now (λ w. at l (evicted l words word) (Cached w)) (leaves_in l words Cached) (leaves_in l (evicted l words word) Cached)
-            (λ w is. cached l words word whole within w is.0) (λ n k x. leaves.cached x n k);
+        cached = columns_alike l now (λ w. at l (evicted l words word) (Cached w)) (layer_words l words Cached) (layer_words l (evicted l words word) Cached)
+            (λ w is. cached l words word whole within w is.0) layer.cached;
         durable = record {
           generation = durable_either (Header 5) (generation_rest l);
           spare = λ k. word_if-either (nat_lt k spare_count) (mix (spare_word k)) (now (spare_word k)) (safe (spare_word k)) (λ is. durable_either (spare_word k) (spare_rest l k is));
           version = λ n. word_if-either (nat_lt n l.nodes) (mix (Node n 0)) (now (Node n 0)) (safe (Node n 0)) (λ is. durable_either (Node n 0) (version_rest l n is));
           spot = λ n o. word_if-either (has_spot_word l n o) (mix (Node n o)) (now (Node n o)) (safe (Node n o)) (λ is. durable_either (Node n o) (spot_rest l n o is));
           line = λ j o. word_if-either (has_line_word l j o) (mix (line_word o j)) (now (line_word o j)) (safe (line_word o j)) (λ is. durable_either (line_word o j) (line_rest l j o is));
-          leaf = leaves.durable;
+          layer = layer.durable;
         };
       }
 
@@ -208,9 +207,9 @@ module _ (l : Layout) (words : List ℕ) (p : Location) (value : ℕ) (has : Has
   durable_left w has' = at-set_other l words p (Durable w) value has has' (λ e. let same : 4 ≡ part_of_address p = ap part_of_address e in omega arith)
 
   twin_left : (twin : Word → Location) → ((w : Word) → HasWord l w → at l noted (twin w) ≡ at l words (twin w)) → columns_in l noted twin ≡ columns_in l words twin
-  twin_left twin same = columns_alike l (λ w. at l words (twin w)) (λ w. at l noted (twin w)) (leaves_in l words twin) (leaves_in l noted twin)
+  twin_left twin same = columns_alike l (λ w. at l words (twin w)) (λ w. at l noted (twin w)) (layer_words l words twin) (layer_words l noted twin)
       (λ w is. same w is.0)
-      (λ n k. leaves_in-alike l words noted twin n k (λ here small. same (Leaf n k) (here, small)))
+      (rows_alike l words noted twin twin (λ w place. same w place.there))
 
 pub volatile_leaves : VolatileLeaves
 volatile_leaves l words p value has volatile = record {

@@ -5,17 +5,19 @@ use Rattle.pm_words.specs.declared.layout.Layout.{Layout}
 use Rattle.data_node.specs.Spots.{Spot, updated, bitmap_offset}
 use Rattle.data_node.specs.Lists.{ListNode, anchor_in, range_in, IsMember, IsIn, IsChain, StaysIn}
 use Rattle.data_node.proofs.SpotLemmas.{updated-same, updated-other}
-use Rattle.search_layer.specs.Layers.{HasFew, changed_at}
-use Rattle.search_layer.specs.Leaves.{LayerWords, node_of}
-use Rattle.search_layer.specs.ChangeStages.{Aim, Changing, Looks, Changed, made_of}
-use Rattle.search_layer.proofs.Pigeons.{different_fit}
+use Rattle.layer_map.specs.Layers.{HasFew, changed_at, node_of}
+use Rattle.search_layer.specs.Rows.{LayerWords}
+use Rattle.search_layer.specs.ChangeStages.{Aim, Changing, Changed, made_of}
+use Rattle.search_layer.proofs.ChangeLaw as layer_law
+use Rattle.search_layer.specs.Laws.{start_stage}
+use Rattle.search_layer.proofs.RowLemmas.{even_are_same, even_with_itself}
+use Rattle.layer_map.proofs.Pigeons.{different_fit}
 use Rattle.updater_law.specs.Covers.{IsOpenFor}
 use Rattle.updater_law.specs.Covered.{ListHas}
 use Rattle.updater_law.proofs.Columns.{here, other}
 use Rattle.updater_row_law.specs.Columns.{line_count}
-use Rattle.updater_row_law.specs.RowStages.{start_sight}
 use Rattle.image_recovery_law.specs.Columns.{Columns, anchor_of, line_anchor, lines_of, layer_kept, IsNameKey, IsSound, IsTrim, MendsNodes, MendsLayer, Mends}
-use Rattle.image_recovery_law.specs.Stages.{with_bits, with_empty, with_leaves, nodes_behind, nodes_of, IsOneOf, aim_at, Stage, ChangesOn, Step, raises, raised, passes_node, trims, trimmed, all_trimmed, passes_unset, unsets, unsetting, unset, all_unset, passes_set, sets, setting, set, all_set, passes_empty, empties, emptied, all_empty, Nothing, Bits, State, IsStill, IsChanging, AreUntouched, AreListed, Sure}
+use Rattle.image_recovery_law.specs.Stages.{with_bits, with_empty, with_layer, nodes_behind, nodes_of, IsOneOf, aim_at, Stage, ChangesOn, Step, raises, raised, passes_node, trims, trimmed, all_trimmed, passes_unset, unsets, unsetting, unset, all_unset, passes_set, sets, setting, set, all_set, passes_empty, empties, emptied, all_empty, Nothing, Bits, State, IsStill, IsChanging, AreUntouched, AreListed, Sure}
 use Rattle.image_recovery_law.specs.Laws.{Starts, StepsKeep}
 use Rattle.image_recovery_law.proofs.Alike.{anchor_same, anchor_kept, trim_twice}
 use Rattle.image_recovery_law.proofs.Mended.{apart_anchors, in_image, is_open_or_not, used_line, line_named, mends_none}
@@ -158,40 +160,37 @@ module _ (l : Layout) (list : List ListNode) (o : Columns) (sound : IsSound l li
 
     -- the beginning of a change, a step of it, and its end
     change_begins : (aim : Aim) → aim.word ≤ l.nodes → IsStill l list o Nothing now safe → AreUntouched o now → MendsLayer l o (made_of aim (layer_kept l now))
-        → IsChanging l list o aim (Looks start_sight) now safe
-    change_begins aim word still untouched last = record {
+        → IsChanging l list o aim (start_stage l aim) now safe
+    change_begins aim word still untouched last = let begun = layer_law.change_begins l (layer_kept l now) aim now.layer safe.layer still.cached.row still.layer (λ k. refl) in record {
       nodes = still.cached.nodes;
       states = untouched;
       word = word;
       even = still.even;
       before = layer_kept l now;
-      leaves = record {
-        row = still.cached.row;
-        sure = (record { none_below = λ i lt. absurd (omega arith); unused = tt; used = λ e i lt. absurd (omega arith); seen = tt }, still.leaves);
-        at = λ k. refl;
-      };
+      layer = record { row = still.cached.row; sure = begun.0; at = begun.1 };
       first = still.cached.layer;
       last = last;
     }
 
-    change_goes : (aim : Aim) (c next : Changing) (w s : LayerWords) → ChangesOn l aim c now.leaf safe.leaf next w s → IsChanging l list o aim c now safe → IsChanging l list o aim next (with_leaves now w) (with_leaves safe s)
+    change_goes : (aim : Aim) (c next : Changing) (w s : LayerWords) → ChangesOn l aim c now.layer safe.layer next w s → IsChanging l list o aim c now safe → IsChanging l list o aim next (with_layer now w) (with_layer safe s)
     change_goes aim c next w s goes ch = record {
       nodes = record { generation = ch.nodes.generation; spare = ch.nodes.spare; version = ch.nodes.version; words = ch.nodes.words; bits = ch.nodes.bits; fields = ch.nodes.fields };
       states = ch.states;
       word = ch.word;
       even = record { generation = ch.even.generation; spare = ch.even.spare; version = ch.even.version; spot = ch.even.spot; line = ch.even.line };
       before = ch.before;
-      leaves = goes ch.before ch.first.few ch.leaves;
+      layer = goes ch.before ch.first.few ch.layer;
       first = ch.first;
       last = ch.last;
     }
 
     change_ends : (aim : Aim) → IsChanging l list o aim Changed now safe → IsStill l list o Nothing now safe
     change_ends aim ch =
-        let layer : layer_kept l now ≡ made_of aim ch.before = λ x k. ch.leaves.at k x in
-        let cached : Mends l list o now = record { nodes = ch.nodes; states = λ j. inl (ch.states j); row = ch.leaves.row; layer = subst (MendsLayer l o) (sym layer) ch.last } in
-        let same : safe ≡ now = columns_path now safe (ch.even.generation (λ e. cc)) ch.even.spare ch.even.version (λ n k. ch.even.spot n k (λ e. absurd cc)) (λ n k. ch.even.line n k (λ e. absurd cc)) ch.leaves.sure in
-        record { cached = cached; durable = subst (Mends l list o) (sym same) cached; even = ch.even; leaves = ch.leaves.sure }
+        let ends = layer_law.change_ends l ch.before aim now.layer safe.layer ch.layer.sure ch.layer.at in
+        let layer : layer_kept l now ≡ made_of aim ch.before = λ x k. ends.1 k x in
+        let cached : Mends l list o now = record { nodes = ch.nodes; states = λ j. inl (ch.states j); row = ch.layer.row; layer = subst (MendsLayer l o) (sym layer) ch.last } in
+        let same : safe ≡ now = columns_path now safe (ch.even.generation (λ e. cc)) ch.even.spare ch.even.version (λ n k. ch.even.spot n k (λ e. absurd cc)) (λ n k. ch.even.line n k (λ e. absurd cc)) (even_are_same now.layer safe.layer ends.0) in
+        record { cached = cached; durable = subst (Mends l list o) (sym same) cached; even = ch.even; layer = ends.0 }
 
     step : {s s' : Stage} {now' safe' : Columns} → Step l list now safe s s' now' safe' → Sure l list o s now safe → Sure l list o s' now' safe'
     unfolding change_begins change_goes anchor_in
@@ -212,7 +211,7 @@ module _ (l : Layout) (list : List ListNode) (o : Columns) (sound : IsSound l li
         };
         durable = still.durable;
         even = record { generation = λ ne. absurd (ne refl); spare = still.even.spare; version = still.even.version; spot = λ n k ne. still.even.spot n k (λ e. absurd cc); line = λ n k ne. still.even.line n k (λ e. absurd cc) };
-        leaves = still.leaves;
+        layer = still.layer;
       },
       untouched,
       ap suc generation,
@@ -222,7 +221,7 @@ module _ (l : Layout) (list : List ListNode) (o : Columns) (sound : IsSound l li
         cached = still.cached;
         durable = still.durable;
         even = record { generation = λ ne. same; spare = still.even.spare; version = still.even.version; spot = λ n k ne. still.even.spot n k (λ e. absurd cc); line = λ n k ne. still.even.line n k (λ e. absurd cc) };
-        leaves = still.leaves;
+        layer = still.layer;
       },
       untouched,
       generation,
@@ -265,7 +264,7 @@ module _ (l : Layout) (list : List ListNode) (o : Columns) (sound : IsSound l li
           spot = λ m k ne. still.even.spot m k (λ e. absurd cc) ∙ sym (bits_other now n bits m k (λ e. ne (ap Bits (sym e))));
           line = λ m k ne. still.even.line m k (λ e. absurd cc);
         };
-        leaves = still.leaves;
+        layer = still.layer;
       },
       untouched,
       generation,
@@ -294,7 +293,7 @@ module _ (l : Layout) (list : List ListNode) (o : Columns) (sound : IsSound l li
           ];
           line = λ m k ne. still.even.line m k (λ e. absurd cc);
         };
-        leaves = still.leaves;
+        layer = still.layer;
       },
       untouched,
       generation,
@@ -324,7 +323,7 @@ module _ (l : Layout) (list : List ListNode) (o : Columns) (sound : IsSound l li
           ch.states,
           generation,
           done,
-          λ i lt busy none. ch.leaves.at (line_anchor o i) ∙ elim (cases_eq (line_anchor o i) key) [
+          λ i lt busy none. ch.layer.at (line_anchor o i) ∙ elim (cases_eq (line_anchor o i) key) [
             | inl e ↦ here_changed ch.before key None (line_anchor o i) e
             | inr ne ↦ else_changed ch.before key None (line_anchor o i) ne
                 ∙ out i (let apart : i ≢ j = λ e. ne (ap (line_anchor o) e ∙ sym (lines_now ch.nodes j)) in omega (arith, apart)) busy none
@@ -381,7 +380,7 @@ module _ (l : Layout) (list : List ListNode) (o : Columns) (sound : IsSound l li
     step (set j n) (ch, generation, done, listed, stand, busy, is, own) =
         let key : ℕ = line_anchor now j in
         let same : key ≡ line_anchor o j = lines_now ch.nodes j in
-        let layer : (k : ℕ) → layer_kept l now k ≡ changed_at ch.before key (Some n) k = λ k. ch.leaves.at k ∙ ap (λ v. changed_at ch.before key v k) (node_suc n) in (
+        let layer : (k : ℕ) → layer_kept l now k ≡ changed_at ch.before key (Some n) k = λ k. ch.layer.at k ∙ ap (λ v. changed_at ch.before key v k) (node_suc n) in (
           change_ends (aim_at now j (suc n)) ch,
           ch.states,
           generation,
@@ -456,7 +455,7 @@ module _ (l : Layout) (list : List ListNode) (o : Columns) (sound : IsSound l li
           spot = λ m k ne. still.even.spot m k (λ e. absurd cc);
           line = λ m k ne. still.even.line m k (λ e. absurd cc) ∙ sym (empty_other now j m k (λ e. ne (ap State (sym e))));
         };
-        leaves = still.leaves;
+        layer = still.layer;
       },
       generation,
       done,
@@ -484,7 +483,7 @@ module _ (l : Layout) (list : List ListNode) (o : Columns) (sound : IsSound l li
             ]
           ];
         };
-        leaves = still.leaves;
+        layer = still.layer;
       },
       generation,
       done,
@@ -508,7 +507,7 @@ starts l list o sound = (
     cached = mends_none l list o sound;
     durable = mends_none l list o sound;
     even = record { generation = λ ne. refl; spare = λ k. refl; version = λ n. refl; spot = λ n k ne. refl; line = λ n k ne. refl };
-    leaves = λ i k. refl;
+    layer = even_with_itself o.layer;
   },
   λ j. refl,
   refl,

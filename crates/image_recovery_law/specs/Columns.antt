@@ -2,7 +2,6 @@
 use Rattle.std.specs.Prelude.{◌≡◌, ◌≢◌, ℕ, suc, ◌<◌, ◌≤◌, ◌^◌, ◌⊎◌, Bool, true, List, Some}
 use Rattle.pm_words.specs.Codes.{empty_state}
 use Rattle.pm_words.specs.declared.layout.Layout.{Layout}
-use Rattle.pm_words.specs.Locations.{leaf_count}
 use Rattle.cat_key.specs.Names.{IsName, words_of}
 use Rattle.cat_history.specs.Maps.{Map, at}
 use Rattle.version_lock.specs.Versions.{generation_of, IsGeneration}
@@ -10,8 +9,9 @@ use Rattle.data_node.specs.Slots.{IsLive}
 use Rattle.data_node.specs.Spots.{Spot, IsTidy, Means, IsLiveIn, name_words, bitmap_offset}
 use Rattle.data_node.specs.Lines.{IsFitLine}
 use Rattle.data_node.specs.Lists.{ListNode, anchor_in, key_of, range_in, IsIn, MakeList}
-use Rattle.search_layer.specs.Layers.{Layer, HasFew}
-use Rattle.search_layer.specs.Leaves.{LayerWords, layer_in, IsLayerRow}
+use Rattle.layer_map.specs.Layers.{Layer, HasFew}
+use Rattle.search_layer.specs.Rows.{LayerWords, IsLayerMix}
+use Rattle.search_layer.specs.Kept.{kept, IsKept}
 use Rattle.updater_law.specs.Covered.{IsCovered, ListHas}
 use Rattle.updater_law.specs.Covers.{Lines, IsOpenFor}
 use Rattle.updater_row_law.specs.Columns.{line_count}
@@ -23,9 +23,9 @@ pub record Columns : Type 0 where
   pub version : ℕ → ℕ  -- the version words of nodes
   pub spot : ℕ → Spot  -- the other words of nodes
   pub line : ℕ → Spot  -- the words of log lines
-  pub leaf : LayerWords  -- the words of leaves
+  pub layer : LayerWords  -- the words of the layer
 
--- The anchors of a node and of a log line, as numbers; the log lines; and the layer that the leaves keep.
+-- The anchors of a node and of a log line, as numbers; the log lines; and the layer that its words keep.
 abbrev pub anchor_of : Columns → ℕ → ℕ
 anchor_of i n = anchor_in (i.spot n)
 
@@ -41,7 +41,7 @@ lines_of i = record {
 }
 
 abbrev pub layer_kept : Layout → Columns → Layer
-layer_kept l i = layer_in i.leaf (leaf_count l)
+layer_kept l i = kept l i.layer
 
 -- Rules 1 to 9, over this list of the nodes behind node 0: the header, the version words, the list, its nodes and the
 -- log are in order.
@@ -65,10 +65,10 @@ pub record IsNameKey (key : ℕ) : Type 0 where
 abbrev pub HasNameKeys : Layer → Type 0
 HasNameKeys layer = (key node : ℕ) → layer key ≡ Some node → (key ≡ 0) ⊎ IsNameKey key
 
--- Rules 10 to 12: the leaves are in order, with names as keys; they are few; and each key that no line OPEN or READY
+-- Rules 10 to 12: the layer is in order, with names as keys; they are few; and each key that no line OPEN or READY
 -- has as its anchor leads as the list has it.
 pub record LayerIsSound (l : Layout) (list : List ListNode) (i : Columns) : Type 0 where
-  pub row : IsLayerRow (leaf_count l) l.nodes i.leaf
+  pub row : IsKept l i.layer
   pub keys : HasNameKeys (layer_kept l i)
   pub few : HasFew l.nodes (layer_kept l i)
   pub covered : IsCovered (IsIn list) (anchor_of i) (layer_kept l i) (IsOpenFor (lines_of i))
@@ -116,7 +116,7 @@ pub record IsMendedLine (list : List ListNode) (o : Columns) (j state : ℕ) (la
 pub record Mends (l : Layout) (list : List ListNode) (o i : Columns) : Type 0 where
   pub nodes : MendsNodes l list o i
   pub states : (j : ℕ) → (i.line j 0 ≡ o.line j 0) ⊎ IsMendedLine list o j (i.line j 0) (layer_kept l i)
-  pub row : IsLayerRow (leaf_count l) l.nodes i.leaf
+  pub row : IsKept l i.layer
   pub layer : MendsLayer l o (layer_kept l i)
 
 -- Each word is that of the one or of the other.
@@ -126,4 +126,4 @@ pub record IsMix (i j mix : Columns) : Type 0 where
   pub version : (n : ℕ) → (mix.version n ≡ i.version n) ⊎ (mix.version n ≡ j.version n)
   pub spot : (n offset : ℕ) → (mix.spot n offset ≡ i.spot n offset) ⊎ (mix.spot n offset ≡ j.spot n offset)
   pub line : (n offset : ℕ) → (mix.line n offset ≡ i.line n offset) ⊎ (mix.line n offset ≡ j.line n offset)
-  pub leaf : (n offset : ℕ) → (mix.leaf n offset ≡ i.leaf n offset) ⊎ (mix.leaf n offset ≡ j.leaf n offset)
+  pub layer : IsLayerMix i.layer j.layer mix.layer

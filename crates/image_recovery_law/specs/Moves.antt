@@ -6,7 +6,8 @@ use Rattle.data_node.specs.Spots.{updated, bitmap_offset}
 use Rattle.data_node.specs.Lists.{ListNode, range_in, IsIn, StaysIn}
 use Rattle.updater_row_law.specs.Columns.{line_count}
 use Rattle.image_recovery_law.specs.Columns.{Columns, anchor_of, line_anchor, IsSound, IsTrim, Mends}
-use Rattle.image_recovery_law.specs.Stages.{nodes_of, HasAnchor, LacksAnchor, Stage, Begins, Trims, Unsets, Sets, Empties}
+use Rattle.image_recovery_law.specs.Stages.{nodes_of, HasAnchor, LacksAnchor, Stage, Begins, Trims, Unsets, Sets}
+use Rattle.image_recovery_law.specs.Stages.{Empties}
 use Rattle.image_recovery_law.specs.Stages.{Wakes, Sure}
 
 -- the bitmap clears the names of the node that are out of its range, and no other

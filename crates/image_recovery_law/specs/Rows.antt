@@ -6,13 +6,13 @@ use Rattle.pm_words.specs.declared.layout.Layout.{Layout}
 use Rattle.pm_words.specs.declared.action.Action.{Action}
 use Rattle.pm_words.specs.declared.action.Action.TheVariants.{Store, Drain}
 use Rattle.pm_words.specs.Images.{IsImage}
-use Rattle.pm_words.specs.Locations.{Word, Location, Header, Root, Node, Leaf, Cached, Durable, HasLocation, IsVolatile}
-use Rattle.pm_words.specs.Locations.{leaf_count, node_words, row_words, image_words, cached_address, address_of, at}
+use Rattle.pm_words.specs.Locations.{Word, Location, Header, Root, Node, Cached, Durable, HasLocation, IsVolatile}
+use Rattle.pm_words.specs.Locations.{node_words, row_words, image_words, cached_address, address_of, at}
 use Rattle.pm_words.specs.Locations.{word_at}
 use Rattle.pm_words.specs.Rows.{acted, got, evicted, durable_row, row_of}
 use Rattle.pm_words.specs.Offsets.{version_offset}
 use Rattle.data_node.specs.Spots.{bitmap_offset}
-use Rattle.search_layer.specs.Leaves.{LayerWords, leaves_in}
+use Rattle.search_layer.specs.Rows.{LayerWords, layer_words, image_layer_words}
 use Rattle.search_layer.specs.ChangeStages.{Aim, Changing, ChangeStep}
 use Rattle.updater_row_law.specs.Columns.{line_count, line_word}
 use Rattle.image_recovery_law.specs.Columns.{Columns, IsMix}
@@ -29,27 +29,23 @@ spare_count = 9
 abbrev pub spare_word : ℕ → Word
 spare_word k = if nat_lt k 2 then Header (6 + k) else Root (k - 1)
 
--- The columns of the words that are read so by name, with these leaves.
+-- The columns of the words that are read so by name, with these of the layer.
 abbrev pub columns_by : Layout → (Word → ℕ) → LayerWords → Columns
-columns_by l word leaf = record {
+columns_by l word layer = record {
   generation = word (Header 5);
   spare = λ k. word_if (nat_lt k spare_count) (word (spare_word k));
   version = λ n. word_if (nat_lt n l.nodes) (word (Node n version_offset));
   spot = λ n o. word_if (nat_lt n l.nodes && (nat_lt 0 o && nat_lt o (node_words l))) (word (Node n o));
   line = λ j o. word_if (nat_lt j (line_count l) && nat_lt o 8) (word (line_word o j));
-  leaf = leaf;
+  layer = layer;
 }
 
 -- those of an image, and those of one twin of a row
-unfoldable pub image_leaves : Layout → List ℕ → LayerWords
-image_leaves l image leaf offset =
-    if nat_lt leaf (leaf_count l) && nat_lt offset 8 then word_at l image (Leaf leaf offset) else 0
-
 abbrev pub image_columns : Layout → List ℕ → Columns
-image_columns l image = columns_by l (word_at l image) (image_leaves l image)
+image_columns l image = columns_by l (word_at l image) (image_layer_words l image)
 
 abbrev pub columns_in : Layout → List ℕ → (Word → Location) → Columns
-columns_in l words twin = columns_by l (λ w. at l words (twin w)) (leaves_in l words twin)
+columns_in l words twin = columns_by l (λ w. at l words (twin w)) (layer_words l words twin)
 
 -- A row that begins with an image has its columns in both twins,
 abbrev pub StartHasColumns : Type 0
@@ -62,7 +58,7 @@ abbrev pub CrashHasColumns : Type 0
 CrashHasColumns = (l : Layout) (words : List ℕ) →
     image_columns l (durable_row l words) ≡ columns_in l words Durable
 
--- The stores that are not into leaves each change one word of the cached columns, and none of the durable ones.
+-- The stores that are not into the layer each change one word of the cached columns, and none of the durable ones.
 pub record StoresOn (l : Layout) (words : List ℕ) (a : Action) (now : Columns) : Type 0 where
   pub cached : columns_in l (acted l words a) Cached ≡ now
   pub durable : columns_in l (acted l words a) Durable ≡ columns_in l words Durable
@@ -108,5 +104,5 @@ VolatileLeaves = (l : Layout) (words : List ℕ) (p : Location) (value : ℕ) �
 abbrev pub ChangesOnRows : Type 0
 ChangesOnRows = (l : Layout) (aim : Aim) (words : List ℕ) (s t : Changing) (a : Action) →
     length words ≡ row_words l → aim.word ≤ l.nodes → ChangeStep l aim s a (got l words a) t →
-    ChangesOn l aim s (leaves_in l words Cached) (leaves_in l words Durable) t
-    (leaves_in l (acted l words a) Cached) (leaves_in l (acted l words a) Durable)
+    ChangesOn l aim s (layer_words l words Cached) (layer_words l words Durable) t
+    (layer_words l (acted l words a) Cached) (layer_words l (acted l words a) Durable)

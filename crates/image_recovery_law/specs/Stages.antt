@@ -2,19 +2,19 @@
 use Rattle.std.specs.Prelude.{◌≡◌, ◌≢◌, ℕ, suc, ◌<◌, ◌≤◌, ◌⊎◌, ◌↔◌, List, [], ◌∷◌, Some, None}
 use Rattle.pm_words.specs.Codes.{empty_state}
 use Rattle.pm_words.specs.declared.layout.Layout.{Layout}
-use Rattle.pm_words.specs.Locations.{leaf_count}
 use Rattle.data_node.specs.Spots.{updated, bitmap_offset}
 use Rattle.data_node.specs.Lists.{ListNode, range_in, IsIn, StaysIn}
-use Rattle.search_layer.specs.Layers.{Layer, HasFew}
-use Rattle.search_layer.specs.Leaves.{LayerWords, layer_in, AreEven, IsLayerRow}
-use Rattle.search_layer.specs.ChangeStages.{Aim, Changing, Looks, Changed, SureChanging, LayerAt, made_of}
+use Rattle.layer_map.specs.Layers.{Layer, HasFew}
+use Rattle.search_layer.specs.Rows.{LayerWords, AreEven}
+use Rattle.search_layer.specs.ChangeStages.{Aim, Changing, Changed, LayerAt, made_of}
+use Rattle.search_layer.specs.Kept.{kept, IsKept}
+use Rattle.search_layer.specs.Laws.{SureOn, start_stage}
 use Rattle.updater_law.specs.Covers.{set_at}
 use Rattle.updater_row_law.specs.Columns.{line_count}
-use Rattle.updater_row_law.specs.RowStages.{start_sight}
 use Rattle.image_recovery_law.specs.Columns.{Columns, anchor_of, line_anchor, layer_kept, IsTrim, MendsNodes, MendsLayer}
 use Rattle.image_recovery_law.specs.Columns.{Mends}
 
--- Columns with another generation, another bitmap of a node, a line EMPTY, other leaves.
+-- Columns with another generation, another bitmap of a node, a line EMPTY, another layer.
 abbrev pub with_generation : Columns → ℕ → Columns
 with_generation i generation = record i { generation = generation }
 
@@ -24,8 +24,8 @@ with_bits i n bits = record i { spot = set_at i.spot n (updated (i.spot n) bitma
 abbrev pub with_empty : Columns → ℕ → Columns
 with_empty i j = record i { line = set_at i.line j (updated (i.line j) 0 empty_state) }
 
-abbrev pub with_leaves : Columns → LayerWords → Columns
-with_leaves i leaf = record i { leaf = leaf }
+abbrev pub with_layer : Columns → LayerWords → Columns
+with_layer i layer = record i { layer = layer }
 
 -- The nodes of the list in order, and whether a node is one of some.
 abbrev pub nodes_behind : List ListNode → List ℕ
@@ -72,12 +72,12 @@ pub data Stage : Type 0 where
   -- all is done, and all words are durable
   Wakes : Stage
 
--- What a change of the layer knows of the leaves, cached (w) and durable (s), where it began on this layer; and a step
--- of it, from these leaves to those.
+-- What a change of the layer knows of its words, cached (w) and durable (s), where it began on this layer; and a step
+-- of it, from these words to those.
 pub record ChangesTo (l : Layout) (aim : Aim) (before : Layer) (c : Changing) (w s : LayerWords) : Type 0 where
-  pub row : IsLayerRow (leaf_count l) l.nodes w
-  pub sure : SureChanging (leaf_count l) l.nodes aim before c w s
-  pub at : LayerAt aim before c (layer_in w (leaf_count l))
+  pub row : IsKept l w
+  pub sure : SureOn l before aim c w s
+  pub at : LayerAt aim before c (kept l w)
 
 abbrev pub ChangesOn : Layout → Aim → Changing → LayerWords → LayerWords → Changing → LayerWords → LayerWords → Type 0
 ChangesOn l aim c w s next w' s' =
@@ -101,20 +101,20 @@ pub data Step (l : Layout) (list : List ListNode) (now safe : Columns) : Stage �
     passes_unset : (j : ℕ) → (now.line j 0 ≡ empty_state) ⊎ HasAnchor list now j →
         Step l list now safe (Unsets j) (Unsets (suc j)) now safe
     unsets : (j : ℕ) → now.line j 0 ≢ empty_state → LacksAnchor list now j →
-        Step l list now safe (Unsets j) (Unsetting j (Looks start_sight)) now safe
+        Step l list now safe (Unsets j) (Unsetting j (start_stage l (aim_at now j 0))) now safe
     unsetting : (j : ℕ) (c next : Changing) (w s : LayerWords) →
-        ChangesOn l (aim_at now j 0) c now.leaf safe.leaf next w s →
-        Step l list now safe (Unsetting j c) (Unsetting j next) (with_leaves now w) (with_leaves safe s)
+        ChangesOn l (aim_at now j 0) c now.layer safe.layer next w s →
+        Step l list now safe (Unsetting j c) (Unsetting j next) (with_layer now w) (with_layer safe s)
     unset : (j : ℕ) → Step l list now safe (Unsetting j Changed) (Unsets (suc j)) now safe
     all_unset : (j : ℕ) → line_count l ≤ j → Step l list now safe (Unsets j) (Sets 0) now safe
     -- the same of anchors that are to be set
     passes_set : (j : ℕ) → (now.line j 0 ≡ empty_state) ⊎ LacksAnchor list now j →
         Step l list now safe (Sets j) (Sets (suc j)) now safe
     sets : (j n : ℕ) → now.line j 0 ≢ empty_state → IsIn list n → anchor_of now n ≡ line_anchor now j →
-        Step l list now safe (Sets j) (Setting j n (Looks start_sight)) now safe
+        Step l list now safe (Sets j) (Setting j n (start_stage l (aim_at now j (suc n)))) now safe
     setting : (j n : ℕ) (c next : Changing) (w s : LayerWords) →
-        ChangesOn l (aim_at now j (suc n)) c now.leaf safe.leaf next w s →
-        Step l list now safe (Setting j n c) (Setting j n next) (with_leaves now w) (with_leaves safe s)
+        ChangesOn l (aim_at now j (suc n)) c now.layer safe.layer next w s →
+        Step l list now safe (Setting j n c) (Setting j n next) (with_layer now w) (with_layer safe s)
     set : (j n : ℕ) → Step l list now safe (Setting j n Changed) (Sets (suc j)) now safe
     all_set : (j : ℕ) → line_count l ≤ j → Step l list now safe (Sets j) (Empties 0) now safe
     passes_empty : (j : ℕ) → now.line j 0 ≡ empty_state →
@@ -130,7 +130,7 @@ pub data Part : Type 0 where
   Bits : ℕ → Part
   State : ℕ → Part
 
--- all words but those of leaves are durable, but for that one
+-- all words but those of the layer are durable, but for that one
 pub record IsEvenBut (part : Part) (now safe : Columns) : Type 0 where
   pub generation : part ≢ Generation → safe.generation ≡ now.generation
   pub spare : (k : ℕ) → safe.spare k ≡ now.spare k
@@ -143,7 +143,7 @@ pub record IsStill (l : Layout) (list : List ListNode) (o : Columns) (part : Par
   pub cached : Mends l list o now
   pub durable : Mends l list o safe
   pub even : IsEvenBut part now safe
-  pub leaves : AreEven now.leaf safe.leaf
+  pub layer : AreEven now.layer safe.layer
 
 -- While it changes: as it was before the change, and as it is to be, it is in order.
 pub record IsChanging (l : Layout) (list : List ListNode) (o : Columns) (aim : Aim) (c : Changing)
@@ -153,7 +153,7 @@ pub record IsChanging (l : Layout) (list : List ListNode) (o : Columns) (aim : A
   pub word : aim.word ≤ l.nodes
   pub even : IsEvenBut Nothing now safe
   pub before : Layer
-  pub leaves : ChangesTo l aim before c now.leaf safe.leaf
+  pub layer : ChangesTo l aim before c now.layer safe.layer
   pub first : MendsLayer l o before
   pub last : MendsLayer l o (made_of aim before)
 

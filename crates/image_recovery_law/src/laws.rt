@@ -1,9 +1,11 @@
 //! The laws. The functions do nothing: each names what is proved.
 
-ghost use Rattle.image_recovery_law.specs.Laws.{Starts, StepsKeep, EvictionsKeep, CrashMends, MendedIsSound, MendedWeighs};
+ghost use Rattle.image_recovery_law.specs.Laws.{Starts, StepsKeep, EvictionsKeep, CrashMends, MendedIsSound};
+ghost use Rattle.image_recovery_law.specs.Laws.{MendedWeighs};
 ghost use Rattle.image_recovery_law.specs.Rest.{EndsAtRest, RestIsLawful, BrokenIsSound, BrokenThenWhole};
 ghost use Rattle.image_recovery_law.specs.Moves.{PlanReaches, PlanEnds, PlannedBitsServe, PlannedNoneServes};
-ghost use Rattle.image_recovery_law.specs.Rows.{StartHasColumns, CrashHasColumns, GenerationStores, BitsStore, EmptyStores};
+ghost use Rattle.image_recovery_law.specs.Rows.{StartHasColumns, CrashHasColumns, GenerationStores, BitsStore};
+ghost use Rattle.image_recovery_law.specs.Rows.{EmptyStores};
 ghost use Rattle.image_recovery_law.specs.Rows.{EvictionMixesColumns, DrainEvicts, VolatileLeaves, ChangesOnRows};
 ghost use Rattle.image_recovery_law.specs.RowMoves.{MoveStores, MoveEnds, RowEvicts, UnsetGoes, SetGoes};
 ghost use Rattle.image_recovery_law.specs.SoundImages.{ColumnsAreSound, ColumnsKeepMaps, FreshHasSoundColumns};

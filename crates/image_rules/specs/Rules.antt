@@ -1,6 +1,6 @@
 -- The rules of a sound image, each by what breaks it at a word: of the header, of a node, or of a listed node at a
--- position of the list; and of a line of the log. Their numbers are those that `Broken` tells. Those past 9 are rules of
--- the search layer, in the crate `image_layer_rules`.
+-- position of the list; and of a line of the log. Their numbers are those that `Broken` tells. Those past 9 are rules
+-- of the search layer, in the crate `image_layer_rules`.
 use Rattle.std.specs.Prelude.{◌≡◌, ◌≢◌, ℕ, zero, suc, ◌*◌, ◌/◌, ◌%◌, ◌<◌, ◌≤◌, ◌^◌, ◌⊎◌, List}
 use Rattle.pm_words.specs.declared.layout.Layout.{Layout}
 use Rattle.pm_words.specs.Locations.{Word, Header, Root, Node, Line, word_at}

@@ -64,7 +64,8 @@ pub(crate) fn has_bits_past(bitmap: u64, slots: u64) -> bool
 fn is_nameless(image: &Image, node: u64, slot: u64) -> bool
     requires node { node < image.now.layout.nodes }
     requires slot { slot < image.now.layout.slots }
-    ensures { IsTrue result ↔ IsNameless image.now.layout.slots (image_spot image.now.layout image.now.words node) slot }
+    ensures { IsTrue result ↔
+        IsNameless image.now.layout.slots (image_spot image.now.layout image.now.words node) slot }
 {
     is_live_in(image, node, slot) && Name::of_words(name_in(image, node, slot)).is_none()
 }
@@ -123,7 +124,8 @@ pub(crate) fn slot_with(image: &Image, node: u64, words: [u64; WORDS]) -> Option
 fn is_repeated(image: &Image, node: u64, slot: u64) -> bool
     requires node { node < image.now.layout.nodes }
     requires slot { slot < image.now.layout.slots }
-    ensures { IsTrue result ↔ IsRepeated image.now.layout.slots (image_spot image.now.layout image.now.words node) slot }
+    ensures { IsTrue result ↔
+        IsRepeated image.now.layout.slots (image_spot image.now.layout image.now.words node) slot }
 {
     for lower in 0..slot {
         if are_alike(image, node, lower, slot) {

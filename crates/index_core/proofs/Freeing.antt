@@ -1,5 +1,5 @@
 -- Which steps make a node FREE: one of a turn of the updater, and no step of a call.
-use Rattle.std.proofs.Common.{◌≡◌, ◌≢◌, ℕ, ◌+◌, ◌<◌, ◌⊎◌, inl, inr, ⊎_elim, Bool, true, false, cond, List, slice_set, sym, ap, ◌∙◌, subst, arith}
+use Rattle.std.proofs.Common.{◌≡◌, ◌≢◌, ℕ, ◌+◌, ◌<◌, ◌⊎◌, inl, inr, ⊎_elim, Bool, true, false, cond, List, slice_set, sym, ap, ◌∙◌, subst, arith, refl}
 use Rattle.std.specs.Prelude.{Option, nat_lt, ◌==◌}
 use Rattle.std.proofs.lemmas.Bool.{cases_eq, eq-eqb, ne_eqb}
 use Rattle.std.proofs.lemmas.List.{set-get_or}
@@ -112,8 +112,8 @@ module _ (r : RowTerms) (ghosts : Ghosts) (words : List ℕ) (row : IsRow r.layo
   leaves_statuses : (e : RowLine) (word : ℕ) (s t : Changing) (a : Action) → RowLawful r ghosts words (Changes e word s) → ChangeStep l (aim_of e word) s a (got l words a) t → status_in l (acted l words a) m ≡ status_in l words m
   leaves_statuses e word s t a is step =
       let fits = word_within r ghosts words e word is.law.sure in
-      let keeps = change_step_keeps l (aim_of e word) is.sure.before words s a t row.whole is.leaves fits (λ some_word. is.sure.few) is.sure.sure is.sure.layer step in
-      status_in-alike l words (acted l words a) m (λ there. keeps.others (Volatile m 0) (there, omega arith) (λ leaf o. (λ e. cc, λ e. cc)))
+      let keeps = change_step_keeps l (aim_of e word) is.sure.before words s a t row.whole is.order fits (λ some_word. is.sure.few) is.sure.sure is.sure.layer step in
+      status_in-alike l words (acted l words a) m (λ there. keeps.others (Volatile m 0) (there, omega arith) refl)
 
   pub only_frees : {s : RowStage} {a : Action} {x : ℕ} {t : RowStage} → RowStep r s a x t → x ≡ got l words a → (s ≢ Resting → RowLawful r ghosts words s) → Stays a s
   only_frees (takes_lock free) told is = let word : ℕ = at l words Updater in inl (apart Updater (cond (word == 0) 1 word) tt (λ e. cc))

@@ -46,7 +46,7 @@ walks_come s is none =
     let active = is.layered.active in
     record {
       quiet = walks_are_quiet (layered s) is.layered (idle_parties s none);
-      order = (is.layered.rows active.0 active.1 active.2 active.3).leaves;
+      order = (is.layered.rows active.0 active.1 active.2 active.3).order;
     }
 
 pub can_walk : (s : Index) → IsIndex s → IsQuiet s → CanWalk s.layout s.generation s.words

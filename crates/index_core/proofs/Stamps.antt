@@ -6,12 +6,12 @@ use mathlib.Core.Option.{some}
 use lib.ListN.{get_elem?}
 use Rattle.pm_words.specs.declared.layout.Layout.{Layout}
 use Rattle.pm_words.specs.declared.action.Action.{Action}
-use Rattle.pm_words.specs.Locations.{Location, Line, Volatile, Cached, Durable, at}
+use Rattle.pm_words.specs.Locations.{Location, Line, Volatile, Cached, Durable, at, address_of}
 use Rattle.pm_words.specs.Rows.{acted}
 use Rattle.pm_words.proofs.Apart.{at-set_other}
 use Rattle.pm_words.proofs.Kept.{action_address-drain}
 use Rattle.call_stages.specs.Stages.{Stage}
-use Rattle.call_stages.specs.AnySteps.{leaf_address, IsBeside, loads_line, stores_line, drains_line, stores_prev, loads_leaf, on_permutation}
+use Rattle.call_stages.specs.AnySteps.{IsBeside, loads_line, stores_line, drains_line, stores_prev, loads_layer, on_permutation}
 use Rattle.call_stages.specs.Lines.{line_address}
 use Rattle.node_ops.specs.declared.running.Running.{Running}
 use Rattle.node_ops.specs.RunningSteps.{Sound, running_asks}
@@ -44,7 +44,7 @@ beside_leaves_stamp l words n here (drains_line {c = c} {j = j} {offset = o} {y 
     (at-set_other l words (Durable (Line c j o)) (Volatile n 2) y has (here, omega arith) (λ e. cc))
 beside_leaves_stamp l words n here (stores_prev {n = m} {y = y} within small) =
     at-set_other l words (Volatile m 1) (Volatile n 2) y (within, omega arith) (here, omega arith) (λ e. let no : 2 ≡ 1 = ap offset_of e in omega arith)
-beside_leaves_stamp l words n here (loads_leaf {leaf = leaf} {offset = offset} has) = ap (λ (v : List ℕ). at l v (Volatile n 2)) (set-get_or words (leaf_address l leaf offset) 0)
+beside_leaves_stamp l words n here (loads_layer {w = v} place) = ap (λ (ws : List ℕ). at l ws (Volatile n 2)) (set-get_or words (address_of l (Cached v)) 0)
 beside_leaves_stamp l words n here {a = a} (on_permutation on) =
     let at_word = stored_word l words a on in
     let least = at_word.least in

@@ -13,8 +13,8 @@ use Rattle.index_core.specs.declared.party.Whole.TheVariants as whole
 use Rattle.index_core.specs.Indexes.{Index, world}
 use Rattle.index_core.specs.Lone.{HasShortWays, NeedsNoTurn}
 
--- Those of a look-up, whose walk makes so many hops: four for each leaf of the search layer, ten for each hop, and three
--- for each slot.
+-- Those of a look-up, whose walk makes so many hops: those of the floor in the search layer, ten for each hop, and
+-- three for each slot.
 abbrev pub look_actions : Layout → ℕ → ℕ
 look_actions l hops = 4 * l.nodes + 3 * l.slots + 10 * hops + 40
 

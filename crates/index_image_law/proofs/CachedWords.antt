@@ -1,4 +1,4 @@
--- The words of the image are the cached ones: those of nodes, of leaves and of lines.
+-- The words of the image are the cached ones: those of nodes, of the layer and of lines.
 use Rattle.std.proofs.Common.{◌≡◌, ℕ, ◌<◌, true, false, cond, List, refl, sym, ◌∙◌, slice_index}
 use Rattle.std.proofs.lemmas.Bool.{lt-ltb}
 use Rattle.pm_words.specs.declared.layout.Layout.{Layout}
@@ -10,9 +10,9 @@ use Rattle.call_stages.specs.Kinds.{word_address}
 use Rattle.index_law.specs.Facts.{spot_in}
 use Rattle.index_law.specs.Lines.{line_in}
 use Rattle.index_law.proofs.Rows.{in_spot, in_spot-true}
-use Rattle.search_layer.specs.Leaves.{leaves_in}
+use Rattle.search_layer.specs.Rows.{layer_words, image_layer_words}
 use Rattle.updater_row_law.specs.Columns.{lines_in}
-use Rattle.image_layer_rules.specs.Leaves.{image_leaves, image_lines}
+use Rattle.image_layer_rules.specs.Leaves.{image_lines}
 use Rattle.index_image_law.proofs.TwinWords.{AreTwinWords}
 use Rattle.index_image_law.proofs.TwinWords as twin
 
@@ -28,12 +28,12 @@ spot_at l words n offset =
 pub spots_are : (l : Layout) (words : List ℕ) → spot_in l words ≡ image_spot l (cached_row l words)
 spots_are l words = λ k n offset. spot_at l words n offset k
 
--- those of leaves and of lines
+-- those of the layer and of lines
 cached : (l : Layout) (words : List ℕ) → AreTwinWords l words Cached (cached_row l words)
 cached l words = cached_row-at l words
 
-pub leaves_are : (l : Layout) (words : List ℕ) → leaves_in l words Cached ≡ image_leaves l (cached_row l words)
-leaves_are l words = twin.leaves_are l words (cached_row l words) Cached (cached l words)
+pub layer_is : (l : Layout) (words : List ℕ) → layer_words l words Cached ≡ image_layer_words l (cached_row l words)
+layer_is l words = twin.layer_is l words (cached_row l words) Cached (cached l words)
 
 pub lines_are : (l : Layout) (words : List ℕ) → lines_in l words Cached ≡ image_lines l (cached_row l words)
 lines_are l words = twin.lines_are l words (cached_row l words) Cached (cached l words)

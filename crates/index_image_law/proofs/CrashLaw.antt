@@ -2,7 +2,7 @@
 use Rattle.std.proofs.Common.{◌≡◌, ℕ, List, subst, ◌∙◌, arith}
 use Rattle.pm_words.specs.declared.layout.Layout.{Layout}
 use Rattle.pm_words.specs.Images.{IsImage}
-use Rattle.pm_words.specs.Locations.{Root, Durable, leaf_count}
+use Rattle.pm_words.specs.Locations.{Root, Durable}
 use Rattle.pm_words.specs.Rows.{durable_row}
 use Rattle.pm_words.proofs.Made.{durable_row-at, durable_row-image}
 use Rattle.data_node.specs.Lists.{anchor_in, members_from, IsIn}
@@ -10,19 +10,20 @@ use Rattle.image_rules.specs.Sound.{IsSound}
 use Rattle.index_law.specs.Worlds.{World}
 use Rattle.index_law.specs.Lawful.{Lawful}
 use Rattle.index_law.proofs.Images.{image_law, in_image}
-use Rattle.search_layer.specs.Layers.{HasFew}
-use Rattle.search_layer.specs.Leaves.{LayerWords, leaves_in, layer_in, IsLayerRow}
+use Rattle.layer_map.specs.Layers.{HasFew}
+use Rattle.search_layer.specs.Rows.{LayerWords, layer_words, image_layer_words}
+use Rattle.search_layer.specs.Kept.{kept, IsKept}
 use Rattle.updater_law.specs.Covered.{IsCovered}
 use Rattle.updater_law.specs.Covers.{Lines, IsOpenFor}
 use Rattle.updater_row_law.specs.Columns.{lines_in}
-use Rattle.updater_row_law.specs.RowLaw.{AreSafeLeaves}
-use Rattle.updater_row_law.proofs.RowCrash.{leaves_are_safe}
+use Rattle.updater_row_law.specs.RowLaw.{IsSafeLayer}
+use Rattle.updater_row_law.proofs.RowCrash.{layer_is_safe}
 use Rattle.index_layer_law.specs.Layers.{Layered, IsLayered}
 use Rattle.index_layer_law.specs.Turnings.{terms_of, ghosts_of}
 use Rattle.index_layer_law.proofs.CrashCover.{crash_leads_as_listed}
 use Rattle.image_layer_rules.specs.Laws.{KeepsLayerRules, IsCoveredImage}
 use Rattle.image_rules.specs.Nodes.{image_list}
-use Rattle.image_layer_rules.specs.Leaves.{image_leaves, image_anchor, image_lines}
+use Rattle.image_layer_rules.specs.Leaves.{image_anchor, image_lines}
 use Rattle.image_layer_rules.proofs.LayerLaws.{layer_makes_sound}
 use Rattle.image_layer_rules.proofs.RuleLemmas.{cover_tells_keys}
 use Rattle.index_image_law.specs.Crash.{CrashLeavesSoundByAll}
@@ -52,28 +53,28 @@ module _ (z : Layered) (is : IsLayered z) where
   durable : AreTwinWords l w.words Durable image
   durable v has = durable_row-at l w.words v
 
-  leaves_are : leaves_in l w.words Durable ≡ image_leaves l image
-  leaves_are = twin.leaves_are l w.words image Durable durable
+  layer_is : layer_words l w.words Durable ≡ image_layer_words l image
+  layer_is = twin.layer_is l w.words image Durable durable
 
   lines_are : lines_in l w.words Durable ≡ image_lines l image
   lines_are = twin.lines_are l w.words image Durable durable
 
   covered : IsCoveredImage l image
-  covered = subst (λ (v : LayerWords). IsCovered (λ n. IsIn (image_list l image) n) (image_anchor l image) (layer_in v (leaf_count l)) (IsOpenFor (image_lines l image))) leaves_are
-      (subst (λ (lines : Lines). IsCovered (λ n. IsIn (image_list l image) n) (image_anchor l image) (layer_in (leaves_in l w.words Durable) (leaf_count l)) (IsOpenFor lines)) lines_are
+  covered = subst (λ (v : LayerWords). IsCovered (λ n. IsIn (image_list l image) n) (image_anchor l image) (kept l v) (IsOpenFor (image_lines l image))) layer_is
+      (subst (λ (lines : Lines). IsCovered (λ n. IsIn (image_list l image) n) (image_anchor l image) (kept l (layer_words l w.words Durable)) (IsOpenFor lines)) lines_are
       (in_image l w.words
-      (λ now. IsCovered (λ n. IsIn (members_from now l.nodes 0) n) (λ n. anchor_in (now n)) (layer_in (leaves_in l w.words Durable) (leaf_count l)) (IsOpenFor (lines_in l w.words Durable)))
+      (λ now. IsCovered (λ n. IsIn (members_from now l.nodes 0) n) (λ n. anchor_in (now n)) (kept l (layer_words l w.words Durable)) (IsOpenFor (lines_in l w.words Durable)))
       (crash_leads_as_listed z is)))
 
-  safe : AreSafeLeaves (terms_of w is.active.1) w.words
-  safe = leaves_are_safe (terms_of w is.active.1) (ghosts_of w is.holder) w.words is.active.1.stage (is.rows is.active.0 is.active.1 is.active.2 is.active.3)
+  safe : IsSafeLayer (terms_of w is.active.1) w.words
+  safe = layer_is_safe (terms_of w is.active.1) (ghosts_of w is.holder) w.words is.active.1.stage (is.rows is.active.0 is.active.1 is.active.2 is.active.3)
 
   keeps : KeepsLayerRules l image
   keeps = record {
     root = durable_row-at l w.words (Root 0) ∙ lawful.durable_front.blank (Root 0) (omega arith);
-    row = subst (IsLayerRow (leaf_count l) l.nodes) leaves_are safe.order;
+    row = subst (IsKept l) layer_is safe.order;
     keys = cover_tells_keys l image is_image sound covered;
-    few = subst (λ (v : LayerWords). HasFew l.nodes (layer_in v (leaf_count l))) leaves_are safe.few;
+    few = subst (λ (v : LayerWords). HasFew l.nodes (kept l v)) layer_is safe.few;
     covered = covered;
   }
 

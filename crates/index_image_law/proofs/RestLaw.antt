@@ -40,7 +40,7 @@ rest_leaves_image z is idle resting =
     let at_rest : IsLayerAtRest w is.holder terms = record {
       rest = rest;
       sound = sound;
-      order = row.leaves;
+      order = row.order;
       law = subst (λ (f : TurnFacts). TurnLawful terms f stages.Resting) (facts_tie w is.holder t) law;
       covered = (layer_is_covered z is).cached;
     } in

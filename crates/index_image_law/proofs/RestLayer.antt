@@ -1,6 +1,6 @@
 -- The image keeps the rules on its search layer.
 use Rattle.std.proofs.Common.{◌≡◌, ℕ, ◌∙◌, sym, subst, arith}
-use Rattle.pm_words.specs.Locations.{Root, Cached, leaf_count}
+use Rattle.pm_words.specs.Locations.{Root, Cached}
 use Rattle.pm_words.specs.Rows.{cached_row}
 use Rattle.pm_words.proofs.Made.{cached_row-at, cached_row-image}
 use Rattle.data_node.specs.Lists.{anchor_in, members_from, IsIn}
@@ -8,9 +8,11 @@ use Rattle.image_rules.specs.Sound.{IsSound}
 use Rattle.index_law.specs.Facts.{IsListed}
 use Rattle.index_law.specs.Laws.{IsAtRest}
 use Rattle.index_law.specs.Worlds.{World, facts}
-use Rattle.search_layer.specs.Layers.{HasFew, LeadsApart}
-use Rattle.search_layer.specs.Leaves.{LayerWords, leaves_in, layer_in, layer_of, IsInOrder, IsLayerRow}
-use Rattle.search_layer.proofs.CountLemmas.{few_apart, layer_leads_to_nodes}
+use Rattle.layer_map.specs.Layers.{HasFew, LeadsApart}
+use Rattle.search_layer.specs.Rows.{LayerWords, layer_words}
+use Rattle.search_layer.specs.Kept.{layer_of, IsInOrder, kept, IsKept}
+use Rattle.search_layer.proofs.CountLemmas.{kept_leads_below}
+use Rattle.layer_map.proofs.FewLemmas.{few_apart}
 use Rattle.updater_law.specs.Covered.{IsCovered}
 use Rattle.updater_law.specs.Covers.{IsOpenFor}
 use Rattle.updater_law.specs.Facts.{TurnTerms}
@@ -20,7 +22,7 @@ use Rattle.updater_row_law.specs.Columns.{lines_in}
 use Rattle.index_layer_law.proofs.FactTies.{rest_in, known}
 use Rattle.image_layer_rules.specs.Laws.{KeepsLayerRules, IsCoveredImage}
 use Rattle.image_layer_rules.proofs.RuleLemmas.{cover_tells_keys}
-use Rattle.index_image_law.proofs.CachedWords.{spots_are, leaves_are, lines_are}
+use Rattle.index_image_law.proofs.CachedWords.{spots_are, layer_is, lines_are}
 
 -- what the law of turns says of an index at rest, and what the image then is by the rules on its list, nodes and log
 pub record IsLayerAtRest (w : World) (holder : ℕ → ℕ) (terms : TurnTerms) : Type 0 where
@@ -36,28 +38,28 @@ module _ {w : World} {holder : ℕ → ℕ} {terms : TurnTerms} (is : IsLayerAtR
   leads_apart key other node one two = sym (is.law.led key node one).anchor ∙ (is.law.led other node two).anchor
 
   few : HasFew w.layout.nodes (layer_of w.layout w.words)
-  few = few_apart w.layout.nodes (layer_of w.layout w.words) (layer_leads_to_nodes (leaf_count w.layout) w.layout.nodes (leaves_in w.layout w.words Cached) is.order) leads_apart
+  few = few_apart w.layout.nodes (layer_of w.layout w.words) (kept_leads_below w.layout (layer_words w.layout w.words Cached) is.order) leads_apart
 
   covered : IsCoveredImage w.layout (cached_row w.layout w.words)
   covered =
       let l = w.layout in
       let words = w.words in
       let spots = spots_are l words in
-      let leaves = leaves_are l words in
+      let layer = layer_is l words in
       let lines = lines_are l words in
       let all : IsCovered (IsListed (facts w)) (λ n. anchor_in ((facts w).now n)) (layer_of l words) (IsOpenFor (lines_in l words Cached)) ≡ IsCoveredImage l (cached_row l words) =
-      λ k. IsCovered (λ n. IsIn (members_from (spots k) l.nodes 0) n) (λ n. anchor_in (spots k n)) (layer_in (leaves k) (leaf_count l)) (IsOpenFor (lines k)) in
+      λ k. IsCovered (λ n. IsIn (members_from (spots k) l.nodes 0) n) (λ n. anchor_in (spots k n)) (kept l (layer k)) (IsOpenFor (lines k)) in
       subst (λ (T : Type 0). T) all is.covered
 
   pub layer_rules : KeepsLayerRules w.layout (cached_row w.layout w.words)
   layer_rules =
       let l = w.layout in
       let words = w.words in
-      let leaves = leaves_are l words in
+      let layer = layer_is l words in
       record {
         root = cached_row-at l words (Root 0) (omega arith) ∙ is.rest.front.blank (Root 0) (omega arith);
-        row = subst (IsLayerRow (leaf_count l) l.nodes) leaves is.order;
+        row = subst (IsKept l) layer is.order;
         keys = cover_tells_keys l (cached_row l words) (cached_row-image l words is.rest.row) is.sound covered;
-        few = subst (λ (leaf : LayerWords). HasFew l.nodes (layer_in leaf (leaf_count l))) leaves few;
+        few = subst (λ (v : LayerWords). HasFew l.nodes (kept l v)) layer few;
         covered = covered;
       }

@@ -1,32 +1,22 @@
--- An image whose words are those of one twin, cached or durable, has that twin's leaves and lines.
+-- An image whose words are those of one twin, cached or durable, has that twin's layer and lines.
 use Rattle.std.proofs.Common.{◌≡◌, ℕ, ◌*◌, ◌/◌, ◌%◌, ◌<◌, ◌&&◌, true, false, cond, List, refl, sym, arith}
 use Rattle.std.specs.Prelude.{nat_lt}
-use Rattle.std.proofs.lemmas.Bool.{lt-ltb, ltb-true, and_parts}
+use Rattle.std.proofs.lemmas.Bool.{lt-ltb, ltb-true}
 use Rattle.pm_words.specs.declared.layout.Layout.{Layout}
-use Rattle.pm_words.specs.Locations.{Word, Location, HasWord, Line, Leaf, leaf_count, word_at, at}
-use Rattle.search_layer.specs.Keys.{key_of}
-use Rattle.search_layer.specs.Leaves.{leaves_in}
+use Rattle.pm_words.specs.Locations.{Word, Location, HasWord, Line, word_at, at}
+use Rattle.layer_map.specs.Keys.{key_of}
+use Rattle.search_layer.specs.Rows.{layer_words, image_layer_words}
+use Rattle.search_layer.proofs.RowLemmas.{images_alike}
 use Rattle.updater_row_law.specs.Columns.{column, line_field, lines_in}
-use Rattle.image_layer_rules.specs.Leaves.{image_leaves, image_lines, line_word}
+use Rattle.image_layer_rules.specs.Leaves.{image_lines, line_word}
 
 -- each word of the image is that of this twin
 abbrev pub AreTwinWords : Layout → List ℕ → (Word → Location) → List ℕ → Type 0
 AreTwinWords l words twin image = (w : Word) → HasWord l w → word_at l image w ≡ at l words (twin w)
 
 module _ (l : Layout) (words image : List ℕ) (twin : Word → Location) (same : AreTwinWords l words twin image) where
-  leaf_at : (leaf offset : ℕ) → leaves_in l words twin leaf offset ≡ image_leaves l image leaf offset
-  unfolding leaves_in image_leaves
-  leaf_at leaf offset =
-      elim (nat_lt leaf (leaf_count l) && nat_lt offset 8)
-      as (λ b. (nat_lt leaf (leaf_count l) && nat_lt offset 8) ≡ b → cond b (at l words (twin (Leaf leaf offset))) 0 ≡ cond b (word_at l image (Leaf leaf offset)) 0) [
-        | true ↦ λ here.
-            let parts = and_parts (nat_lt leaf (leaf_count l)) (nat_lt offset 8) here in
-            sym (same (Leaf leaf offset) (ltb-true leaf (leaf_count l) parts.0, ltb-true offset 8 parts.1))
-        | false ↦ λ _. refl
-      ] refl
-
-  pub leaves_are : leaves_in l words twin ≡ image_leaves l image
-  leaves_are = λ k leaf offset. leaf_at leaf offset k
+  pub layer_is : layer_words l words twin ≡ image_layer_words l image
+  layer_is = sym (images_alike l words image twin (λ w place. same w place.there))
 
   -- lines, as the law of turns numbers them
   field_at : (offset j : ℕ) → offset < 8 → line_field l words twin offset j ≡ line_word l image j offset

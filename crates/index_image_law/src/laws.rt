@@ -3,8 +3,8 @@
 ghost use Rattle.index_image_law.specs.Crash.{CrashLeavesSoundByAll};
 ghost use Rattle.index_image_law.specs.Rest.{RestLeavesImage};
 
-/// At any moment, whichever calls are in flight and however far a turn of the updater is, the durable words are an image
-/// that is sound by all rules.
+/// At any moment, whichever calls are in flight and however far a turn of the updater is, the durable words are an
+/// image that is sound by all rules.
 pub fn crash_law()
     ensures { CrashLeavesSoundByAll }
 {}

@@ -1,5 +1,5 @@
 -- Steps beside nodes, and with them all steps of a party.
-use Rattle.std.proofs.Common.{◌≡◌, ◌≢◌, ℕ, ◌<◌, ◌^◌, inl, inr, append-nil, List, [], ◌∷◌, ◌++◌, ◌+◌, length, set, slice_index, slice_set, zero, suc, refl, sym, ap, ◌∙◌, subst, arith}
+use Rattle.std.proofs.Common.{◌≡◌, ◌≢◌, ℕ, ◌<◌, ◌^◌, inl, inr, append-nil, List, [], ◌∷◌, ◌++◌, ◌+◌, length, set, slice_index, slice_set, zero, suc, refl, sym, ap, ◌∙◌, subst, arith, true, false}
 use Rattle.std.specs.Prelude.{Option, None}
 use Rattle.std.proofs.lemmas.List.{set-get_or}
 use mathlib.Core.Option.{some, some-injective}
@@ -7,7 +7,7 @@ use lib.ListN.{get_elem?}
 use Rattle.pm_words.specs.declared.layout.Layout.{Layout}
 use Rattle.pm_words.specs.declared.action.Action.{Action}
 use Rattle.pm_words.specs.declared.action.Action.TheVariants.{Load, Add}
-use Rattle.pm_words.specs.Locations.{Word, Node, Line, Leaf, Location, Volatile, Cached, Durable, Clock, HasLocation, address_of}
+use Rattle.pm_words.specs.Locations.{Word, Node, Line, Location, Volatile, Cached, Durable, Clock, HasLocation, address_of}
 use Rattle.pm_words.specs.Rows.{IsRow, CanAct, acted, got}
 use Rattle.pm_words.proofs.Apart.{addresses_within, addresses_apart, at-set_other}
 use Rattle.pm_words.proofs.Kept.{action_address-drain, acted_row, outside_header, names_cached, keeps_header}
@@ -15,7 +15,7 @@ use Rattle.cat_history.specs.declared.op.Change.{Change}
 use Rattle.call_stages.specs.Stages.{Stage, HoldsNode, counted}
 use Rattle.call_stages.specs.Kinds.{HasWordAt, word_address, status_address, clock_address}
 use Rattle.call_stages.specs.Lines.{line_address}
-use Rattle.call_stages.specs.AnySteps.{leaf_address, IsBeside, loads_line, stores_line, drains_line, stores_prev, loads_leaf, on_permutation, IsOnPermutation, loads, stores, IsOfPermutation, volatile_address, on_nodes, beside}
+use Rattle.call_stages.specs.AnySteps.{IsBeside, loads_line, stores_line, drains_line, stores_prev, loads_layer, on_permutation, IsOnPermutation, loads, stores, IsOfPermutation, volatile_address, on_nodes, beside}
 use Rattle.index_law.specs.Facts.{Facts, range_of}
 use Rattle.index_law.specs.Worlds.{Party, World, facts, stepped, written}
 use Rattle.index_law.specs.Lawful.{Lawful}
@@ -31,6 +31,7 @@ use Rattle.index_law.proofs.Own.{allow_law}
 use Rattle.index_law.proofs.Rows.{facts-elsewhere}
 use Rattle.index_law.proofs.Twins.{IsNearer, IsAside}
 use Rattle.index_law.proofs.Weights.{step_weighs}
+use Rattle.layer_map.specs.Places.{is_of_layer}
 
 -- a word of a row in place of itself
 pub set_own : {A : Type 0} (l : List A) (i : ℕ) (a : A) → get_elem? l i ≡ some a → set l i a ≡ l
@@ -103,7 +104,7 @@ module _ (w : World) (lawful : Lawful w) where
       ((names_cached l (Line c j offset) has, keeps_header l (Line c j offset) y has (λ k lt e. cc)), fits)
   beside_can a (stores_prev {n = n} here fits) =
       ((addresses_within l (Volatile n 1) (here, omega arith), outside_header l (Volatile n 1) (here, omega arith) (λ k lt. (λ e. cc, λ e. cc))), fits)
-  beside_can a (loads_leaf {leaf = leaf} {offset = offset} has) = (addresses_within l (Cached (Leaf leaf offset)) has, tt)
+  beside_can a (loads_layer {w = v} place) = (addresses_within l (Cached v) place.there, tt)
   beside_can a (on_permutation (loads {n = n} {offset = offset} here of)) = (addresses_within l (Volatile n offset) (here, (above offset of).1), tt)
   beside_can a (on_permutation (stores {n = n} {offset = offset} here of fits)) =
       let has : HasLocation l (Volatile n offset) = (here, (above offset of).1) in
@@ -124,8 +125,7 @@ module _ (w : World) (lawful : Lawful w) where
       (stored (Durable (Line c j offset)) y has (λ e. cc) (λ v e. cc) (λ v e. subst IsAside (ap line_of e) tt) (λ n e. cc) a (beside_can a (drains_line has fits)) is)
   beside_lawful a (stores_prev {n = n} {y = y} here fits) =
       stored (Volatile n 1) y (here, omega arith) (λ e. cc) (λ v e. cc) (λ v e. cc) (λ m e. let no : 1 ≡ 0 = ap offset_in e in omega arith) a (beside_can a (stores_prev here fits)) refl
-  beside_lawful a (loads_leaf {leaf = leaf} {offset = offset} has) =
-      subst (λ v. Lawful (record w { words = v })) (sym (set-get_or w.words (leaf_address l leaf offset) 0)) lawful
+  beside_lawful a (loads_layer {w = v} place) = subst (λ ws. Lawful (record w { words = ws })) (sym (set-get_or w.words (address_of l (Cached v)) 0)) lawful
   beside_lawful a (on_permutation on) =
       let at_word = stored_word l w.words a on in
       subst (λ v. Lawful (record w { words = v })) (sym at_word.is)
@@ -140,7 +140,7 @@ module _ (w : World) (lawful : Lawful w) where
       ∙ same_facts (Durable (Line c j offset)) y has (λ e. cc) (λ v e. cc) (λ v e. subst IsAside (ap line_of e) tt) (λ n e. cc)
   beside_facts a (stores_prev {n = n} {y = y} here fits) =
       same_facts (Volatile n 1) y (here, omega arith) (λ e. cc) (λ v e. cc) (λ v e. cc) (λ m e. let no : 1 ≡ 0 = ap offset_in e in omega arith)
-  beside_facts a (loads_leaf {leaf = leaf} {offset = offset} has) = ap (λ v. facts (record w { words = v })) (set-get_or w.words (leaf_address l leaf offset) 0)
+  beside_facts a (loads_layer {w = v} place) = ap (λ ws. facts (record w { words = ws })) (set-get_or w.words (address_of l (Cached v)) 0)
   beside_facts a (on_permutation on) =
       let at_word = stored_word l w.words a on in
       ap (λ v. facts (record w { words = v })) at_word.is
@@ -179,9 +179,10 @@ beside_loads l n offset a here (loads_line {c = c} {j = j} {offset = o} has) is 
 beside_loads l n offset a here (stores_line has fits) is = cc
 beside_loads l n offset a here (drains_line has fits) is = cc
 beside_loads l n offset a here (stores_prev low fits) is = cc
-beside_loads l n offset a here (loads_leaf {leaf = leaf} {offset = o} has) is =
-    let same : Cached (Leaf leaf o) ≡ Cached (Node n offset) = addresses_apart l (Cached (Leaf leaf o)) (Cached (Node n offset)) has here (ap loaded_from is) in
-    subst IsAside (ap line_of same) tt
+beside_loads l n offset a here (loads_layer {w = v} place) is =
+    let same : Cached v ≡ Cached (Node n offset) = addresses_apart l (Cached v) (Cached (Node n offset)) place.there here (ap loaded_from is) in
+    let no : true ≡ false = sym place.of_layer ∙ ap is_of_layer same in
+    absurd (cc)
 beside_loads l n offset a here (on_permutation (loads {n = m} {offset = o} low of)) is =
     let same : Volatile m o ≡ Cached (Node n offset) = addresses_apart l (Volatile m o) (Cached (Node n offset)) (low, (above o of).1) here (ap loaded_from is) in
     absurd (cc)
@@ -194,8 +195,8 @@ beside_status l n a here (loads_line {c = c} {j = j} {offset = o} has) is =
 beside_status l n a here (stores_line has fits) is = cc
 beside_status l n a here (drains_line has fits) is = cc
 beside_status l n a here (stores_prev low fits) is = cc
-beside_status l n a here (loads_leaf {leaf = leaf} {offset = o} has) is =
-    let same : Cached (Leaf leaf o) ≡ Volatile n 0 = addresses_apart l (Cached (Leaf leaf o)) (Volatile n 0) has here (ap loaded_from is) in
+beside_status l n a here (loads_layer {w = v} place) is =
+    let same : Cached v ≡ Volatile n 0 = addresses_apart l (Cached v) (Volatile n 0) place.there here (ap loaded_from is) in
     absurd (cc)
 beside_status l n a here (on_permutation (loads {n = m} {offset = o} low of)) is =
     let both = above o of in
@@ -211,7 +212,7 @@ beside_fits w lawful a (loads_line {c = c} {j = j} {offset = offset} has) = lawf
 beside_fits w lawful a (stores_line has fits) = omega arith
 beside_fits w lawful a (drains_line has fits) = omega arith
 beside_fits w lawful a (stores_prev here fits) = omega arith
-beside_fits w lawful a (loads_leaf {leaf = leaf} {offset = offset} has) = lawful.row.fits (leaf_address w.layout leaf offset)
+beside_fits w lawful a (loads_layer {w = v} place) = lawful.row.fits (address_of w.layout (Cached v))
 beside_fits w lawful a (on_permutation (loads {n = n} {offset = offset} here of)) = lawful.row.fits (volatile_address w.layout n offset)
 beside_fits w lawful a (on_permutation (stores here of fits)) = omega arith
 
@@ -246,7 +247,7 @@ beside_counts l a x count change is none = subst (Counts l count a x) (sym none)
     never (stores_line has fits) e = cc
     never (drains_line has fits) e = cc
     never (stores_prev here fits) e = cc
-    never (loads_leaf has) e = cc
+    never (loads_layer place) e = cc
     never (on_permutation (loads here of)) e = cc
     never (on_permutation (stores here of fits)) e = cc
 

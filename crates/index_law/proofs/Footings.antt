@@ -8,14 +8,14 @@ use lib.ListN.{get_elem?}
 use Rattle.pm_words.specs.declared.layout.Layout.{Layout}
 use Rattle.pm_words.specs.declared.action.Action.{Action}
 use Rattle.pm_words.specs.declared.action.Action.TheVariants.{Load}
-use Rattle.pm_words.specs.Locations.{Location, Line, Volatile, Cached, Durable, HasLocation, at}
+use Rattle.pm_words.specs.Locations.{Location, Line, Volatile, Cached, Durable, HasLocation, at, Word, address_of}
 use Rattle.pm_words.proofs.Apart.{at-set_other}
 use Rattle.pm_words.specs.Rows.{acted}
 use Rattle.pm_words.proofs.Kept.{action_address-drain}
 use Rattle.call_stages.specs.Stages.{Stage, counted}
 use Rattle.call_stages.specs.Kinds.{Step}
 use Rattle.call_stages.specs.Lines.{HeldLine, line_address, Notes, passes_line, takes, looks_up, notes, keeps_safe}
-use Rattle.call_stages.specs.AnySteps.{leaf_address, IsOnPermutation, IsBeside, loads_leaf, on_permutation, on_nodes, beside}
+use Rattle.call_stages.specs.AnySteps.{IsOnPermutation, IsBeside, loads_layer, on_permutation, on_nodes, beside}
 use Rattle.index_law.specs.Worlds.{Party, World, facts, stepped}
 use Rattle.index_law.specs.Laws.{Allowed}
 use Rattle.index_law.specs.Lawful.{Lawful}
@@ -38,7 +38,7 @@ pub foot_any : FootStepIsAny
 foot_any l g c f t a x r (foot.on_nodes minds kept k deals) = on_nodes k
 foot_any l g c f t a x r (foot.on_line waits none is k own) = beside none is
 foot_any l g c f t a x r (foot.on_prev none is k) = beside none is
-foot_any l g c f t a x r (foot.on_layer none has) = beside none (loads_leaf has)
+foot_any l g c f t a x r (foot.on_layer none place) = beside none (loads_layer place)
 foot_any l g c f t a x r (foot.on_permutation none on) = beside none (on_permutation on)
 
 -- a step on a line leaves the words of every other line
@@ -133,14 +133,14 @@ beside_parties : (z : Whole) (i : ℕ) (p : Party) (a : Action) → IsWhole z �
 beside_parties z i p a whole there none is = (beside_keeps z.world i p a whole.joint.lawful there none is).world
 
 -- the load of a word of the search layer leaves all as it is
-pub layer_load_stays : (z : Whole) (i : ℕ) (p : Party) (foot : Footing) (leaf offset : ℕ) → get_elem? z.world.parties i ≡ some p → get_elem? z.lines i ≡ some foot.line → get_elem? z.debts i ≡ some foot.debt
-    → p.stage ≡ foot.stage → counted foot.stage ≡ None → stepped_whole z i p (Load (leaf_address z.world.layout leaf offset)) foot ≡ z
-layer_load_stays z i p foot leaf offset there at owing stage none =
+pub layer_load_stays : (z : Whole) (i : ℕ) (p : Party) (foot : Footing) (v : Word) → get_elem? z.world.parties i ≡ some p → get_elem? z.lines i ≡ some foot.line → get_elem? z.debts i ≡ some foot.debt
+    → p.stage ≡ foot.stage → counted foot.stage ≡ None → stepped_whole z i p (Load (address_of z.world.layout (Cached v))) foot ≡ z
+layer_load_stays z i p foot v there at owing stage none =
     let w = z.world in
-    let a : Action = Load (leaf_address w.layout leaf offset) in
-    let words : acted w.layout w.words a ≡ w.words = set-get_or w.words (leaf_address w.layout leaf offset) 0 in
+    let a : Action = Load (address_of w.layout (Cached v)) in
+    let words : acted w.layout w.words a ≡ w.words = set-get_or w.words (address_of w.layout (Cached v)) 0 in
     let world : stepped w i p a foot.stage ≡ w =
-    ap (stepped w i p a) (sym stage) ∙ beside_world w i p a there (ap counted stage ∙ none) ∙ ap (λ (v : List ℕ). record w { words = v }) words in
+    ap (stepped w i p a) (sym stage) ∙ beside_world w i p a there (ap counted stage ∙ none) ∙ ap (λ (ws : List ℕ). record w { words = ws }) words in
     let lines : slice_set z.lines i foot.line ≡ z.lines = set_own z.lines i foot.line at in
     let debts : slice_set z.debts i foot.debt ≡ z.debts = set_own z.debts i foot.debt owing in
     λ k. record { world = world k; lines = lines k; debts = debts k }
@@ -211,8 +211,8 @@ foot_keeps z i p f t a x r whole tended there at owing stage (foot.on_prev {stag
       subst IsWhole same (whole_prev z i p a d d' whole there owing k'),
       tended_same z i p whole tended there s line line (stepped w i p a s) (slice_set z.debts i d') refl at (inl refl) (λ c j. (stays c j 0).0),
     )
-foot_keeps z i p f t a x r whole tended there at owing stage (foot.on_layer {stage = s} {line = line} {debt = d} {leaf = leaf} {offset = offset} none has) told room =
-    let stays = layer_load_stays z i p (record { stage = s; line = line; debt = d }) leaf offset there at owing stage none in
+foot_keeps z i p f t a x r whole tended there at owing stage (foot.on_layer {stage = s} {line = line} {debt = d} {w = v} none place) told room =
+    let stays = layer_load_stays z i p (record { stage = s; line = line; debt = d }) v there at owing stage none in
     (subst IsWhole (sym stays) whole, subst AreTended (sym stays) tended)
 foot_keeps z i p f t a x r whole tended there at owing stage (foot.on_permutation {stage = s} {line = line} {debt = d} none on) told room =
     let w = z.world in

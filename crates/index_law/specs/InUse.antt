@@ -19,9 +19,9 @@ AreSplitFull w = (i : ℕ) (p : Party) (left fresh : Grip) (lit : Bool) → get_
 abbrev pub AreInUse : World → Type 0
 AreInUse w = (n : ℕ) → n < w.layout.nodes → (facts w).status n ≢ free_status
 
--- Then the index weighs at least half of all its slots: a listed node weighs half of its own, and so does a GONE one; for
--- a node that a split is about to link the full one has names enough, and for one that a merge has left out, and that
--- isn't GONE yet, the sum has what that lowered it by.
+-- Then the index weighs at least half of all its slots: a listed node weighs half of its own, and so does a GONE one;
+-- for a node that a split is about to link the full one has names enough, and for one that a merge has left out, and
+-- that isn't GONE yet, the sum has what that lowered it by.
 abbrev pub UseWeighs : Type 0
 UseWeighs = (w : World) → Lawful w → AreSplitFull w → AreInUse w →
     w.layout.nodes * (w.layout.slots / 2) ≤ weight_sum w

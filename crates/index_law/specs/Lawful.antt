@@ -20,7 +20,8 @@ use Rattle.data_node.specs.Lists.{next_offset, key_of, anchor_in, MakeList, Stay
 use Rattle.data_node.specs.Weights.{names_in}
 use Rattle.call_stages.specs.Kinds.{IsStill, clock_address, from_key}
 use Rattle.call_stages.specs.Stages.{Knows, Held, Sight, Sees, Grip, Tells, Phase, Filling, Linked, Parted, Pace}
-use Rattle.call_stages.specs.Stages.{Gathered, Joined, Gone, Stage, Idle, Saw, Wears, Reads, Holds, Eyes, Splits, Leaves}
+use Rattle.call_stages.specs.Stages.{Gathered, Joined, Gone, Stage, Idle, Saw, Wears, Reads, Holds, Eyes, Splits}
+use Rattle.call_stages.specs.Stages.{Leaves}
 use Rattle.call_stages.specs.Stages.{Meets, Joins, HoldsNode, AreCopies, pended}
 use Rattle.index_law.specs.Facts.{Facts, map_now, range_of, cached_word, IsListed}
 use Rattle.index_law.specs.Twins.{BacksStage, AreDurable, AreDurablyKnown, IsFront}

@@ -27,7 +27,8 @@ use Rattle.data_node.specs.Lists.{range_in}
 use Rattle.call_stages.specs.declared.once.Once.{Once}
 use Rattle.call_stages.specs.declared.once.Once.TheVariants as once
 use Rattle.call_stages.specs.declared.once.Placed.{Placed}
-use Rattle.call_stages.specs.Stages.{Held, Sight, Grip, Phase, Linked, Pace, Joined, Stage, Idle, Saw, Wears, Reads, Holds, Eyes}
+use Rattle.call_stages.specs.Stages.{Held, Sight, Grip, Phase, Linked, Pace, Joined, Stage, Idle, Saw, Wears, Reads}
+use Rattle.call_stages.specs.Stages.{Holds, Eyes}
 use Rattle.call_stages.specs.Stages.{Splits, Leaves, Meets, Joins, counted, pending_in, pended}
 use Rattle.call_stages.specs.Kinds.{IsRefusal, Step, Told, LeadsWithin, HasWordAt, clock_address, word_address}
 use Rattle.call_stages.specs.Kinds.{version_address, status_address, prev_address}

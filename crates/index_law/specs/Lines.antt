@@ -1,5 +1,6 @@
 -- The log lines of a row: in order, whichever of their words are durable. They stand beside all that is said of nodes.
-use Rattle.std.specs.Prelude.{◌≡◌, ◌≢◌, ℕ, ◌<◌, ◌⊎◌, ◌&&◌, nat_lt, if◌then◌else◌, true, false, List, Option, Some, IfSome}
+use Rattle.std.specs.Prelude.{◌≡◌, ◌≢◌, ℕ, ◌<◌, ◌⊎◌, ◌&&◌, nat_lt, if◌then◌else◌, true, false, List, Option, Some}
+use Rattle.std.specs.Prelude.{IfSome}
 use Rattle.pm_words.specs.declared.layout.Layout.{Layout}
 use Rattle.pm_words.specs.declared.action.Action.{Action}
 use Rattle.pm_words.specs.Locations.{Line, Cached, Durable, at}

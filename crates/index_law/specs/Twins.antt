@@ -7,7 +7,8 @@ use Rattle.data_node.specs.Spots.{Spot, Means, bitmap_offset}
 use Rattle.data_node.specs.Lists.{next_offset}
 use Rattle.image_rules.specs.Rules.{IsSpare}
 use Rattle.call_stages.specs.Stages.{Held, Grip, Phase, Filling, Linked, Parted, Pace, Gathered, Joined, Gone, Stage}
-use Rattle.call_stages.specs.Stages.{Idle, Saw, Wears, Reads, Holds, Eyes, Splits, Leaves, Meets, Joins, IsAmong, pended}
+use Rattle.call_stages.specs.Stages.{Idle, Saw, Wears, Reads, Holds, Eyes, Splits, Leaves, Meets, Joins, IsAmong}
+use Rattle.call_stages.specs.Stages.{pended}
 use Rattle.index_law.specs.Facts.{Facts, map_now, range_of, durable_spot, durable_version}
 
 -- Each word is that of the one or of the other.

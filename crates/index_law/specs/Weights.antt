@@ -13,7 +13,8 @@ use Rattle.cat_history.specs.declared.op.Change.TheVariants.{Put, Del}
 use Rattle.data_node.specs.Weights.{names_in, node_weight, total, list_weight}
 use Rattle.call_stages.specs.declared.once.Once.{Once}
 use Rattle.call_stages.specs.declared.once.Placed.{Placed}
-use Rattle.call_stages.specs.Stages.{Held, Pace, Gathered, Joined, Gone, Stage, Idle, Saw, Wears, Reads, Holds, Eyes, Splits}
+use Rattle.call_stages.specs.Stages.{Held, Pace, Gathered, Joined, Gone, Stage, Idle, Saw, Wears, Reads, Holds, Eyes}
+use Rattle.call_stages.specs.Stages.{Splits}
 use Rattle.call_stages.specs.Stages.{Leaves, Meets, Joins}
 use Rattle.data_node.specs.Spots.{bitmap_offset}
 use Rattle.call_stages.specs.Kinds.{Step, word_address}

@@ -82,8 +82,8 @@ pub fn fresh_law()
     ensures { FreshIsAtRest }
 {}
 
-/// A step raises the weight sum by at most one, and only where a put adds a name. The sum is the weight, and one for each
-/// delete whose node shows it, and weighs less for it, while the history doesn't have it.
+/// A step raises the weight sum by at most one, and only where a put adds a name. The sum is the weight, and one for
+/// each delete whose node shows it, and weighs less for it, while the history doesn't have it.
 pub fn step_weighs()
     ensures { StepWeighs }
 {}
@@ -261,9 +261,9 @@ pub fn footed_law()
 
 ghost use Rattle.index_law.specs.Standing.{FreeNodesStand, StandingIsKept, ReadsStand};
 
-/// A step that leaves the version word of a free node as it was leaves that node, its range, and on it the map after the
-/// history, as they were, and no step lowers a version word. So what was told of names of a node's range stands, at every
-/// place since, while the node's version word does.
+/// A step that leaves the version word of a free node as it was leaves that node, its range, and on it the map after
+/// the history, as they were, and no step lowers a version word. So what was told of names of a node's range stands, at
+/// every place since, while the node's version word does.
 pub fn standing_law()
     ensures free { FreeNodesStand }
     ensures kept { StandingIsKept }

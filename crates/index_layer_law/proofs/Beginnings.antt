@@ -1,9 +1,9 @@
 -- What leaves the search layer and the turns: parties that begin anew, a clock that does, and turns that rest.
-use Rattle.std.proofs.Common.{◌≡◌, ℕ, ◌<◌, inl, inr, List, slice_set, Option, sym, ap, ◌∙◌, subst, arith}
+use Rattle.std.proofs.Common.{◌≡◌, ℕ, ◌<◌, inl, inr, List, slice_set, Option, sym, ap, ◌∙◌, subst, arith, refl}
 use mathlib.Core.Option.{some}
 use lib.ListN.{get_elem?}
 use Rattle.pm_words.specs.declared.layout.Layout.{Layout}
-use Rattle.pm_words.specs.Locations.{Clock, Updater, Volatile, Cached, Durable, Leaf}
+use Rattle.pm_words.specs.Locations.{Clock, Updater, Volatile, Cached, Durable}
 use Rattle.pm_words.proofs.Apart.{at-set_other}
 use Rattle.cat_history.specs.Maps.{Map}
 use Rattle.cat_history.specs.declared.op.Write.{Write}
@@ -28,12 +28,13 @@ use Rattle.updater_row_law.specs.Turnings.{Turning}
 use Rattle.index_layer_law.specs.Turnings.{terms_of, ghosts_of, line_number, SureWatch, SureWatches, IsShown}
 use Rattle.index_layer_law.specs.Layers.{Layered, CoversNode, turn_facts, IsLayered}
 use Rattle.index_layer_law.specs.Beginnings.{begun_anew, IsIdleOrKept, BeginningKeepsLayer, OtherTurnsMayRest}
-use Rattle.index_layer_law.proofs.FactTies.{Rest, known, rest_in, facts_tie, rest_same}
+use Rattle.index_layer_law.proofs.FactTies.{Rest, known, rest_in, facts_tie, rest_same, rest_layer}
 use Rattle.index_layer_law.proofs.Retired.{retiring_lines}
 use Rattle.index_layer_law.proofs.Switched.{unready_by, cover_same}
 use Rattle.index_layer_law.proofs.CallRows.{row_after}
 use Rattle.index_layer_law.proofs.TurnRests.{rests_for}
 use Rattle.index_layer_law.proofs.TurnWalks.{found_target}
+use Rattle.search_layer.proofs.RowLemmas.{layer_words_stay}
 
 module _ (z : Layered) (clock : ℕ) (parties : List Party) (base : Map) (history : List Write) (lines : List (Option HeldLine)) (debts : List Debt) (is : IsLayered z) where
   abbrev w : World
@@ -56,8 +57,7 @@ module _ (z : Layered) (clock : ℕ) (parties : List Party) (base : Map) (histor
     stamp = λ n here. at-set_other l w.words Clock (Volatile n 2) clock tt (here, omega arith) (λ e. cc);
     line = λ j o here small. at-set_other l w.words Clock (Cached (line_word o j)) clock tt (omega arith, omega arith, small) (λ e. cc);
     safe_line = λ j o here small. at-set_other l w.words Clock (Durable (line_word o j)) clock tt (omega arith, omega arith, small) (λ e. cc);
-    leaf = λ n o here small. at-set_other l w.words Clock (Cached (Leaf n o)) clock tt (here, small) (λ e. cc);
-    safe_leaf = λ n o here small. at-set_other l w.words Clock (Durable (Leaf n o)) clock tt (here, small) (λ e. cc);
+    layer = layer_words_stay l w.words Clock clock tt refl;
   })
 
   same_known : known l w.generation (facts w') is.holder (rest_in l words') ≡ known l w.generation (facts w) is.holder (rest_in l w.words)
@@ -95,7 +95,7 @@ module _ (z : Layered) (clock : ℕ) (parties : List Party) (base : Map) (histor
     active = is.active;
     lock = λ free. is.lock (sym (at-set_other l w.words Clock Updater clock tt tt (λ e. cc)) ∙ free);
     unlocked = λ rest. at-set_other l w.words Clock Updater clock tt tt (λ e. cc) ∙ is.unlocked rest;
-    rows = λ i u at rests. row_after (terms_of w u) (ghosts_of w is.holder) (ghosts_of w' is.holder) w.words words' (ap (λ (r : Rest). r.leaves) same_rest) (ap (λ (r : Rest). r.safe_leaves) same_rest)
+    rows = λ i u at rests. row_after (terms_of w u) (ghosts_of w is.holder) (ghosts_of w' is.holder) w.words words' (rest_layer l w.words words' same_rest)
         (λ j two o small. at_line o small j) u.stage (inl (same_turn u))
         (λ e target has. found_target (terms_of w u) words' base history is.holder whole.joint.lawful.list e.anchor target (shown e.anchor target (is.shown i u e target at has)))
         (is.rows i u at rests);

@@ -7,7 +7,7 @@ use lib.ListN.{get_elem?}
 use Rattle.pm_words.specs.declared.layout.Layout.{Layout}
 use Rattle.pm_words.specs.declared.action.Action.{Action}
 use Rattle.pm_words.specs.declared.action.Action.TheVariants.{Drain}
-use Rattle.pm_words.specs.Locations.{Location, Line, Leaf, Updater, Volatile, Cached, Durable, HasLocation, address_of, at}
+use Rattle.pm_words.specs.Locations.{Location, Line, Updater, Volatile, Cached, Durable, HasLocation, address_of, at}
 use Rattle.pm_words.specs.Rows.{acted}
 use Rattle.pm_words.proofs.Apart.{at-set_other}
 use Rattle.pm_words.proofs.Kept.{action_address-drain}
@@ -35,25 +35,26 @@ use Rattle.updater_row_law.specs.Columns.{line_field, line_count, line_word}
 use Rattle.updater_row_law.proofs.RowColumns.{column-alike, column-same}
 use Rattle.index_layer_law.specs.Turnings.{is_listed, line_number}
 use Rattle.index_layer_law.specs.Layers.{Layered, IsLayered}
-use Rattle.index_layer_law.proofs.FactTies.{listed_tells, Rest, known, rest_in, facts_tie, rest_same}
+use Rattle.index_layer_law.proofs.FactTies.{listed_tells, known, rest_in, facts_tie, rest_same}
 use Rattle.index_layer_law.proofs.Targets.{one_target}
 use Rattle.index_layer_law.proofs.CallMoves.{Moved, now_known, held_is}
 use Rattle.index_layer_law.proofs.CallLines.{line_tie, anchor_line_tie, named_words}
-use Rattle.index_layer_law.proofs.CallNotes.{stored, field_other, cached_leaves_same, safe_leaves_same, marks_moved}
-use Rattle.index_layer_law.proofs.CallDrains.{drained, cached_leaves_stay, safe_leaves_stay, drain_moved}
+use Rattle.index_layer_law.proofs.CallNotes.{stored, field_other, layer_same, marks_moved}
+use Rattle.index_layer_law.proofs.CallDrains.{drained, layer_stay, drain_moved}
+use Rattle.search_layer.specs.Rows.{HasSameLayer}
+use Rattle.search_layer.proofs.RowLemmas.{layer_words_stay}
 
--- What a step beside nodes makes of the words: those that the leaves have and the READY lines stay, and for the law of
+-- What a step beside nodes makes of the words: those of the layer and of the READY lines stay, and for the law of
 -- turns it is a step of another party, or none.
 pub record Besides (w : World) (holder : ℕ → ℕ) (words : List ℕ) : Type 0 where
-  pub cached : (rest_in w.layout words).leaves ≡ (rest_in w.layout w.words).leaves
-  pub durable : (rest_in w.layout words).safe_leaves ≡ (rest_in w.layout w.words).safe_leaves
+  pub layer : HasSameLayer w.layout w.words words
   pub lines : (j : ℕ) → line_field w.layout w.words Cached 0 j ≡ 2 → (o : ℕ) → o < 8 → line_field w.layout words Cached o j ≡ line_field w.layout w.words Cached o j
   pub lock : at w.layout words Updater ≡ at w.layout w.words Updater
   pub moved : Moved (now_known w.layout w.generation (facts w) (rest_in w.layout w.words) holder) (known w.layout w.generation (facts w) holder (rest_in w.layout words))
 
 -- where the words are the same
 same_besides : (w : World) (holder : ℕ → ℕ) (words : List ℕ) → words ≡ w.words → Besides w holder words
-same_besides w holder words same = subst (Besides w holder) (sym same) (record { cached = refl; durable = refl; lines = λ j two o small. refl; lock = refl; moved = inl refl })
+same_besides w holder words same = subst (Besides w holder) (sym same) (record { layer = record { cached = refl; durable = refl }; lines = λ j two o small. refl; lock = refl; moved = inl refl })
 
 -- listed nodes have different anchors
 apart_anchors : (z : Layered) → IsLayered z → (n m : ℕ) → IsListed (facts z.whole.world) n → IsListed (facts z.whole.world) m → anchor_in ((facts z.whole.world).now n) ≡ anchor_in ((facts z.whole.world).now m) → n ≡ m
@@ -148,8 +149,7 @@ module _ (z : Layered) (i : ℕ) (p : Party) (is : IsLayered z) (there : get_ele
 
     marks_beside : (seen : List (ℕ × ℕ)) (ready : Bool) (after : HeldLine) → Marks e offset y seen ready → after.ready ≡ ready → Waits p.stage (Some e) (Some after) → Besides w is.holder (stored l words law.row e sure offset y small)
     marks_beside seen ready after marks same waits = record {
-      cached = cached_leaves_same l words law.row e sure offset y small;
-      durable = safe_leaves_same l words law.row e sure offset y small;
+      layer = layer_same l words law.row e sure offset y small;
       lines = λ j two o within. field_other l words law.row e sure offset y small o j within
           (λ own. sure.unready (marks_unready e offset y seen ready marks) (sym (line_tie l words e sure.here 0 (omega arith)) ∙ ap (line_field l words Cached 0) (sym own) ∙ two));
       lock = at-set_other l words (Cached (Line e.caller e.number offset)) Updater y (sure.here.0, sure.here.1, small) tt (λ d. cc);
@@ -166,8 +166,7 @@ module _ (z : Layered) (i : ℕ) (p : Party) (is : IsLayered z) (there : get_ele
         (λ given. inr (given.0.state, given.1))
         (hand_word l words e offset y has hand sure) in
         subst (Besides w is.holder) (sym same) (record {
-          cached = cached_leaves_stay l words law.row e sure offset y small;
-          durable = safe_leaves_stay l words law.row e sure offset y small;
+          layer = layer_stay l words law.row e sure offset y small;
           lines = λ j two o within. column-alike l words (drained l words law.row e sure offset y small) (line_count l) (λ n. Cached (line_word o n)) j
               (λ there_j. at-set_other l words (Durable (Line e.caller e.number offset)) (Cached (line_word o j)) y has (omega arith, omega arith, within) (λ d. cc));
           lock = at-set_other l words (Durable (Line e.caller e.number offset)) Updater y has tt (λ d. cc);
@@ -196,15 +195,13 @@ module _ (z : Layered) (i : ℕ) (p : Party) (is : IsLayered z) (there : get_ele
         stamp = λ m there_m. at-set_other l words p (Volatile m 2) y has (there_m, omega arith) (λ d. no_stamp (sym (ap offset_of d)));
         line = λ j o there_j small. at-set_other l words p (Cached (line_word o j)) y has (omega arith, omega arith, small) (λ d. cc);
         safe_line = λ j o there_j small. at-set_other l words p (Durable (line_word o j)) y has (omega arith, omega arith, small) (λ d. cc);
-        leaf = λ m o there_m small. at-set_other l words p (Cached (Leaf m o)) y has (there_m, small) (λ d. cc);
-        safe_leaf = λ m o there_m small. at-set_other l words p (Durable (Leaf m o)) y has (there_m, small) (λ d. cc);
+        layer = layer_words_stay l words p y has refl;
       }) in
       let lines : (o : ℕ) → o < 8 → line_field l after Cached o ≡ line_field l words Cached o =
       λ o small. column-same l words after (line_count l) (λ m. Cached (line_word o m))
       (λ j there_j. at-set_other l words p (Cached (line_word o j)) y has (omega arith, omega arith, small) (λ d. cc)) in (
         record {
-          cached = ap (λ (r : Rest). r.leaves) rest;
-          durable = ap (λ (r : Rest). r.safe_leaves) rest;
+          layer = layer_words_stay l words p y has refl;
           lines = λ j two o small. ap (λ (column : ℕ → ℕ). column j) (lines o small);
           lock = at-set_other l words p Updater y has tt (λ d. cc);
           moved = inl (ap (known l g f is.holder) rest);

@@ -2,15 +2,14 @@
 use Rattle.std.proofs.Common.{◌≡◌, ◌≢◌, ℕ, ◌<◌, ◌^◌, inl, inr, ⊎_elim, ◌⊎◌, List, slice_set, refl, sym, ap, ◌∙◌, subst, arith}
 use Rattle.std.proofs.lemmas.Bool.{cases_eq}
 use Rattle.pm_words.specs.declared.layout.Layout.{Layout}
-use Rattle.pm_words.specs.Locations.{Word, Location, Line, Leaf, Cached, Durable, Volatile, HasLocation, address_of}
+use Rattle.pm_words.specs.Locations.{Word, Location, Line, Cached, Durable, Volatile, HasLocation, address_of}
 use Rattle.pm_words.specs.Rows.{IsRow}
 use Rattle.pm_words.proofs.Apart.{at-set_other}
 use Rattle.call_stages.specs.Lines.{HeldLine}
 use Rattle.index_law.specs.Facts.{Facts}
 use Rattle.index_law.specs.Lines.{SureLine}
-use Rattle.search_layer.specs.Keys.{key_of}
-use Rattle.search_layer.proofs.KeyLemmas.{words_told}
-use Rattle.search_layer.proofs.LeafRows.{leaves_in-alike}
+use Rattle.layer_map.specs.Keys.{key_of}
+use Rattle.layer_map.proofs.KeyLemmas.{words_told}
 use Rattle.updater_law.specs.Covers.{LinesEvict}
 use Rattle.updater_law.specs.OtherSteps.{OtherStep}
 use Rattle.updater_law.specs.OtherSteps as others
@@ -20,6 +19,8 @@ use Rattle.updater_row_law.proofs.RowColumns.{column-alike, column-same, column-
 use Rattle.index_layer_law.proofs.FactTies.{rest_in, known, lines_same}
 use Rattle.index_layer_law.proofs.CallMoves.{Moved, now_known}
 use Rattle.index_layer_law.proofs.CallNotes.{caller_in, number_in, offset_in, number, number_within, same_number, own_place}
+use Rattle.search_layer.specs.Rows.{HasSameLayer}
+use Rattle.search_layer.proofs.RowLemmas.{layer_words_stay}
 
 -- one durable word of a line is another
 module _ (l : Layout) (words : List ℕ) (row : IsRow l words) (e : HeldLine) (sure : SureLine l words e) (offset y : ℕ) (small : offset < 8) where
@@ -51,11 +52,8 @@ module _ (l : Layout) (words : List ℕ) (row : IsRow l words) (e : HeldLine) (s
   stamp_same : volatile_field l drained 2 ≡ volatile_field l words 2
   stamp_same = column-same l words drained l.nodes (λ n. Volatile n 2) (λ n there. at-set_other l words p (Volatile n 2) y has (there, omega arith) (λ same. cc))
 
-  pub cached_leaves_stay : (rest_in l drained).leaves ≡ (rest_in l words).leaves
-  cached_leaves_stay = λ k n o. leaves_in-alike l words drained Cached n o (λ there within. at-set_other l words p (Cached (Leaf n o)) y has (there, within) (λ same. cc)) k
-
-  pub safe_leaves_stay : (rest_in l drained).safe_leaves ≡ (rest_in l words).safe_leaves
-  safe_leaves_stay = λ k n o. leaves_in-alike l words drained Durable n o (λ there within. at-set_other l words p (Durable (Leaf n o)) y has (there, within) (λ same. cc)) k
+  pub layer_stay : HasSameLayer l words drained
+  layer_stay = layer_words_stay l words p y has refl
 
   pub drained_path : rest_in l drained ≡ record (rest_in l words) { safe_line = lines_in l drained Durable }
   drained_path =
@@ -63,8 +61,8 @@ module _ (l : Layout) (words : List ℕ) (row : IsRow l words) (e : HeldLine) (s
         stamp = stamp_same k;
         line = lines_same l words drained Cached line_same k;
         safe_line = lines_in l drained Durable;
-        leaves = cached_leaves_stay k;
-        safe_leaves = safe_leaves_stay k;
+        layer = layer_stay.cached k;
+        safe_layer = layer_stay.durable k;
       }
 
   -- the word is the cached one, or the state READY of a line that waits

@@ -97,7 +97,7 @@ module _ (z : Layered) (i : ℕ) (p : Party) (is : IsLayered z) (there : get_ele
     active = is.active;
     lock = λ free. is.lock (sym besides.lock ∙ free);
     unlocked = λ rest. besides.lock ∙ is.unlocked rest;
-    rows = λ j u at rests. row_after (terms_of w u) (ghosts_of w is.holder) (ghosts_of w' is.holder) w.words words' besides.cached besides.durable besides.lines u.stage
+    rows = λ j u at rests. row_after (terms_of w u) (ghosts_of w is.holder) (ghosts_of w' is.holder) w.words words' besides.layer besides.lines u.stage
         (moved_along (now_known l w.generation (facts w) (rest_in l w.words) is.holder) (known l w.generation (facts w) is.holder (rest_in l words')) (turn_facts w is.holder u) (turn_facts w' is.holder u) (facts_tie w is.holder u)
         (facts_tie w' is.holder u ∙ (λ n. known l w.generation (same_facts n) is.holder (rest_in l words'))) besides.moved)
         (λ e target has. found_target (terms_of w u) words' w.base w'.history is.holder whole.0.joint.lawful.list e.anchor target (shown' e.anchor target (is.shown j u e target at has)))
@@ -307,8 +307,8 @@ call_step_keeps z i p f next a x r is there at owing stage (foot.on_prev {stage 
     let besides = both.0 in
     subst goal stage (beside_layered z i p is there a line line d' none' is_beside whole' besides at (λ n is_switched P has. has)
     (same_retiring z i p is there a line line d' none' is_beside whole' besides both.1 at (λ right f was. was)))
-call_step_keeps z i p f next a x r is there at owing stage (foot.on_layer {stage = s} {line = line} {debt = d} {leaf = leaf} {offset = offset} none has) told room =
-    let stays = layer_load_stays z.whole i p (record { stage = s; line = line; debt = d }) leaf offset there at owing stage none in
+call_step_keeps z i p f next a x r is there at owing stage (foot.on_layer {stage = s} {line = line} {debt = d} {w = v} none place) told room =
+    let stays = layer_load_stays z.whole i p (record { stage = s; line = line; debt = d }) v there at owing stage none in
     subst (λ (whole : Whole). IsLayered (record { whole = whole; turns = z.turns })) (sym stays) is
 call_step_keeps z i p f next a x r is there at owing stage (foot.on_permutation {stage = s} {line = line} {debt = d} none on) told room =
     let whole = foot_keeps z.whole i p f next a x r is.whole is.tended there at owing stage (foot.on_permutation none on) told room in

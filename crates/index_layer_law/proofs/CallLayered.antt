@@ -40,7 +40,7 @@ use Rattle.updater_row_law.proofs.RowColumns.{column-alike}
 use Rattle.updater_row_law.specs.Turnings.{Turning}
 use Rattle.index_layer_law.specs.Turnings.{terms_of, ghosts_of, line_number, SureWatch, IsShown}
 use Rattle.index_layer_law.specs.Layers.{Layered, SaysMerge, IsRetiring, CoversNode, turn_facts, IsLayered}
-use Rattle.index_layer_law.proofs.FactTies.{Rest, known, rest_in, facts_tie, node_rest}
+use Rattle.index_layer_law.proofs.FactTies.{Rest, known, rest_in, facts_tie, node_rest, rest_layer}
 use Rattle.index_layer_law.proofs.Retired.{retiring_lines}
 use Rattle.index_layer_law.proofs.Switched.{unready_by, moved_covers, cover_same, switched_busy, arrives, held_on}
 use Rattle.index_layer_law.proofs.CallMoves.{Moved, now_known}
@@ -230,7 +230,7 @@ module _ (z : Layered) (i : ℕ) (p : Party) (is : IsLayered z) (there : get_ele
     active = is.active;
     lock = λ free. is.lock (sym (nodes_leave_others l words p.stage a Updater tt (record { clock = λ e. cc; status = λ m e. cc; cached = λ m o e. cc; durable = λ m o e. cc }) allowed) ∙ free);
     unlocked = λ rest. nodes_leave_others l words p.stage a Updater tt (record { clock = λ e. cc; status = λ m e. cc; cached = λ m o e. cc; durable = λ m o e. cc }) allowed ∙ is.unlocked rest;
-    rows = λ j u at rests. row_after (terms_of w u) (ghosts_of w is.holder) (ghosts_of w' holder') words words' (ap (λ (rest : Rest). rest.leaves) same_rest) (ap (λ (rest : Rest). rest.safe_leaves) same_rest)
+    rows = λ j u at rests. row_after (terms_of w u) (ghosts_of w is.holder) (ghosts_of w' holder') words words' (rest_layer l words words' same_rest)
         (λ number two o small. same_lines number o small) u.stage (turn_moves u)
         (λ e target has. found_target (terms_of w u) words' w.base w'.history holder' whole.0.joint.lawful.list e.anchor target (shown' u e.anchor target (is.shown j u e target at has)))
         (is.rows j u at rests);

@@ -15,7 +15,7 @@ use Rattle.index_law.specs.Facts.{spot_in}
 use Rattle.index_law.specs.Lines.{line_in, safe_line, SureLine}
 use Rattle.index_law.proofs.Claims.{clean_lines_are_durable}
 use Rattle.index_law.proofs.Noting.{line-here, safe-here}
-use Rattle.search_layer.proofs.KeyLemmas.{words_told}
+use Rattle.layer_map.proofs.KeyLemmas.{words_told}
 use Rattle.updater_law.specs.Covers.{IsCover}
 use Rattle.updater_row_law.specs.Columns.{line_field, line_count, lines_in}
 use Rattle.updater_row_law.proofs.RowColumns.{column-here}

@@ -2,7 +2,7 @@
 use Rattle.std.proofs.Common.{◌≡◌, ◌≢◌, ℕ, ◌/◌, ◌%◌, ◌<◌, ◌≤◌, inr, ⊎_elim, Bool, true, false, List, slice_set, refl, sym, ap, ◌∙◌, subst, arith}
 use Rattle.std.proofs.lemmas.Bool.{cases_eq}
 use Rattle.pm_words.specs.declared.layout.Layout.{Layout}
-use Rattle.pm_words.specs.Locations.{Word, Location, Line, Leaf, Cached, Durable, Volatile, HasLocation, address_of}
+use Rattle.pm_words.specs.Locations.{Word, Location, Line, Cached, Durable, Volatile, HasLocation, address_of}
 use Rattle.pm_words.specs.Rows.{IsRow}
 use Rattle.pm_words.proofs.Apart.{at-set_other}
 use Rattle.data_node.specs.Lists.{anchor_in}
@@ -10,8 +10,7 @@ use Rattle.call_stages.specs.Stages.{IsAmong}
 use Rattle.call_stages.specs.Lines.{HeldLine, Marks, fills, opens, readies}
 use Rattle.index_law.specs.Facts.{Facts}
 use Rattle.index_law.specs.Lines.{line_in, safe_line, SureLine}
-use Rattle.search_layer.specs.Keys.{key_of}
-use Rattle.search_layer.proofs.LeafRows.{leaves_in-alike}
+use Rattle.layer_map.specs.Keys.{key_of}
 use Rattle.updater_law.specs.Covers.{set_at, Lines}
 use Rattle.updater_law.specs.Facts.{TurnFacts}
 use Rattle.updater_law.specs.OtherSteps.{OtherStep, IsRipe}
@@ -23,6 +22,8 @@ use Rattle.index_layer_law.specs.Turnings.{line_number}
 use Rattle.index_layer_law.proofs.FactTies.{rest_in, known, lines_same}
 use Rattle.index_layer_law.proofs.CallMoves.{Moved, now_known}
 use Rattle.index_layer_law.proofs.CallLines.{line_tie, safe_tie, anchor_line_tie, anchor_safe_tie}
+use Rattle.search_layer.specs.Rows.{HasSameLayer}
+use Rattle.search_layer.proofs.RowLemmas.{layer_words_stay}
 
 -- the caller, the number and the offset that a location of a line's word names
 abbrev pub caller_in : Location → ℕ
@@ -84,11 +85,8 @@ module _ (l : Layout) (words : List ℕ) (row : IsRow l words) (e : HeldLine) (s
   stamp_same : volatile_field l stored 2 ≡ volatile_field l words 2
   stamp_same = column-same l words stored l.nodes (λ n. Volatile n 2) (λ n there. at-set_other l words p (Volatile n 2) y has (there, omega arith) (λ same. cc))
 
-  pub cached_leaves_same : (rest_in l stored).leaves ≡ (rest_in l words).leaves
-  cached_leaves_same = λ k n o. leaves_in-alike l words stored Cached n o (λ there within. at-set_other l words p (Cached (Leaf n o)) y has (there, within) (λ same. cc)) k
-
-  pub safe_leaves_same : (rest_in l stored).safe_leaves ≡ (rest_in l words).safe_leaves
-  safe_leaves_same = λ k n o. leaves_in-alike l words stored Durable n o (λ there within. at-set_other l words p (Durable (Leaf n o)) y has (there, within) (λ same. cc)) k
+  pub layer_same : HasSameLayer l words stored
+  layer_same = layer_words_stay l words p y has refl
 
   -- the rest, but for what the cached lines say
   rest_path : (lines : Lines) → lines_in l stored Cached ≡ lines → rest_in l stored ≡ record (rest_in l words) { line = lines }
@@ -97,8 +95,8 @@ module _ (l : Layout) (words : List ℕ) (row : IsRow l words) (e : HeldLine) (s
         stamp = stamp_same k;
         line = is k;
         safe_line = lines_same l words stored Durable safe_same k;
-        leaves = cached_leaves_same k;
-        safe_leaves = safe_leaves_same k;
+        layer = layer_same.cached k;
+        safe_layer = layer_same.durable k;
       }
 
   abbrev lines : Lines

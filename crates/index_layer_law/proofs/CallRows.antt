@@ -1,9 +1,11 @@
 -- The row of a turn beside the steps of calls.
 use Rattle.std.proofs.Common.{◌≡◌, ℕ, zero, suc, ◌<◌, inl, inr, List, refl, sym, ◌∙◌, subst, arith}
 use Rattle.pm_words.specs.Codes.{ready_state}
-use Rattle.pm_words.specs.Locations.{Cached, Durable, leaf_count}
-use Rattle.search_layer.specs.Leaves.{LayerWords, IsLayerRow, leaves_in, layer_in}
-use Rattle.search_layer.specs.ChangeStages.{SureChanging, LayerAt}
+use Rattle.pm_words.specs.Locations.{Cached, Durable}
+use Rattle.search_layer.specs.Rows.{LayerWords, layer_words, AreEven, HasSameLayer}
+use Rattle.search_layer.specs.ChangeStages.{LayerAt}
+use Rattle.search_layer.specs.Kept.{kept, IsKept}
+use Rattle.search_layer.specs.Laws.{SureOn}
 use Rattle.updater_law.specs.Facts.{TurnFacts}
 use Rattle.updater_law.specs.Lawful.{SureTurn, TurnLawful}
 use Rattle.updater_law.proofs.Others.{other_keeps}
@@ -12,11 +14,12 @@ use Rattle.updater_row_law.specs.RowStages.{RowLine, RowTarget, RowStage, Restin
 use Rattle.updater_row_law.specs.RowLaw.{AreDurable, HasLoaded, IsTargetFor, SureRow, RowLawful}
 use Rattle.index_layer_law.proofs.CallMoves.{Moved}
 
--- A row of words in which the leaves are those of another, as are the READY lines.
-module _ (r : RowTerms) (ghosts ghosts' : Ghosts) (words words' : List ℕ) (cached : leaves_in r.layout words' Cached ≡ leaves_in r.layout words Cached) (durable : leaves_in r.layout words' Durable ≡ leaves_in r.layout words Durable)
+-- A row of words in which those of the layer are those of another, as are the READY lines.
+module _ (r : RowTerms) (ghosts ghosts' : Ghosts) (words words' : List ℕ) (same : HasSameLayer r.layout words words')
     (lines : (j : ℕ) → line_field r.layout words Cached 0 j ≡ ready_state → (o : ℕ) → o < 8 → line_field r.layout words' Cached o j ≡ line_field r.layout words Cached o j) where
   even_after : AreDurable r words → AreDurable r words'
-  even_after even = λ leaf o. (λ k. durable k leaf o) ∙ even leaf o ∙ sym (λ k. cached k leaf o)
+  even_after even = subst (λ (v : LayerWords). AreEven v (layer_words r.layout words' Durable)) (sym same.cached)
+      (subst (λ (d : LayerWords). AreEven (layer_words r.layout words Cached) d) (sym same.durable) even)
 
   -- a line that is being read is READY
   being_read : (f : TurnFacts) (t : ℕ) (offset j : ℕ) (seen : List ℕ) → SureTurn (terms_of r) f (reading_stage j offset seen) → f.line.state j ≡ ready_state
@@ -41,9 +44,9 @@ module _ (r : RowTerms) (ghosts ghosts' : Ghosts) (words words' : List ℕ) (cac
   sure_after (Changes e word s) turn shown sure = record {
     before = sure.before;
     few = sure.few;
-    sure = subst (λ (w : LayerWords). SureChanging (leaf_count r.layout) r.layout.nodes (aim_of e word) sure.before s w (leaves_in r.layout words' Durable)) (sym cached)
-        (subst (SureChanging (leaf_count r.layout) r.layout.nodes (aim_of e word) sure.before s (leaves_in r.layout words Cached)) (sym durable) sure.sure);
-    layer = subst (λ (w : LayerWords). LayerAt (aim_of e word) sure.before s (layer_in w (leaf_count r.layout))) (sym cached) sure.layer;
+    sure = subst (λ (w : LayerWords). SureOn r.layout sure.before (aim_of e word) s w (layer_words r.layout words' Durable)) (sym same.cached)
+        (subst (SureOn r.layout sure.before (aim_of e word) s (layer_words r.layout words Cached)) (sym same.durable) sure.sure);
+    layer = subst (λ (w : LayerWords). LayerAt (aim_of e word) sure.before s (kept r.layout w)) (sym same.cached) sure.layer;
   }
   sure_after (Stamps e) turn shown sure = even_after sure
   sure_after (Clears j) turn shown sure = even_after sure
@@ -58,10 +61,10 @@ module _ (r : RowTerms) (ghosts ghosts' : Ghosts) (words words' : List ℕ) (cac
   pub row_after : (s : RowStage) → Moved (facts_in r ghosts words) (facts_in r ghosts' words') → ((e : RowLine) (target : RowTarget) → s ≡ HasTarget e target → IsTargetFor r ghosts' words' e.anchor target)
       → RowLawful r ghosts words s → RowLawful r ghosts' words' s
   row_after s moved shown is = record {
-    leaves = subst (λ (w : LayerWords). IsLayerRow (leaf_count r.layout) r.layout.nodes w) (sym cached) is.leaves;
+    order = subst (λ (w : LayerWords). IsKept r.layout w) (sym same.cached) is.order;
     sure = sure_after s is.law.sure shown is.sure;
     law = elim moved [
-      | inl same ↦ subst (λ (f : TurnFacts). TurnLawful (terms_of r) f (turn_stage s)) (sym same) is.law
+      | inl known ↦ subst (λ (f : TurnFacts). TurnLawful (terms_of r) f (turn_stage s)) (sym known) is.law
       | inr step ↦ other_keeps (terms_of r) (facts_in r ghosts words) (facts_in r ghosts' words') (turn_stage s) is.law step
     ];
   }

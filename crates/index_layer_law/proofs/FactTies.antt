@@ -1,10 +1,10 @@
 -- What the law of turns reads off a row, in terms of the facts of the index and of the words beside its nodes.
-use Rattle.std.proofs.Common.{◌≡◌, ℕ, ◌<◌, ◌==◌, ◌||◌, ◌&&◌, not, inl, inr, Bool, true, false, cond, List, [], ◌∷◌, refl, ap, arith}
+use Rattle.std.proofs.Common.{◌≡◌, ℕ, ◌<◌, ◌==◌, ◌||◌, ◌&&◌, not, inl, inr, Bool, true, false, cond, List, [], ◌∷◌, refl, ap, arith, subst}
 use Rattle.std.specs.Prelude.{nat_lt}
 use Rattle.std.proofs.lemmas.Bool.{eqb-true, eq-eqb, lt-ltb}
 use Rattle.pm_words.specs.declared.layout.Layout.{Layout}
 use Rattle.pm_words.specs.declared.action.Action.{Action}
-use Rattle.pm_words.specs.Locations.{Word, Location, Node, Leaf, Volatile, Cached, Durable, at, leaf_count, node_words}
+use Rattle.pm_words.specs.Locations.{Word, Location, Node, Volatile, Cached, Durable, at, node_words}
 use Rattle.pm_words.specs.Rows.{acted}
 use Rattle.version_lock.specs.Versions.{is_free_word, is_worn_word}
 use Rattle.data_node.specs.Lists.{ListNode, anchor_in, IsMember}
@@ -13,9 +13,11 @@ use Rattle.index_law.specs.Facts.{Facts, version_in, spot_in, status_in, IsListe
 use Rattle.index_law.specs.Laws.{Allowed}
 use Rattle.index_law.specs.Worlds.{World, facts}
 use Rattle.index_law.proofs.Beside.{nodes_leave_others}
-use Rattle.search_layer.specs.Keys.{key_of}
-use Rattle.search_layer.specs.Leaves.{LayerWords, leaves_in, layer_in}
-use Rattle.search_layer.proofs.LeafRows.{leaves_in-alike}
+use Rattle.layer_map.specs.Keys.{key_of}
+use Rattle.layer_map.specs.Places.{is_of_layer}
+use Rattle.search_layer.specs.Rows.{LayerWords, layer_words, HasSameLayer}
+use Rattle.search_layer.specs.Kept.{kept}
+use Rattle.search_layer.proofs.RowLemmas.{rows_alike}
 use Rattle.updater_law.specs.Covers.{Lines}
 use Rattle.updater_law.specs.Facts.{TurnFacts}
 use Rattle.updater_row_law.specs.Columns.{column, node_field, volatile_field, line_field, line_word, line_count, lines_in}
@@ -23,22 +25,23 @@ use Rattle.updater_row_law.proofs.RowColumns.{column-same}
 use Rattle.updater_row_law.specs.Turnings.{Turning}
 use Rattle.index_layer_law.specs.Turnings.{is_member, is_listed}
 use Rattle.index_layer_law.specs.Layers.{turn_facts}
+use Rattle.index_law.specs.Beside.{IsBeside}
 
 -- the words beside nodes that the law of turns reads
 pub record Rest : Type 0 where
   pub stamp : ℕ → ℕ
   pub line : Lines
   pub safe_line : Lines
-  pub leaves : LayerWords
-  pub safe_leaves : LayerWords
+  pub layer : LayerWords
+  pub safe_layer : LayerWords
 
 abbrev pub rest_in : Layout → List ℕ → Rest
 rest_in l words = record {
   stamp = volatile_field l words 2;
   line = lines_in l words Cached;
   safe_line = lines_in l words Durable;
-  leaves = leaves_in l words Cached;
-  safe_leaves = leaves_in l words Durable;
+  layer = layer_words l words Cached;
+  safe_layer = layer_words l words Durable;
 }
 
 -- what it has of an index with these facts, whose nodes these parties hold
@@ -53,8 +56,8 @@ known l g f holder rest = record {
   worn = λ n. is_worn_word (f.version n) g;
   line = rest.line;
   safe_line = rest.safe_line;
-  layer = layer_in rest.leaves (leaf_count l);
-  safe_layer = layer_in rest.safe_leaves (leaf_count l);
+  layer = kept l rest.layer;
+  safe_layer = kept l rest.safe_layer;
 }
 
 pub version_tie : (l : Layout) (words : List ℕ) (n : ℕ) → node_field l words 0 n ≡ version_in l words n
@@ -99,8 +102,8 @@ facts_tie w holder t =
       worn = λ n. is_worn_word (version_tie l words n k) w.generation;
       line = lines_in l words Cached;
       safe_line = lines_in l words Durable;
-      layer = layer_in (leaves_in l words Cached) (leaf_count l);
-      safe_layer = layer_in (leaves_in l words Durable) (leaf_count l);
+      layer = kept l (layer_words l words Cached);
+      safe_layer = kept l (layer_words l words Durable);
     }
 
 -- rows with the same words at these locations have the same rest
@@ -108,8 +111,7 @@ pub record RestStays (l : Layout) (words words' : List ℕ) : Type 0 where
   pub stamp : (n : ℕ) → n < l.nodes → at l words' (Volatile n 2) ≡ at l words (Volatile n 2)
   pub line : (j o : ℕ) → j < line_count l → o < 8 → at l words' (Cached (line_word o j)) ≡ at l words (Cached (line_word o j))
   pub safe_line : (j o : ℕ) → j < line_count l → o < 8 → at l words' (Durable (line_word o j)) ≡ at l words (Durable (line_word o j))
-  pub leaf : (n o : ℕ) → n < leaf_count l → o < 8 → at l words' (Cached (Leaf n o)) ≡ at l words (Cached (Leaf n o))
-  pub safe_leaf : (n o : ℕ) → n < leaf_count l → o < 8 → at l words' (Durable (Leaf n o)) ≡ at l words (Durable (Leaf n o))
+  pub layer : HasSameLayer l words words'
 
 -- lines with the same words say the same
 pub lines_same : (l : Layout) (words words' : List ℕ) (twin : Word → Location) → ((o : ℕ) → o < 8 → line_field l words' twin o ≡ line_field l words twin o) → lines_in l words' twin ≡ lines_in l words twin
@@ -131,9 +133,13 @@ rest_same l words words' stays =
       stamp = stamp i;
       line = line i;
       safe_line = safe i;
-      leaves = λ leaf o. leaves_in-alike l words words' Cached leaf o (stays.leaf leaf o) i;
-      safe_leaves = λ leaf o. leaves_in-alike l words words' Durable leaf o (stays.safe_leaf leaf o) i;
+      layer = stays.layer.cached i;
+      safe_layer = stays.layer.durable i;
     }
+
+-- with the same rest the layer has the same words
+pub rest_layer : (l : Layout) (words words' : List ℕ) → rest_in l words' ≡ rest_in l words → HasSameLayer l words words'
+rest_layer l words words' same = record { cached = ap (λ (r : Rest). r.layer) same; durable = ap (λ (r : Rest). r.safe_layer) same }
 
 -- what a call does on nodes leaves the rest
 pub node_rest : (l : Layout) (words : List ℕ) (s : Stage) (a : Action) → Allowed l s a → rest_in l (acted l words a) ≡ rest_in l words
@@ -141,13 +147,24 @@ node_rest l words s a allowed = rest_same l words (acted l words a) (record {
   stamp = λ n here. nodes_leave_others l words s a (Volatile n 2) (here, omega arith) (record { clock = λ e. cc; status = λ m e. let no : 2 ≡ 0 = ap offset_of e in omega arith; cached = λ m o e. cc; durable = λ m o e. cc }) allowed;
   line = λ j o here small. nodes_leave_others l words s a (Cached (line_word o j)) (omega arith, omega arith, small) (record { clock = λ e. cc; status = λ m e. cc; cached = λ m o e. cc; durable = λ m o e. cc }) allowed;
   safe_line = λ j o here small. nodes_leave_others l words s a (Durable (line_word o j)) (omega arith, omega arith, small) (record { clock = λ e. cc; status = λ m e. cc; cached = λ m o e. cc; durable = λ m o e. cc }) allowed;
-  leaf = λ n o here small. nodes_leave_others l words s a (Cached (Leaf n o)) (here, small) (record { clock = λ e. cc; status = λ m e. cc; cached = λ m o e. cc; durable = λ m o e. cc }) allowed;
-  safe_leaf = λ n o here small. nodes_leave_others l words s a (Durable (Leaf n o)) (here, small) (record { clock = λ e. cc; status = λ m e. cc; cached = λ m o e. cc; durable = λ m o e. cc }) allowed;
+  layer = record {
+    cached = rows_alike l words (acted l words a) Cached Cached (λ w place. nodes_leave_others l words s a (Cached w) place.there (elsewhere (Cached w) place.of_layer) allowed);
+    durable = rows_alike l words (acted l words a) Durable Durable (λ w place. nodes_leave_others l words s a (Durable w) place.there (elsewhere (Durable w) place.of_layer) allowed);
+  };
 })
   where
     offset_of : Location → ℕ
     offset_of (Volatile n o) = o
     offset_of _ = 0
+
+    -- no word of the layer is of nodes
+    elsewhere : (p : Location) → is_of_layer p ≡ true → IsBeside p
+    elsewhere p is = record {
+      clock = λ e. let no : false ≡ true = subst (λ q. is_of_layer q ≡ true) e is in cc;
+      status = λ m e. let no : false ≡ true = subst (λ q. is_of_layer q ≡ true) e is in cc;
+      cached = λ m o e. let no : false ≡ true = subst (λ q. is_of_layer q ≡ true) e is in cc;
+      durable = λ m o e. let no : false ≡ true = subst (λ q. is_of_layer q ≡ true) e is in cc;
+    }
 
 -- whether a node is listed, in both manners
 pub member_told : (list : List ListNode) (n : ℕ) → is_member list n ≡ true → IsMember list n

@@ -6,7 +6,7 @@ use Rattle.pm_words.specs.Codes.{free_status, live_status}
 use Rattle.pm_words.specs.declared.layout.Layout.{Layout}
 use Rattle.pm_words.specs.Layouts.{IsLayout}
 use Rattle.pm_words.specs.Images.{fresh_words, fresh_word}
-use Rattle.pm_words.specs.Locations.{Word, Location, Node, Leaf, Updater, Volatile, Cached, Durable, HasLocation, HasWord, leaf_count, at}
+use Rattle.pm_words.specs.Locations.{Word, Location, Node, Updater, Volatile, Cached, Durable, HasLocation, HasWord, at}
 use Rattle.pm_words.specs.Rows.{row_of}
 use Rattle.pm_words.proofs.Apart.{at-set_other, at-set_same}
 use Rattle.pm_words.proofs.Made.{fresh_at, fresh_image, row_of-at, row_of-at_volatile, row_of-row}
@@ -14,11 +14,13 @@ use Rattle.version_lock.specs.Versions.{is_free_word, is_worn_word}
 use Rattle.index_law.specs.Laws.{fresh_row, fresh_world}
 use Rattle.index_law.specs.Worlds.{Party, facts}
 use Rattle.index_law.proofs.Fresh.{fresh_list}
-use Rattle.search_layer.specs.Keys.{key_of}
+use Rattle.layer_map.specs.Keys.{key_of}
+use Rattle.layer_map.specs.Places.{is_of_layer}
 use Rattle.search_layer.specs.Laws.{fresh_layer}
-use Rattle.search_layer.specs.Leaves.{LayerWords, IsLayerRow, leaves_in, layer_in}
+use Rattle.search_layer.specs.Rows.{LayerWords, layer_words, AreEven}
 use Rattle.search_layer.proofs.Fresh.{fresh_is_at_rest}
-use Rattle.search_layer.proofs.LeafRows.{leaves_in-alike}
+use Rattle.search_layer.specs.Kept.{kept, IsKept}
+use Rattle.search_layer.proofs.RowLemmas.{even_are_same, rows_alike}
 use Rattle.updater_law.specs.Facts.{TurnFacts}
 use Rattle.updater_law.specs.Fresh.{no_lines, fresh_facts}
 use Rattle.updater_law.specs.Lawful.{TurnLawful}
@@ -96,20 +98,21 @@ module _ (l : Layout) (layout : IsLayout l) where
       number_of (Volatile n o) = n
       number_of _ = 0
 
-  leaves_same : leaves_in l words Cached ≡ leaves_in l row Cached
-  leaves_same = λ k leaf o. leaves_in-alike l row words Cached leaf o (λ here small. elsewhere (Cached (Leaf leaf o)) (here, small) (λ e. cc)) k
+  layer_same : layer_words l words Cached ≡ layer_words l row Cached
+  layer_same = rows_alike l row words Cached Cached (λ w place. elsewhere (Cached w) place.there (λ e. let no : true ≡ false = sym place.of_layer ∙ ap is_of_layer e in cc))
 
-  safe_leaves_same : leaves_in l words Durable ≡ leaves_in l row Durable
-  safe_leaves_same = λ k leaf o. leaves_in-alike l row words Durable leaf o (λ here small. elsewhere (Durable (Leaf leaf o)) (here, small) (λ e. cc)) k
+  safe_layer_same : layer_words l words Durable ≡ layer_words l row Durable
+  safe_layer_same = rows_alike l row words Durable Durable (λ w place. elsewhere (Durable w) place.there (λ e. let no : true ≡ false = sym place.of_layer ∙ ap is_of_layer e in cc))
 
-  even : (leaf o : ℕ) → leaves_in l words Durable leaf o ≡ leaves_in l words Cached leaf o
-  even leaf o = (λ k. safe_leaves_same k leaf o) ∙ (fresh_is_at_rest l layout).0.even leaf o ∙ sym (λ k. leaves_same k leaf o)
+  even : AreEven (layer_words l words Cached) (layer_words l words Durable)
+  even = subst (λ (v : LayerWords). AreEven v (layer_words l words Durable)) (sym layer_same)
+      (subst (λ (d : LayerWords). AreEven (layer_words l row Cached) d) (sym safe_layer_same) (fresh_is_at_rest l layout).0.even)
 
-  layer_is : layer_in (leaves_in l words Cached) (leaf_count l) ≡ fresh_layer
-  layer_is = (λ k. layer_in (leaves_same k) (leaf_count l)) ∙ (λ k key. (fresh_is_at_rest l layout).2 key k)
+  layer_is : kept l (layer_words l words Cached) ≡ fresh_layer
+  layer_is = (λ k. kept l (layer_same k)) ∙ (λ k key. (fresh_is_at_rest l layout).2 key k)
 
-  safe_layer_is : layer_in (leaves_in l words Durable) (leaf_count l) ≡ fresh_layer
-  safe_layer_is = (λ k. layer_in (λ leaf o. even leaf o k) (leaf_count l)) ∙ layer_is
+  safe_layer_is : kept l (layer_words l words Durable) ≡ fresh_layer
+  safe_layer_is = (λ k. kept l (even_are_same (layer_words l words Cached) (layer_words l words Durable) even k)) ∙ layer_is
 
   lines_are : (lines_in l words Cached ≡ no_lines) × (lines_in l words Durable ≡ no_lines)
   lines_are =
@@ -152,7 +155,7 @@ module _ (l : Layout) (layout : IsLayout l) where
 
   pub fresh_row_is : (parties : List Party) (t : Turning) → t.stamp ≢ 0 → RowLawful (terms_of (fresh_world l parties) t) (ghosts_of (fresh_world l parties) (λ n. 0)) words Resting
   fresh_row_is parties t stamp = record {
-    leaves = subst (λ (w : LayerWords). IsLayerRow (leaf_count l) l.nodes w) (sym leaves_same) (fresh_is_at_rest l layout).0.row;
+    order = subst (λ (w : LayerWords). IsKept l w) (sym layer_same) (fresh_is_at_rest l layout).0.row;
     sure = even;
     law = subst (λ (f : TurnFacts). TurnLawful (columns.terms_of (terms_of (fresh_world l parties) t)) f turns.Resting) (sym (fresh_turn parties t))
         (fresh_is_lawful (columns.terms_of (terms_of (fresh_world l parties) t)) stamp);

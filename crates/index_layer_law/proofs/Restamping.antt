@@ -1,16 +1,17 @@
 -- A stamp that becomes another leaves the search layer where no turn is in flight: only whether a node has one matters.
-use Rattle.std.proofs.Common.{◌≡◌, ◌≢◌, ℕ, ◌<◌, inl, inr, List, slice_set, Option, sym, ap, ◌∙◌, subst, arith}
+use Rattle.std.proofs.Common.{◌≡◌, ◌≢◌, ℕ, ◌<◌, inl, inr, List, slice_set, Option, sym, ap, ◌∙◌, subst, arith, refl}
 use Rattle.std.proofs.lemmas.Bool.{cases_eq}
 use Rattle.pm_words.specs.declared.layout.Layout.{Layout}
-use Rattle.pm_words.specs.Locations.{Word, Location, Updater, Volatile, Cached, Durable, Leaf, HasLocation, leaf_count, address_of, at}
+use Rattle.pm_words.specs.Locations.{Word, Location, Updater, Volatile, Cached, Durable, HasLocation, address_of, at}
 use Rattle.pm_words.proofs.Apart.{at-set_other, at-set_same}
 use Rattle.data_node.specs.Lists.{anchor_in}
 use Rattle.call_stages.specs.Lines.{HeldLine}
 use Rattle.index_law.specs.Facts.{Facts}
 use Rattle.index_law.specs.Worlds.{World, facts}
 use Rattle.index_law.proofs.Rows.{facts-elsewhere}
-use Rattle.search_layer.specs.Leaves.{LayerWords, IsLayerRow, leaves_in}
-use Rattle.search_layer.proofs.LeafRows.{leaves_in-alike}
+use Rattle.search_layer.specs.Rows.{LayerWords, layer_words, HasSameLayer, AreEven}
+use Rattle.search_layer.specs.Kept.{IsKept}
+use Rattle.search_layer.proofs.RowLemmas.{layer_words_stay}
 use Rattle.updater_law.specs.Covers.{IsCover}
 use Rattle.updater_law.specs.Facts.{TurnTerms, TurnFacts}
 use Rattle.updater_law.specs.Lawful.{TurnLawful}
@@ -86,11 +87,8 @@ module _ (z : Layered) (n y : ℕ) (is : IsLayered z) (here : n < z.whole.world.
   safe_lines_are : columns.lines_in l words' Durable ≡ columns.lines_in l w.words Durable
   safe_lines_are = fields_same Durable (λ j o there small. elsewhere (Durable (line_word o j)) (omega arith, omega arith, small) (λ e. cc))
 
-  leaves_are : leaves_in l words' Cached ≡ leaves_in l w.words Cached
-  leaves_are = λ k leaf o. leaves_in-alike l w.words words' Cached leaf o (λ there small. elsewhere (Cached (Leaf leaf o)) (there, small) (λ e. cc)) k
-
-  safe_leaves_are : leaves_in l words' Durable ≡ leaves_in l w.words Durable
-  safe_leaves_are = λ k leaf o. leaves_in-alike l w.words words' Durable leaf o (λ there small. elsewhere (Durable (Leaf leaf o)) (there, small) (λ e. cc)) k
+  layer_stays : HasSameLayer l w.words words'
+  layer_stays = layer_words_stay l w.words (Volatile n 2) y has refl
 
   covers_same : (own : Option HeldLine) (m : ℕ) → CoversNode w own m → CoversNode w' own m
   covers_same own m = unready_by (IsCover (columns.lines_in l w.words Cached) (columns.lines_in l w.words Durable) (anchor_in ((facts w).now m)))
@@ -103,7 +101,7 @@ module _ (z : Layered) (n y : ℕ) (is : IsLayered z) (here : n < z.whole.world.
   same_turn : (u : Turning) → turn_facts w' is.holder u ≡ record (turn_facts w is.holder u) { stamp = volatile_field l words' 2 }
   same_turn u =
       facts_tie w' is.holder u
-      ∙ (λ k. known l w.generation (same_facts k) is.holder (record { stamp = volatile_field l words' 2; line = lines_are k; safe_line = safe_lines_are k; leaves = leaves_are k; safe_leaves = safe_leaves_are k }))
+      ∙ (λ k. known l w.generation (same_facts k) is.holder (record { stamp = volatile_field l words' 2; line = lines_are k; safe_line = safe_lines_are k; layer = layer_stays.cached k; safe_layer = layer_stays.durable k }))
       ∙ sym (ap (λ (f : TurnFacts). record f { stamp = volatile_field l words' 2 }) (facts_tie w is.holder u))
 
   stamp_else : (m : ℕ) → m ≢ n → volatile_field l words' 2 m ≡ volatile_field l w.words 2 m
@@ -124,8 +122,9 @@ module _ (z : Layered) (n y : ℕ) (is : IsLayered z) (here : n < z.whole.world.
 
     row_is : (u : Turning) → RowLawful (terms_of w u) (ghosts_of w is.holder) w.words Resting → RowLawful (terms_of w' u) (ghosts_of w' is.holder) words' Resting
     row_is u row = record {
-      leaves = subst (λ (v : LayerWords). IsLayerRow (leaf_count l) l.nodes v) (sym leaves_are) row.leaves;
-      sure = λ leaf o. (λ k. safe_leaves_are k leaf o) ∙ row.sure leaf o ∙ sym (λ k. leaves_are k leaf o);
+      order = subst (λ (v : LayerWords). IsKept l v) (sym layer_stays.cached) row.order;
+      sure = subst (λ (v : LayerWords). AreEven v (layer_words l words' Durable)) (sym layer_stays.cached)
+          (subst (λ (d : LayerWords). AreEven (layer_words l w.words Cached) d) (sym layer_stays.durable) row.sure);
       law = subst (λ (f : TurnFacts). TurnLawful (columns.terms_of (terms_of w u)) f turns.Resting) (sym (same_turn u))
           (with_stamps (columns.terms_of (terms_of w u)) (turn_facts w is.holder u) (volatile_field l words' 2) forth back row.law);
     }

@@ -1,14 +1,13 @@
--- Stores of a turn that touch neither nodes nor lines: of the updater lock, of stamps, and of the leaves.
+-- Stores of a turn that touch neither nodes nor lines: of the updater lock, of stamps, and of the layer.
 use Rattle.std.proofs.Common.{◌≡◌, ◌≢◌, ℕ, ◌⊎◌, ⊎_elim, inl, inr, true, false, cond, List, refl, sym, ap, subst, arith}
 use Rattle.std.specs.Prelude.{nat_lt}
 use Rattle.std.proofs.lemmas.Bool.{ltb-true}
 use Rattle.pm_words.specs.declared.layout.Layout.{Layout}
-use Rattle.pm_words.specs.Locations.{Word, Header, Line, Node, Location, Clock, Updater, Volatile, Cached, Durable, HasWord, HasLocation, at}
+use Rattle.pm_words.specs.Locations.{Word, Header, Line, Node, Location, Clock, Updater, Volatile, Cached, Durable, HasWord, HasLocation, at, Root, Leaf, Cell}
 use Rattle.pm_words.specs.Rows.{IsRow}
 use Rattle.cat_history.specs.Maps.{Map}
 use Rattle.cat_history.specs.declared.op.Write.{Write}
 use Rattle.data_node.specs.Lists.{members_from}
-use Rattle.search_layer.specs.Leaves.{IsOutsideLeaves}
 use Rattle.index_law.specs.Facts.{facts_of, version_in, status_in, spot_in}
 use Rattle.index_law.specs.Lawful.{Lawful}
 use Rattle.index_law.specs.Lines.{line_in}
@@ -19,42 +18,47 @@ use Rattle.index_law.proofs.Noting.{LinesStay, line-alike, safe-alike, beside_la
 use Rattle.index_law.proofs.Rows.{version_in-alike, status_in-alike, spot_in-alike}
 use Rattle.index_law.proofs.Twins.{IsAside, IsNearer}
 use Rattle.index_law.proofs.Whole.{traced_same, joint_same}
+use Rattle.layer_map.specs.Places.{is_of_layer, is_layer_word}
 
 -- a location that none of these stores touches
-pub record IsKept (p : Location) : Type 0 where
+pub record IsUntouched (p : Location) : Type 0 where
   pub lock : p ≢ Updater
   pub stamp : (n : ℕ) → p ≢ Volatile n 2
-  pub leaf : IsOutsideLeaves p
+  pub layer : is_of_layer p ≡ false
 
 abbrev pub KeepsRest : Layout → List ℕ → List ℕ → Type 0
-KeepsRest l words after = (p : Location) → HasLocation l p → IsKept p → at l after p ≡ at l words p
-
-abbrev word_in : Location → Word
-word_in (Cached w) = w
-word_in (Durable w) = w
-word_in _ = Header 0
+KeepsRest l words after = (p : Location) → HasLocation l p → IsUntouched p → at l after p ≡ at l words p
 
 abbrev offset_at : Location → ℕ
 offset_at (Volatile n o) = o
 offset_at _ = 0
 
+-- words of the layer are aside
+not_of_layer : (w : Word) → (IsAside w → ⊥) → is_layer_word w ≡ false
+not_of_layer (Header o) aside = refl
+not_of_layer (Root o) aside = refl
+not_of_layer (Node n o) aside = refl
+not_of_layer (Line c j o) aside = refl
+not_of_layer (Leaf k o) aside = absurd (aside tt)
+not_of_layer (Cell kind k o) aside = refl
+
 -- words that aren't aside are kept, as cached and as durable
-kept_cached : (w : Word) → (IsAside w → ⊥) → IsKept (Cached w)
+kept_cached : (w : Word) → (IsAside w → ⊥) → IsUntouched (Cached w)
 kept_cached w aside = record {
   lock = λ e. cc;
   stamp = λ n e. cc;
-  leaf = λ leaf offset. (λ e. aside (subst IsAside (sym (ap word_in e)) tt), λ e. cc);
+  layer = not_of_layer w aside;
 }
 
-kept_durable : (w : Word) → (IsAside w → ⊥) → IsKept (Durable w)
+kept_durable : (w : Word) → (IsAside w → ⊥) → IsUntouched (Durable w)
 kept_durable w aside = record {
   lock = λ e. cc;
   stamp = λ n e. cc;
-  leaf = λ leaf offset. (λ e. cc, λ e. aside (subst IsAside (sym (ap word_in e)) tt));
+  layer = not_of_layer w aside;
 }
 
-kept_volatile : (n offset : ℕ) → offset ≢ 2 → IsKept (Volatile n offset)
-kept_volatile n offset other = record { lock = λ e. cc; stamp = λ m e. other (ap offset_at e); leaf = λ leaf o. (λ e. cc, λ e. cc) }
+kept_volatile : (n offset : ℕ) → offset ≢ 2 → IsUntouched (Volatile n offset)
+kept_volatile n offset other = record { lock = λ e. cc; stamp = λ m e. other (ap offset_at e); layer = refl }
 
 module _ (l : Layout) (words after : List ℕ) (same : KeepsRest l words after) where
   pub facts_kept : (base : Map) (history : List Write) → facts_of l after base history ≡ facts_of l words base history
@@ -69,8 +73,8 @@ module _ (l : Layout) (words after : List ℕ) (same : KeepsRest l words after) 
 
   pub lines_kept : (c j offset : ℕ) → LinesStay l words after c j offset
   lines_kept c j offset =
-      let cached = λ (has : HasWord l (Line c j offset)). same (Cached (Line c j offset)) has (record { lock = λ e. cc; stamp = λ n e. cc; leaf = λ leaf o. (λ e. cc, λ e. cc) }) in
-      let durable = λ (has : HasWord l (Line c j offset)). same (Durable (Line c j offset)) has (record { lock = λ e. cc; stamp = λ n e. cc; leaf = λ leaf o. (λ e. cc, λ e. cc) }) in
+      let cached = λ (has : HasWord l (Line c j offset)). same (Cached (Line c j offset)) has (record { lock = λ e. cc; stamp = λ n e. cc; layer = refl }) in
+      let durable = λ (has : HasWord l (Line c j offset)). same (Durable (Line c j offset)) has (record { lock = λ e. cc; stamp = λ n e. cc; layer = refl }) in
       (line-alike l words after c j offset cached, safe-alike l words after c j offset durable)
 
   pub prevs_kept : (n : ℕ) → prev_in l after n ≡ prev_in l words n
@@ -90,7 +94,7 @@ module _ (z : Whole) (after : List ℕ) (same : KeepsRest z.world.layout z.world
   aside_lawful row lawful = beside_law z.world after lawful row
       (facts_kept z.world.layout z.world.words after same z.world.base z.world.history)
       (nearer_kept z.world.layout z.world.words after same)
-      (same Clock tt (record { lock = λ e. cc; stamp = λ n e. cc; leaf = λ leaf o. (λ e. cc, λ e. cc) }))
+      (same Clock tt (record { lock = λ e. cc; stamp = λ n e. cc; layer = refl }))
       (λ v has aside. same (Cached v) has (kept_cached v aside))
 
   pub aside_whole : IsRow z.world.layout after → IsWhole z → IsWhole (record z { world = record (z.world) { words = after } })

@@ -21,7 +21,7 @@ use Rattle.index_layer_law.specs.Laws.{TurnStartKeeps, RestIsLayered}
 -- what holds where a turn rests holds for any other that rests
 pub rests_for : (w : World) (ghosts : Ghosts) (words : List ℕ) (t u : Turning) → u.stamp ≢ 0 → RowLawful (terms_of w t) ghosts words Resting → RowLawful (terms_of w u) ghosts words Resting
 rests_for w ghosts words t u stamp is = record {
-  leaves = is.leaves;
+  order = is.order;
   sure = is.sure;
   law = record {
     stamped_by = stamp;

@@ -20,7 +20,7 @@ use Rattle.index_layer_law.proofs.TurnRests.{each}
 -- what holds where a turn comes to a line holds for any other that comes to it
 between_for : (w : World) (ghosts : Ghosts) (words : List ℕ) (t u : Turning) (j : ℕ) → u.stamp ≢ 0 → RowLawful (terms_of w t) ghosts words (Between j) → RowLawful (terms_of w u) ghosts words (Between j)
 between_for w ghosts words t u j stamp is = record {
-  leaves = is.leaves;
+  order = is.order;
   sure = is.sure;
   law = record {
     stamped_by = stamp;

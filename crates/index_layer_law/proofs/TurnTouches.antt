@@ -66,10 +66,10 @@ module _ (r : RowTerms) (ghosts : Ghosts) (words : List ℕ) (row : IsRow r.layo
       → Locked (Changes e word s) → Touched r ghosts words (acted l words a) next
   changes_leaves e word s t a next is step locked =
       let fits = word_within r ghosts words e word is.law.sure in
-      let keeps = change_step_keeps l (aim_of e word) is.sure.before words s a t row.whole is.leaves fits (λ some_word. is.sure.few) is.sure.sure is.sure.layer step in
+      let keeps = change_step_keeps l (aim_of e word) is.sure.before words s a t row.whole is.order fits (λ some_word. is.sure.few) is.sure.sure is.sure.layer step in
       record {
-        touches = is_aside (λ p has kept. keeps.others p has kept.leaf);
-        lock = still_locked (acted l words a) (Changes e word s) next (keeps.others Updater tt (λ leaf o. (λ e. cc, λ e. cc))) (λ e. cc) locked;
+        touches = is_aside (λ p has kept. keeps.others p has kept.layer);
+        lock = still_locked (acted l words a) (Changes e word s) next (keeps.others Updater tt refl) (λ e. cc) locked;
       }
 
 pub touched : (r : RowTerms) (ghosts : Ghosts) (words : List ℕ) (row : IsRow r.layout words) {s : RowStage} {a : Action} {x : ℕ} {t : RowStage} → RowStep r s a x t → x ≡ got r.layout words a

@@ -8,7 +8,7 @@ use Rattle.cat_history.specs.Maps.{Map}
 use Rattle.cat_history.specs.declared.op.Write.{Write}
 use Rattle.data_node.specs.Lists.{next_offset, anchor_in}
 use Rattle.call_stages.specs.Watches.{Watching, Nothing, Watches, Watch, begins, finds_live, watches, watches_next, lets_go}
-use Rattle.search_layer.specs.Keys.{key_number}
+use Rattle.layer_map.specs.Keys.{key_number}
 use Rattle.updater_law.specs.Covered.{IsTarget}
 use Rattle.updater_law.specs.Facts.{IsListed}
 use Rattle.updater_row_law.specs.Columns.{RowTerms, Ghosts, node_field, facts_in}

@@ -4,7 +4,7 @@ use mathlib.Core.Option.{some}
 use lib.ListN.{get_elem?}
 use Rattle.pm_words.specs.Codes.{free_status}
 use Rattle.pm_words.specs.declared.action.Action.{Action}
-use Rattle.pm_words.specs.Locations.{Updater, Cached, Durable, leaf_count, image_words, at}
+use Rattle.pm_words.specs.Locations.{Updater, Cached, Durable, image_words, at}
 use Rattle.pm_words.specs.Rows.{CanAct, acted, got}
 use Rattle.data_node.specs.Lists.{anchor_in, IsIn}
 use Rattle.call_stages.specs.declared.once.Once.{Once}
@@ -19,8 +19,9 @@ use Rattle.index_law.specs.Lawful.{Each}
 use Rattle.index_law.specs.Whole.{IsWhole}
 use Rattle.index_law.specs.Footings.{AreTended, stepped_whole}
 use Rattle.index_law.specs.Footed.{evicted_whole}
-use Rattle.search_layer.specs.Keys.{key_number}
-use Rattle.search_layer.specs.Leaves.{leaves_in, layer_in, layer_of}
+use Rattle.layer_map.specs.Keys.{key_number}
+use Rattle.search_layer.specs.Rows.{layer_words}
+use Rattle.search_layer.specs.Kept.{layer_of, kept}
 use Rattle.updater_law.specs.Covered.{IsCovered, IsTarget}
 use Rattle.updater_law.specs.Covers.{IsOpenFor}
 use Rattle.updater_row_law.specs.Columns.{lines_in}
@@ -122,7 +123,7 @@ pub record LeadsAsListed (z : Layered) : Type 0 where
       (layer_of z.whole.world.layout z.whole.world.words)
       (IsOpenFor (lines_in z.whole.world.layout z.whole.world.words Cached))
   pub durable : IsCovered (IsListed (facts z.whole.world)) (λ n. anchor_in ((facts z.whole.world).now n))
-      (layer_in (leaves_in z.whole.world.layout z.whole.world.words Durable) (leaf_count z.whole.world.layout))
+      (kept z.whole.world.layout (layer_words z.whole.world.layout z.whole.world.words Durable))
       (IsOpenFor (lines_in z.whole.world.layout z.whole.world.words Durable))
 
 abbrev pub LayerIsCovered : Type 0
@@ -133,5 +134,5 @@ LayerIsCovered = (z : Layered) → IsLayered z → LeadsAsListed z
 abbrev pub CrashLeadsAsListed : Type 0
 CrashLeadsAsListed = (z : Layered) → IsLayered z → IsCovered (IsIn (durable_list z.whole.world))
     (λ n. anchor_in (durable_spot z.whole.world.layout z.whole.world.words n))
-    (layer_in (leaves_in z.whole.world.layout z.whole.world.words Durable) (leaf_count z.whole.world.layout))
+    (kept z.whole.world.layout (layer_words z.whole.world.layout z.whole.world.words Durable))
     (IsOpenFor (lines_in z.whole.world.layout z.whole.world.words Durable))

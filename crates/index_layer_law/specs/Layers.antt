@@ -71,7 +71,8 @@ pub record IsLayered (z : Layered) : Type 0 where
       IsShown z.whole.world.layout z.whole.world.generation (facts z.whole.world) e.anchor target
   -- merges that are to give their right nodes back
   pub retiring : (i : ℕ) (p : Party) (line : Option HeldLine) (t : Turning) (h : Held) (left right : Grip) →
-      get_elem? z.whole.world.parties i ≡ some p → get_elem? z.whole.lines i ≡ some line → p.stage ≡ Joins h left right Gone →
+      get_elem? z.whole.world.parties i ≡ some p → get_elem? z.whole.lines i ≡ some line →
+      p.stage ≡ Joins h left right Gone →
       IsRetiring (turn_facts z.whole.world holder t) line right
   -- a party whose switch may not be durable yet has a line that covers the node which it put in or left out
   pub switched : (i : ℕ) (p : Party) (n : ℕ) → get_elem? z.whole.world.parties i ≡ some p → IsSwitched p.stage n →

@@ -11,7 +11,7 @@ use Rattle.call_stages.specs.Watches.{Watching, Nothing, Watches, IsSeenAs}
 use Rattle.index_law.specs.Facts.{Facts}
 use Rattle.index_law.specs.Worlds.{World, facts}
 use Rattle.index_law.specs.Lawful.{Stands}
-use Rattle.search_layer.specs.Keys.{key_number}
+use Rattle.layer_map.specs.Keys.{key_number}
 use Rattle.updater_row_law.specs.Columns.{RowTerms, Ghosts}
 use Rattle.updater_row_law.specs.RowStages.{RowTarget, Resting}
 use Rattle.updater_row_law.specs.Turnings.{Turning}

@@ -4,15 +4,17 @@ use Rattle.std.specs.Prelude.{nat_lt}
 use Rattle.std.proofs.lemmas.Bool.{cases_lt, cond_both, lt-ltb, le-ltb, ltb-true, false_from_ne_true}
 use Rattle.pm_words.specs.Codes.{free_status, live_status}
 use Rattle.pm_words.specs.declared.layout.Layout.{Layout}
-use Rattle.pm_words.specs.Locations.{Word, Location, Header, Volatile, Cached, Durable, leaf_count, at}
+use Rattle.pm_words.specs.Locations.{Word, Location, Header, Volatile, Cached, Durable, at}
 use Rattle.cat_history.specs.Maps.{Map}
 use Rattle.version_lock.specs.Versions.{generation_of, IsFree, IsWorn, is_worn_word}
 use Rattle.version_lock.proofs.WordTests.{free_is, worn_word}
 use Rattle.data_node.specs.Lists.{ListNode, anchor_in}
 use Rattle.index_law.specs.Facts.{Facts, version_in, status_in}
 use Rattle.index_law.specs.Worlds.{Party, facts}
-use Rattle.search_layer.specs.Keys.{key_of}
-use Rattle.search_layer.specs.Leaves.{leaves_in, layer_in}
+use Rattle.layer_map.specs.Keys.{key_of}
+use Rattle.search_layer.specs.Rows.{layer_words, LayerWords, AreEven}
+use Rattle.search_layer.specs.Kept.{kept}
+use Rattle.search_layer.proofs.RowLemmas.{even_with_itself}
 use Rattle.updater_law.specs.Facts.{TurnFacts}
 use Rattle.updater_law.specs.Lawful.{TurnLawful}
 use Rattle.updater_law.specs.TurnStages as turns
@@ -126,14 +128,14 @@ module _ (l : Layout) (list : List ListNode) (o : Columns) (words : List ℕ) (m
     worn = λ n. not_worn n k;
     line = lines_are l words Cached k;
     safe_line = lines_are l words Durable k;
-    layer = layer_in (leaves_in l words Cached) (leaf_count l);
-    safe_layer = layer_in (leaves_in l words Durable) (leaf_count l);
+    layer = kept l (layer_words l words Cached);
+    safe_layer = kept l (layer_words l words Durable);
   }
 
   pub row_is : (parties : List Party) (t : Turning) → t.stamp ≢ 0 → RowLawful (terms_of (opened_world l words parties m) t) (ghosts_of (opened_world l words parties m) (λ n. 0)) words Resting
   row_is parties t stamp = record {
-    leaves = is.rests.sound.layer.row;
-    sure = λ leaf k. (λ j. (is.rests.durable j).leaf leaf k);
+    order = is.rests.sound.layer.row;
+    sure = subst (λ (d : LayerWords). AreEven (layer_words l words Cached) d) (sym (λ j. (is.rests.durable j).layer)) (even_with_itself (layer_words l words Cached));
     law = subst (λ (u : TurnFacts). TurnLawful (columns.terms_of (terms_of (opened_world l words parties m) t)) u turns.Resting)
         (sym (facts_tie (opened_world l words parties m) (λ n. 0) t ∙ known_is))
         (rest_is_lawful l list o now safe (columns.terms_of (terms_of (opened_world l words parties m) t)) stamp is.rests);

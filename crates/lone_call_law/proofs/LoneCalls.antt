@@ -12,7 +12,7 @@ use Rattle.pm_words.specs.declared.again.Again.{Again}
 use Rattle.pm_words.specs.declared.again.Again.TheVariants as again
 use Rattle.pm_words.specs.declared.machine.Turn.{Turn}
 use Rattle.pm_words.specs.declared.machine.Turn.TheVariants.{Go, Done}
-use Rattle.pm_words.specs.Locations.{Cached, leaf_count}
+use Rattle.pm_words.specs.Locations.{Cached}
 use Rattle.pm_words.specs.Rows.{acted, got}
 use Rattle.cat_key.specs.Names.{IsName, fingerprint_of}
 use Rattle.cat_key.proofs.Packing.{packed_from_name, bytes_of-words_of}
@@ -33,9 +33,10 @@ use Rattle.call_stages.specs.declared.once.Placed.{Placed}
 use Rattle.call_stages.specs.Stages.{Held, Sight, Stage, Idle, Saw, Wears, Reads, Holds, Eyes, Splits, Leaves, Meets, Joins, IsLoose, counted, placed_in}
 use Rattle.call_stages.specs.Kinds.{Told, LeadsWithin}
 use Rattle.call_stages.specs.AnySteps.{AnyStep}
-use Rattle.search_layer.specs.Layers.{IsFloorOf}
-use Rattle.search_layer.specs.Leaves.{LayerWords, leaves_in, layer_of}
-use Rattle.search_layer.specs.FloorSteps.{floor_starts}
+use Rattle.layer_map.specs.Layers.{IsFloorOf}
+use Rattle.search_layer.specs.Rows.{LayerWords, layer_words}
+use Rattle.search_layer.specs.Kept.{layer_of}
+use Rattle.search_layer.specs.FloorSteps.{floor_starts, floor_most}
 use Rattle.search_layer.specs.Laws.{answer_from}
 use Rattle.search_layer.proofs.FloorAlone.{floor_is_exact}
 use Rattle.search_layer.proofs.FloorTold.{floor_starts_sound}
@@ -877,13 +878,13 @@ module _ (w0 : World) (i : ℕ) (limit : Option ℕ) (p : Party) (index : ℕ) (
 
   landing : IsLanding w0.layout w0.words call (floor_starts view.layout call.name)
   landing =
-      let turns : ℕ = 4 * leaf_count w0.layout in
-      let leaves : LayerWords = leaves_in w0.layout w0.words Cached in
-      let exact = floor_is_exact w0.layout call.name leaves rest.row.layout can.order in
+      let turns : ℕ = floor_most w0.layout in
+      let kept_words : LayerWords = layer_words w0.layout w0.words Cached in
+      let exact = floor_is_exact w0.layout call.name kept_words rest.row.layout can.order in
       record {
         turns = turns;
-        answers = subst (λ (l : Layout). IsSomeAnd (answer_from turns leaves (floor_starts l call.name)) (StartsAt w0.layout w0.words (name_in call))) (sym layout)
-            (subst (λ (key : ℕ). IsSomeAnd (answer_from turns leaves (floor_starts w0.layout call.name)) (IsFloorOf (layer_of w0.layout w0.words) key)) (key_is call looks_sound.call) exact);
+        answers = subst (λ (l : Layout). IsSomeAnd (answer_from turns kept_words (floor_starts l call.name)) (StartsAt w0.layout w0.words (name_in call))) (sym layout)
+            (subst (λ (key : ℕ). IsSomeAnd (answer_from turns kept_words (floor_starts w0.layout call.name)) (IsFloorOf (layer_of w0.layout w0.words) key)) (key_is call looks_sound.call) exact);
       }
 
   about_name : name_in call ≡ name

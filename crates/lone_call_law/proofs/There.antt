@@ -1,7 +1,7 @@
 -- A look-up that nobody disturbs comes to the target of its name.
 use Rattle.std.proofs.Common.{◌≡◌, ℕ, zero, suc, ◌+◌, ◌<◌, ◌==◌, true, false, cond, ltb, List, get_or, set, Some, None, refl, sym, subst, ap, ◌∙◌, arith}
 use Rattle.std.proofs.lemmas.Bool.{eq-eqb, lt-ltb}
-use Rattle.std.specs.Prelude.{slice_index, IsSomeAnd}
+use Rattle.std.specs.Prelude.{IsSomeAnd}
 use Rattle.std.proofs.lemmas.List.{set-get_or}
 use Rattle.pm_words.specs.declared.layout.Layout.{Layout}
 use Rattle.pm_words.specs.declared.again.Again.TheVariants.{Moved}
@@ -34,7 +34,7 @@ use Rattle.node_ops.specs.declared.lookup.LookupAt.TheVariants as at
 use Rattle.node_ops.specs.Calls.{IsCall, name_in, at_node, call_address}
 use Rattle.data_node.specs.Spots.{bitmap_offset, slot_offset}
 use Rattle.node_ops.specs.LookupSteps.{came_by, is_spent, goes_to, ends, floored, walked_on, saw_directory, next_candidate, candidate_turned, lookup_at_asks, lookup_at_turned, IsFlooring, IsLookupAt}
-use Rattle.node_ops.proofs.LookupLaw.{key_is}
+use Rattle.node_ops.proofs.LookupLaw.{key_is, floor_after}
 use Rattle.index_law.specs.Facts.{list_in, version_in}
 use Rattle.index_law.specs.Worlds.{facts}
 use Rattle.index_law.specs.Prevs.{prev_in}
@@ -43,16 +43,14 @@ use Rattle.index_law.proofs.Noting.{line-alike}
 use Rattle.index_law.proofs.Starts.{idle_law}
 use Rattle.index_law.proofs.Prevs.{idle_follow, prev_at}
 use Rattle.pm_words.proofs.Apart.{at-set_other}
-use Rattle.pm_words.specs.Locations.{Node, Line, Location, Volatile, Cached, leaf_count}
+use Rattle.pm_words.specs.Locations.{Node, Line, Location, Volatile, Cached}
 use Rattle.pm_words.specs.declared.action.Action.TheVariants.{Load, Exchange}
 use Rattle.search_layer.specs.declared.floor.Floor.{Floor}
-use Rattle.search_layer.specs.Leaves.{LayerWords, leaves_in, leaf_place}
-use Rattle.search_layer.specs.Reading.{offset_read}
-use Rattle.search_layer.specs.FloorSteps.{floor_asks, floor_turned}
-use Rattle.search_layer.specs.Laws.{told_turn, answer_from, FloorAfter}
-use Rattle.search_layer.proofs.LeafRows.{leaves_in-here}
-use Rattle.search_layer.proofs.FloorTold.{floor_stays, offset_small}
+use Rattle.search_layer.specs.Rows.{LayerWords, layer_words}
+use Rattle.search_layer.specs.FloorSteps.{floor_asks, floor_turned, floor_left}
+use Rattle.search_layer.specs.Laws.{told_turn, answer_from, FloorAfter, floor_told}
 use Rattle.search_layer.proofs.FloorAlone.{lone_keeps}
+use Rattle.search_layer.proofs.FloorTold.{floor_is_told}
 use Rattle.lone_call_law.specs.There.{HasCome, nodes_in, CanWalk, StartsAt, WalksBy, IsAtNode, IsUnmoved, LookupStands, LookedStands, LooksComeThere}
 use Rattle.lone_call_law.specs.There.{RestIsStill, IdleIsQuiet}
 use Rattle.std.specs.Prelude.{IsSome, is_some}
@@ -155,10 +153,10 @@ module _ (call : Call) (sound : IsCall call) (words0 words : List ℕ) where
   Stands words' = LookedStands l g words0 words' call
 
   -- the floor leads to where the walk begins
-  floored_there : (words' : List ℕ) (turns : ℕ) (turn : Turn Floor ℕ) → CanWalk l g words0 → words' ≡ words0 → FloorAfter l turn
-      → IsSomeAnd (told_turn turn (answer_from turns (leaves_in l words0 Cached))) (StartsAt l words0 (name_in call)) → Stands words' (floored call turn)
-  floored_there words' turns (Go next) can same here answers = (same, record { turns = turns; answers = answers })
-  floored_there words' turns (Done node) can same here starts =
+  floored_there : (words' : List ℕ) (turns left : ℕ) (turn : Turn Floor ℕ) → CanWalk l g words0 → words' ≡ words0 → FloorAfter l call.name left turn
+      → IsSomeAnd (told_turn turn (answer_from turns (layer_words l words0 Cached))) (StartsAt l words0 (name_in call)) → Stands words' (floored call turn)
+  floored_there words' turns left (Go next) can same here answers = (same, record { turns = turns; answers = answers })
+  floored_there words' turns left (Done node) can same here starts =
       let f : Nodes = nodes_in l words0 in
       let walk : Walk = walk_from l g node (key_words call.name) in
       let comes = each_comes l g f (key_number (key_words call.name)) node can.quiet here in (
@@ -170,18 +168,15 @@ module _ (call : Call) (sound : IsCall call) (words0 words : List ℕ) where
         },
       )
 
-  floor_there : (floor : Floor) (x : ℕ) → IsFlooring call floor → CanWalk l g words0 → words ≡ words0 → (turns : ℕ) → IsSomeAnd (answer_from turns (leaves_in l words0 Cached) floor) (StartsAt l words0 (name_in call))
+  floor_there : (floor : Floor) (x : ℕ) → IsFlooring call floor → CanWalk l g words0 → words ≡ words0 → (turns : ℕ) → IsSomeAnd (answer_from turns (layer_words l words0 Cached) floor) (StartsAt l words0 (name_in call))
       → x ≡ got l words (floor_asks floor) → Stands (acted l words (floor_asks floor)) (floored call (floor_turned floor x))
   floor_there floor x here can same zero answers told = absurd answers
   floor_there floor x here can same (suc turns) answers told =
-      let w : LayerWords = leaves_in l words0 Cached in
-      let within : floor.reader.leaf < leaf_count l = subst (λ (k : Layout). floor.reader.leaf < leaf_count k) here.layout here.sound.reader.leaf in
-      let loads : w floor.reader.leaf (offset_read floor.reader.at) ≡ x =
-      leaves_in-here l words0 Cached floor.reader.leaf (offset_read floor.reader.at) within (offset_small floor.reader.at)
-      ∙ ap (λ (k : Layout). slice_index words0 (leaf_place k floor.reader.leaf (offset_read floor.reader.at))) (sym here.layout)
+      let w : LayerWords = layer_words l words0 Cached in
+      let loads : floor_told w floor ≡ x =
+      sym (subst (λ (k : Layout). got k words0 (floor_asks floor) ≡ floor_told (layer_words k words0 Cached) floor) here.layout (floor_is_told floor words0 here.sound))
       ∙ ap (λ (ws : List ℕ). got l ws (floor_asks floor)) (sym same) ∙ sym told in
-      floored_there (acted l words (floor_asks floor)) turns (floor_turned floor x) can (lone_keeps l words floor ∙ same)
-      (subst (λ (k : Layout). FloorAfter k (floor_turned floor x)) here.layout (floor_stays floor x here.sound))
+      floored_there (acted l words (floor_asks floor)) turns (floor_left floor) (floor_turned floor x) can (lone_keeps l words floor ∙ same) (floor_after call floor x here)
       (subst (λ (n : ℕ). IsSomeAnd (told_turn (floor_turned floor n) (answer_from turns w)) (StartsAt l words0 (name_in call))) loads answers)
 
   walked_there : (words' : List ℕ) (hops : ℕ) (turn : Turn Walk Walked) → WalksBy l words0 (name_in call) hops → words' ≡ words0 → StaysOnWay l (nodes_in l words0) hops (key_words call.name) turn → Stands words' (walked_on call turn)

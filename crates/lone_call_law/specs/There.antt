@@ -28,8 +28,9 @@ use Rattle.index_law.specs.Lawful.{Each}
 use Rattle.index_law.specs.Laws.{IsAtRest}
 use Rattle.index_law.specs.Prevs.{prev_in, Traced, IsTraced}
 use Rattle.search_layer.specs.declared.floor.Floor.{Floor}
-use Rattle.search_layer.specs.Layers.{IsFloorOf}
-use Rattle.search_layer.specs.Leaves.{leaves_in, layer_of, IsInOrder}
+use Rattle.layer_map.specs.Layers.{IsFloorOf}
+use Rattle.search_layer.specs.Rows.{layer_words}
+use Rattle.search_layer.specs.Kept.{layer_of, IsInOrder}
 use Rattle.search_layer.specs.Laws.{answer_from}
 
 abbrev pub nodes_in : Layout → List ℕ → Nodes
@@ -41,7 +42,7 @@ nodes_in l words = record {
   list = list_in l words;
 }
 
--- Walks come to their targets from every node, and the leaves of the search layer are in order.
+-- Walks come to their targets from every node, and the search layer is in order.
 pub record CanWalk (l : Layout) (g : ℕ) (words : List ℕ) : Type 0 where
   pub quiet : AreQuiet l g (nodes_in l words)
   pub order : IsInOrder l words
@@ -70,10 +71,10 @@ pub record IsUnmoved (l : Layout) (words0 words : List ℕ) (node : ℕ) : Type 
   pub nexts : (m : ℕ) → spot_in l words m next_offset ≡ spot_in l words0 m next_offset
   pub lines : (c j : ℕ) → line_in l words c j 0 ≡ line_in l words0 c j 0
 
--- The floor of the call, told words of the leaves so many times, answers the node where the call begins to walk.
+-- The floor of the call, told words of the layer so many times, answers the node where the call begins to walk.
 pub record IsLanding (l : Layout) (words : List ℕ) (call : Call) (floor : Floor) : Type 0 where
   pub turns : ℕ
-  pub answers : IsSomeAnd (answer_from turns (leaves_in l words Cached) floor) (StartsAt l words (name_in call))
+  pub answers : IsSomeAnd (answer_from turns (layer_words l words Cached) floor) (StartsAt l words (name_in call))
 
 -- The walk of the call is on its way there, by so many hops in all.
 pub record IsUnderWay (l : Layout) (words : List ℕ) (call : Call) (walk : Walk) : Type 0 where

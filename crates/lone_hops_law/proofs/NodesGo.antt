@@ -8,9 +8,9 @@ use lib.ListN.{get_elem?}
 use Rattle.pm_words.specs.Codes.{free_status, live_status, gone_status}
 use Rattle.pm_words.specs.declared.layout.Layout.{Layout}
 use Rattle.pm_words.specs.declared.action.Action.{Action}
-use Rattle.pm_words.specs.Locations.{Location, Line, Volatile, Cached, Durable, at, row_words}
+use Rattle.pm_words.specs.Locations.{Location, Line, Volatile, Cached, Durable, at, row_words, address_of}
 use Rattle.pm_words.specs.Rows.{acted, got}
-use Rattle.pm_words.proofs.Apart.{at-set_other, at-set_same}
+use Rattle.pm_words.proofs.Apart.{at-set_same}
 use Rattle.pm_words.proofs.Kept.{action_address-drain}
 use Rattle.cat_history.specs.declared.op.Change.{Change}
 use Rattle.data_node.specs.Spots.{Spot}
@@ -20,7 +20,7 @@ use Rattle.call_stages.specs.declared.once.Placed.{Placed}
 use Rattle.call_stages.specs.Stages.{Stage, Filling, Gathered, Gone, Idle, Saw, Wears, Reads, Holds, Eyes, Splits, Leaves, Meets, Joins, HoldsNode, counted}
 use Rattle.call_stages.specs.Kinds.{Step, Look, Split, Merge, prev_address}
 use Rattle.call_stages.specs.Kinds as kinds
-use Rattle.call_stages.specs.AnySteps.{leaf_address, loads_leaf, on_permutation}
+use Rattle.call_stages.specs.AnySteps.{loads_layer, on_permutation}
 use Rattle.call_stages.specs.Lines.{HeldLine, line_address, Notes, passes_line, takes, looks_up, notes, keeps_safe}
 use Rattle.call_stages.specs.Footings.{Footing, FootStep}
 use Rattle.call_stages.specs.Footings as foot
@@ -415,13 +415,13 @@ nodes_go name own w0 z i p f next a x whole o at_line owing stage stands (foot.o
     let uncounted : counted p.stage ≡ None = ap counted stage ∙ none in
     subst (λ (u : Stage). NodesStand w0 (stepped z.world i p a u) u) stage
     (beside_on name own w0 z i p whole o a (beside_keeps z.world i p a o.lawful o.there uncounted is_beside).facts (stored_prevs name own w0 z i p whole o s d d' a stage owing k) stands)
-nodes_go name own w0 z i p f next a x whole o at_line owing stage stands (foot.on_layer {stage = s} {leaf = leaf} {offset = offset} none has) told room =
+nodes_go name own w0 z i p f next a x whole o at_line owing stage stands (foot.on_layer {stage = s} {w = v} none place) told room =
     let uncounted : counted p.stage ≡ None = ap counted stage ∙ none in
     let l = z.world.layout in
     let words = z.world.words in
     subst (λ (u : Stage). NodesStand w0 (stepped z.world i p a u) u) stage
-    (beside_on name own w0 z i p whole o a (beside_keeps z.world i p a o.lawful o.there uncounted (loads_leaf has)).facts
-    (λ n gone. ap (λ (v : List ℕ). prev_in l v n) (set-get_or words (leaf_address l leaf offset) 0)) stands)
+    (beside_on name own w0 z i p whole o a (beside_keeps z.world i p a o.lawful o.there uncounted (loads_layer place)).facts
+    (λ n gone. ap (λ (ws : List ℕ). prev_in l ws n) (set-get_or words (address_of l (Cached v)) 0)) stands)
 nodes_go name own w0 z i p f next a x whole o at_line owing stage stands (foot.on_permutation {stage = s} none on) told room =
     let uncounted : counted p.stage ≡ None = ap counted stage ∙ none in
     subst (λ (u : Stage). NodesStand w0 (stepped z.world i p a u) u) stage

@@ -2,7 +2,7 @@
 use Rattle.std.proofs.Common.{◌≡◌, ◌==◌, ℕ, ◌<◌, ◌≤◌, inl, ⊎_elim, Some, None, refl, sym, ◌∙◌, subst, arith}
 use Rattle.pm_words.specs.Codes.{ready_state}
 use Rattle.pm_words.specs.declared.layout.Layout.{Layout}
-use Rattle.pm_words.specs.Locations.{Node, Leaf, Cached, Volatile, leaf_count}
+use Rattle.pm_words.specs.Locations.{Node, Cached, Volatile}
 use Rattle.data_node.specs.Lists.{anchor_in, members_from, IsIn, Rise}
 use Rattle.data_list.specs.Still.{Nodes, AreQuiet}
 use Rattle.data_list.proofs.Comings.{comes_once}
@@ -12,10 +12,11 @@ use Rattle.index_law.specs.Worlds.{World}
 use Rattle.index_law.proofs.Prevs.{prev_in-alike}
 use Rattle.index_law.proofs.Rows.{spot_in-alike, status_in-alike, version_in-alike}
 use Rattle.index_layer_law.proofs.LayerCover.{layer_is_covered}
-use Rattle.search_layer.specs.Layers.{Layer, IsFloorOf, IsBest}
-use Rattle.search_layer.specs.Leaves.{layer_in, layer_of, leaves_in}
-use Rattle.search_layer.proofs.CountLemmas.{layer_leads_to_nodes}
-use Rattle.search_layer.proofs.LeafRows.{leaves_in-alike}
+use Rattle.layer_map.specs.Layers.{Layer, IsFloorOf, IsBest}
+use Rattle.search_layer.specs.Kept.{layer_of, kept}
+use Rattle.search_layer.specs.Rows.{layer_words}
+use Rattle.search_layer.proofs.CountLemmas.{kept_leads_below}
+use Rattle.search_layer.proofs.RowLemmas.{rows_alike}
 use Rattle.updater_law.specs.Covered.{IsCovered}
 use Rattle.updater_row_law.specs.Columns.{line_count, line_word}
 use Rattle.updater_row_law.proofs.RowColumns.{column-same}
@@ -75,9 +76,8 @@ short_stays w0 w layer lengthen short key start floor =
 pub short_stays_alike : ShortStaysAlike
 short_stays_alike w words alike short key start floor =
     let l : Layout = w.layout in
-    let leaves : (leaf offset : ℕ) → leaves_in l words Cached leaf offset ≡ leaves_in l w.words Cached leaf offset =
-    λ leaf offset. leaves_in-alike l w.words words Cached leaf offset (λ here small. alike (Cached (Leaf leaf offset)) (here, small) tt) in
-    let layer : layer_of l words ≡ layer_of l w.words = λ k. layer_in (λ leaf offset. leaves leaf offset k) (leaf_count l) in
+    let same : layer_words l words Cached ≡ layer_words l w.words Cached = rows_alike l w.words words Cached Cached (λ v place. alike (Cached v) place.there tt) in
+    let layer : layer_of l words ≡ layer_of l w.words = λ k. kept l (same k) in
     let states : line_state (record w { words = words }) ≡ line_state w =
     column-same l w.words words (line_count l) (λ j. Cached (line_word 0 j)) (λ j here. alike (Cached (line_word 0 j)) (omega arith, omega arith, omega arith) tt) in
     let ready : ready_lines (record w { words = words }) ≡ ready_lines w = λ k. how_many (λ j. states k j == ready_state) (line_count l) in
@@ -103,7 +103,7 @@ floor_within w key start some below = ⊎_elim
 pub short_walks : ShortWalks
 short_walks w key start hops all order short floor comes =
     let way = short key start floor in
-    let within = floor_within w key start (let least = all.below 0 in omega arith) (layer_leads_to_nodes (leaf_count w.layout) w.layout.nodes (leaves_in w.layout w.words Cached) order) floor in
+    let within = floor_within w key start (let least = all.below 0 in omega arith) (kept_leads_below w.layout (layer_words w.layout w.words Cached) order) floor in
     let same = comes_once w.layout w.generation (nodes_of w) key start hops way.0 all.quiet comes (ways_are_walks w.layout w.generation (nodes_of w) key start way.0 all within way.2) in
     let few = way.1 in
     omega arith

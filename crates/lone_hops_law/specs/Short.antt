@@ -7,8 +7,8 @@ use Rattle.index_law.specs.Worlds.{World}
 use Rattle.index_layer_law.specs.Layers.{Layered, IsLayered}
 use Rattle.lone_updater_law.specs.CallLogs.{KeepsLayer, ready_lines}
 use Rattle.lone_updater_law.specs.LoneTurns.{line_state}
-use Rattle.search_layer.specs.Layers.{IsFloorOf}
-use Rattle.search_layer.specs.Leaves.{IsInOrder, layer_of}
+use Rattle.layer_map.specs.Layers.{IsFloorOf}
+use Rattle.search_layer.specs.Kept.{IsInOrder, layer_of}
 use Rattle.lone_hops_law.specs.LoneNodes.{nodes_of, LengthenWithin}
 use Rattle.lone_hops_law.specs.Ways.{IsWay}
 

@@ -8,7 +8,7 @@ use lib.ListN.{get_elem?}
 use Rattle.pm_words.specs.Codes.{ready_state}
 use Rattle.pm_words.specs.declared.layout.Layout.{Layout}
 use Rattle.pm_words.specs.declared.action.Action.{Action}
-use Rattle.pm_words.specs.Locations.{Line, Cached, at, leaf_count}
+use Rattle.pm_words.specs.Locations.{Line, Cached, at, address_of}
 use Rattle.pm_words.specs.Rows.{IsRow, acted, got}
 use Rattle.pm_words.proofs.Kept.{action_address-drain}
 use Rattle.pm_words.specs.declared.again.Again.TheVariants as again
@@ -20,7 +20,6 @@ use Rattle.call_stages.specs.declared.once.Placed.{Placed}
 use Rattle.call_stages.specs.Stages.{Grip, Stage, Idle, Saw, Wears, Holds, Eyes, Splits, Leaves, Meets, Joins, Tells, counted, placed_in}
 use Rattle.call_stages.specs.Kinds.{Step}
 use Rattle.call_stages.specs.Lines.{HeldLine, line_address, Marks, fills, opens, readies, Notes, passes_line, takes, looks_up, notes, keeps_safe}
-use Rattle.call_stages.specs.AnySteps.{leaf_address}
 use Rattle.call_stages.specs.Footings.{Footing, IsOpenOf, Minds, HasLine, IsKnownEmpty, IsLeftToTurn, KeepsOrLetsGo, Waits, FootStep}
 use Rattle.call_stages.specs.Footings as foot
 use Rattle.call_stages.specs.Prevs.{Prevs, IsSwitch, IsJoin}
@@ -31,7 +30,8 @@ use Rattle.index_law.proofs.Loose.{out_unmerged, out_unplaced}
 use Rattle.index_law.proofs.MergedOnce.{step_merges_once}
 use Rattle.index_law.proofs.Noting.{line-here}
 use Rattle.index_law.proofs.Own.{allow_law, sure_within}
-use Rattle.search_layer.specs.Leaves.{LayerWords, layer_in, layer_of}
+use Rattle.search_layer.specs.Rows.{LayerWords}
+use Rattle.search_layer.specs.Kept.{layer_of, kept}
 use Rattle.updater_law.specs.Covers.{Lines, set_at}
 use Rattle.updater_law.proofs.Columns.{here, other}
 use Rattle.updater_row_law.specs.Columns.{line_field}
@@ -165,8 +165,8 @@ module _ (name : List ℕ) (own : Option Change) (w0 : World) (z : Layered) (i :
   abbrev row : IsRow z.whole.world.layout z.whole.world.words
   row = is.whole.joint.lawful.row
 
-  layer_on : (words' : List ℕ) → (rest_in l words').leaves ≡ (rest_in l words).leaves → KeepsLayer w0 w → layer_of l words' ≡ layer_of w0.layout w0.words
-  layer_on words' same before = ap (λ (leaves : LayerWords). layer_in leaves (leaf_count l)) same ∙ before
+  layer_on : (words' : List ℕ) → (rest_in l words').layer ≡ (rest_in l words).layer → KeepsLayer w0 w → layer_of l words' ≡ layer_of w0.layout w0.words
+  layer_on words' same before = ap (λ (v : LayerWords). kept l v) same ∙ before
 
   -- ---- on nodes
   module _ (a : Action) (x : ℕ) (t : Stage) where
@@ -177,7 +177,7 @@ module _ (name : List ℕ) (own : Option Change) (w0 : World) (z : Layered) (i :
     nodes_lines r k = ap (λ (rest : Rest). rest.line.state) (nodes_rest r k)
 
     nodes_layer : (r : Option (Once Placed)) → Step l w.generation p.stage a x t r → KeepsLayer w0 w → KeepsLayer w0 (stepped w i p a t)
-    nodes_layer r k = layer_on (acted l words a) (ap (λ (rest : Rest). rest.leaves) (nodes_rest r k))
+    nodes_layer r k = layer_on (acted l words a) (ap (λ (rest : Rest). rest.layer) (nodes_rest r k))
 
     -- a call that has merged holds its node as long as it isn't answered
     holds_on : has_merged p.stage ≡ true → IsOut t → Trying name own w0 i (stepped w i p a t) (moved_on p t) → ⊥
@@ -375,7 +375,7 @@ log_goes name own w0 z i p f next a x is o o' at_line owing stage stands (foot.o
     let l = z.whole.world.layout in
     let waits' : Waits p.stage line after = subst (λ (u : Stage). Waits u line after) (sym stage) waits in
     record {
-      layer = layer_on name own w0 z i p is o (acted l z.whole.world.words a) (line_beside z i p is o.there line after a x at_line k waits').cached stands.layer;
+      layer = layer_on name own w0 z i p is o (acted l z.whole.world.words a) (line_beside z i p is o.there line after a x at_line k waits').layer.cached stands.layer;
       lines = subst (λ (u : Stage). StandsSo p.caller w0 (stepped z.whole.world i p a u) u after) stage
           (line_goes name own w0 z i p is o line after a x at_line k told mine (subst (λ (u : Stage). IsInStep u after) (sym stage) in_step) (subst (λ (u : Stage). StandsSo p.caller w0 z.whole.world u line) (sym stage) stands.lines));
     }
@@ -383,22 +383,22 @@ log_goes name own w0 z i p f next a x is o o' at_line owing stage stands (foot.o
     let l = z.whole.world.layout in
     let both_so = prev_beside z i p is o.there d d' a owing (subst (λ (u : Stage). Prevs l u d a d') (sym stage) k) in
     record {
-      layer = layer_on name own w0 z i p is o (acted l z.whole.world.words a) both_so.0.cached stands.layer;
+      layer = layer_on name own w0 z i p is o (acted l z.whole.world.words a) both_so.0.layer.cached stands.layer;
       lines = moment p.caller w0 z.whole.world (stepped z.whole.world i p a s) s line (both_so.1 0 (omega arith)) stands.lines;
     }
-log_goes name own w0 z i p f next a x is o o' at_line owing stage stands (foot.on_layer {stage = s} {line = line} {leaf = leaf} {offset = offset} none has) told in_step =
+log_goes name own w0 z i p f next a x is o o' at_line owing stage stands (foot.on_layer {stage = s} {line = line} {w = v} none place) told in_step =
     let l = z.whole.world.layout in
     let words = z.whole.world.words in
-    let same : acted l words a ≡ words = set-get_or words (leaf_address l leaf offset) 0 in
+    let same : acted l words a ≡ words = set-get_or words (address_of l (Cached v)) 0 in
     record {
-      layer = layer_on name own w0 z i p is o (acted l words a) (ap (λ (v : List ℕ). (rest_in l v).leaves) same) stands.layer;
-      lines = moment p.caller w0 z.whole.world (stepped z.whole.world i p a s) s line (ap (λ (v : List ℕ). line_field l v Cached 0) same) stands.lines;
+      layer = layer_on name own w0 z i p is o (acted l words a) (ap (λ (ws : List ℕ). (rest_in l ws).layer) same) stands.layer;
+      lines = moment p.caller w0 z.whole.world (stepped z.whole.world i p a s) s line (ap (λ (ws : List ℕ). line_field l ws Cached 0) same) stands.lines;
     }
 log_goes name own w0 z i p f next a x is o o' at_line owing stage stands (foot.on_permutation {stage = s} {line = line} none on) told in_step =
     let l = z.whole.world.layout in
     let both = permutation_beside z i p is o.there a on in
     record {
-      layer = layer_on name own w0 z i p is o (acted l z.whole.world.words a) both.0.cached stands.layer;
+      layer = layer_on name own w0 z i p is o (acted l z.whole.world.words a) both.0.layer.cached stands.layer;
       lines = moment p.caller w0 z.whole.world (stepped z.whole.world i p a s) s line (both.1 0 (omega arith)) stands.lines;
     }
 

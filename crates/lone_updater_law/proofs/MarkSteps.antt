@@ -24,7 +24,7 @@ use Rattle.updater_row_law.specs.RowSteps.{line_at, volatile_at, version_at, Row
 use Rattle.updater_row_law.specs.RowLaw.{RowLawful}
 use Rattle.updater_row_law.proofs.RowChanges.{word_within}
 use Rattle.updater_row_law.proofs.RowColumns.{column-here}
-use Rattle.updater_row_law.proofs.RowStores.{lock_stored, stamp_stored, status_stored, line_emptied, leaf_facts}
+use Rattle.updater_row_law.proofs.RowStores.{lock_stored, stamp_stored, status_stored, line_emptied, layer_facts}
 use Rattle.lone_updater_law.specs.LoneTurns.{line_state, stamp_in, stamp_then, frees_node}
 use Rattle.lone_updater_law.specs.Marks.{Marks, HasEmptied, IsSwept, HasSwept, HasUnstamped, HasDone}
 
@@ -247,8 +247,8 @@ module _ (before : World) (stamp release : ℕ) (l : Layout) (g : ℕ) (some : s
     change_leaves : (e : RowLine) (word : ℕ) (s t : Changing) (a : Action) → RowLawful r ghosts words (Changes e word s) → ChangeStep l (aim_of e word) s a (got l words a) t
         → HasEmptied before stamp m e.line → HasEmptied before stamp (row_marks l (acted l words a)) e.line
     change_leaves e word s t a is step done =
-        let keeps = change_step_keeps l (aim_of e word) is.sure.before words s a t row.whole is.leaves (word_within r ghosts words e word is.law.sure) (λ some_word. is.sure.few) is.sure.sure is.sure.layer step in
-        stores (λ k. HasEmptied before stamp k e.line) (acted l words a) _ (leaf_facts r ghosts words (acted l words a) keeps.others) done
+        let keeps = change_step_keeps l (aim_of e word) is.sure.before words s a t row.whole is.order (word_within r ghosts words e word is.law.sure) (λ some_word. is.sure.few) is.sure.sure is.sure.layer step in
+        stores (λ k. HasEmptied before stamp k e.line) (acted l words a) _ (layer_facts r ghosts words (acted l words a) keeps.others) done
 
     -- of a GONE node that it has come to
     gone_was : (n : ℕ) → m.status n ≡ 2 → HasSwept before stamp release m n → (facts before).status n ≡ 2

@@ -1,14 +1,11 @@
 -- What the actions of a turn give in an index: it may be told that, and of a READY line a node and an anchor.
-use Rattle.std.proofs.Common.{◌≡◌, ◌≢◌, ℕ, ◌/◌, ◌%◌, ◌^◌, ◌<◌, ◌≤◌, List, [], ◌∷◌, slice_index, inl, inr, refl, sym, subst, ap, ◌∙◌, arith}
+use Rattle.std.proofs.Common.{◌≡◌, ◌≢◌, ℕ, ◌/◌, ◌%◌, ◌^◌, ◌<◌, ◌≤◌, List, [], ◌∷◌, slice_index, inl, inr, refl, sym, subst, ap, ◌∙◌, arith, true, false}
 use Rattle.std.proofs.lemmas.Bool.{cases_eq}
 use Rattle.std.proofs.lemmas.List.Elements.{All-head}
 use Rattle.pm_words.specs.declared.layout.Layout.{Layout}
 use Rattle.pm_words.specs.declared.action.Action.{Action}
 use Rattle.pm_words.specs.declared.action.Action.TheVariants.{Load, Store, Exchange, Add, Drain}
-use Rattle.pm_words.specs.declared.fence.FenceAt.{FenceAt}
-use Rattle.pm_words.specs.declared.fence.FenceAt.TheVariants as fence_at
-use Rattle.pm_words.specs.Fences.{fence_at_asks}
-use Rattle.pm_words.specs.Locations.{Location, Leaf, Line, Node, Volatile, Cached, HasLocation, address_of, at, leaf_count}
+use Rattle.pm_words.specs.Locations.{Location, Line, Node, Volatile, Cached, HasLocation, address_of, at}
 use Rattle.pm_words.specs.Rows.{got, given, action_address}
 use Rattle.pm_words.proofs.Apart.{addresses_apart}
 use Rattle.cat_key.specs.Names.{IsName, IsNameByte, words_of}
@@ -30,15 +27,12 @@ use Rattle.index_law.proofs.Rows.{version_in-here, status_in-here, spot_in-here}
 use Rattle.pm_alloc.specs.declared.gone.ReleaseAt.{ReleaseAt}
 use Rattle.pm_alloc.specs.declared.gone.ReleaseAt.TheVariants as release_at
 use Rattle.pm_alloc.specs.Gone.{release_at_asks}
-use Rattle.search_layer.specs.declared.change.Change.{Change}
-use Rattle.search_layer.specs.declared.change.ChangeAt.{ChangeAt}
-use Rattle.search_layer.specs.declared.change.ChangeAt.TheVariants as change_at
-use Rattle.search_layer.specs.declared.reader.Reader.{Reader}
-use Rattle.search_layer.specs.declared.reader.ReaderAt.{ReaderAt}
-use Rattle.search_layer.specs.declared.reader.ReaderAt.TheVariants as reader_at
-use Rattle.search_layer.specs.ChangeSteps.{change_at_asks, IsChangeAt}
-use Rattle.search_layer.specs.Leaves.{leaf_place}
-use Rattle.search_layer.specs.Reading.{IsReader, offset_read, reader_asks}
+use Rattle.search_layer.specs.FloorSteps.{floor_asks}
+use Rattle.search_layer.specs.ChangeSteps.{change_asks}
+use Rattle.search_layer.specs.Laws.{LoadsLayer, IsOnLayer}
+use Rattle.search_layer.specs.Laws as on
+use Rattle.search_layer.proofs.FloorTold.{floor_only_loads}
+use Rattle.search_layer.proofs.ChangeActions.{changes_stay_on_layer}
 use Rattle.smo_log.specs.declared.read.ReadLine.{ReadLine}
 use Rattle.smo_log.specs.LogLines.{numbered_address, caller_of, index_of}
 use Rattle.updater_row_law.specs.Columns.{line_count, line_word, line_field}
@@ -50,6 +44,7 @@ use Rattle.updater.specs.declared.work.WorkAt.TheVariants as at
 use Rattle.updater.specs.Works.{work_at_asks, IsTerms, IsWorkAt, ToldOfLine}
 use Rattle.updater.proofs.WalkLoads.{IsApart, LoadsApart, walk_place}
 use Rattle.updater.proofs.WatchLaw.{none_of_line}
+use Rattle.layer_map.specs.Places.{is_of_layer}
 
 given_fits : (a : Action) (word : ℕ) → word < 2 ^ 64 → given a word < 2 ^ 64
 given_fits (Load place) word small = small
@@ -162,33 +157,17 @@ module _ (l : Layout) where
   no_load : (a : Action) (x : ℕ) → ((place : ℕ) → a ≡ Load place → ⊥) → ToldOfLine l a x
   no_load a x none = record { node = λ line here is. absurd (none _ is); named = λ line here is. absurd (none _ is) }
 
-  leaf_told : (leaf offset x : ℕ) → leaf < leaf_count l → offset < 8 → ToldOfLine l (Load (leaf_place l leaf offset)) x
-  leaf_told leaf offset x within small = apart (Cached (Leaf leaf offset)) (within, small) (λ c j o is. cc) x
+  layer_told : (a : Action) (x : ℕ) → IsOnLayer l a → ToldOfLine l a x
+  layer_told a x (on.loads p has of_layer) = apart p has (λ c j o is. let no : true ≡ false = sym of_layer ∙ ap is_of_layer is in cc) x
+  layer_told a x (on.stores p {y = y} has of_layer) = no_load (Store (address_of l p) y) x (λ place is. cc)
+  layer_told a x (on.drains p {y = y} has of_layer) = no_load (Drain (address_of l p) y) x (λ place is. cc)
 
-  reader_told : (reader : Reader) (x : ℕ) → IsReader l reader → ToldOfLine l (reader_asks l reader) x
-  reader_told reader x is = leaf_told reader.leaf (offset_read reader.at) x is.leaf (small reader.at)
-    where
-      small : (at : ReaderAt) → offset_read at < 8
-      small reader_at.Node = omega arith
-      small (reader_at.First node) = omega arith
-      small (reader_at.Second node first) = omega arith
-      small (reader_at.Third node first second) = omega arith
-
-  fence_told : (leaf word x : ℕ) (at : FenceAt) → leaf < leaf_count l → word < 8 → ToldOfLine l (fence_at_asks (leaf_place l leaf word) at) x
-  fence_told leaf word x fence_at.Load within small = leaf_told leaf word x within small
-  fence_told leaf word x (fence_at.Drain value) within small = no_load (Drain (leaf_place l leaf word) value) x (λ place is. cc)
+  place_told : (a : Action) (x : ℕ) → LoadsLayer l a → ToldOfLine l a x
+  place_told a x asked = subst (λ (b : Action). ToldOfLine l b x) (sym asked.loads) (layer_told (Load (address_of l (Cached asked.word))) x (on.loads (Cached asked.word) asked.place.there asked.place.of_layer))
 
   release_told : (k : Layout) (node : ℕ) (at : ReleaseAt) (x : ℕ) → ToldOfLine l (release_at_asks k node at) x
   release_told k node release_at.Stamp x = no_load (release_at_asks k node release_at.Stamp) x (λ place is. cc)
   release_told k node release_at.Status x = no_load (release_at_asks k node release_at.Status) x (λ place is. cc)
-
--- what a change of the search layer loads
-change_told : (change : Change) (at : ChangeAt) (x : ℕ) → IsChangeAt change.layout at → ToldOfLine change.layout (change_at_asks change at) x
-change_told change (change_at.Looking unused reader) x is = reader_told change.layout reader x is.0
-change_told change (change_at.Filling leaf word) x is = no_load change.layout _ x (λ place is. cc)
-change_told change (change_at.DrainingLeaf leaf fence) x is = fence_told change.layout leaf fence.word x fence.at is.0 is.1.word
-change_told change (change_at.Switching leaf) x is = no_load change.layout _ x (λ place is. cc)
-change_told change (change_at.DrainingSwitch leaf fence) x is = fence_told change.layout leaf fence.word x fence.at is.0 is.1.word
 
 -- the line that it reads is READY
 abbrev pub ReadsReady : Layout → List ℕ → WorkAt → Type 0
@@ -201,18 +180,17 @@ told_of_line terms tally (at.Reading read) words is here fit ready =
     subst (λ (k : Layout). ToldOfLine terms.layout (Load (numbered_address k read.line read.offset)) (got terms.layout words (Load (numbered_address k read.line read.offset)))) (sym here.1.layout)
     (line_told terms.layout words read.line read.offset fit here.0.within (let small : read.offset < 7 = here.1.sound.offset in omega arith) (λ some. ready read refl))
 told_of_line terms tally (at.Landing line entry floor) words is here fit ready =
-    let l : Layout = terms.layout in
-    subst (λ (k : Layout). ToldOfLine l (reader_asks k floor.reader) (got l words (reader_asks k floor.reader))) (sym here.3)
-    (reader_told l floor.reader _ (subst (λ (k : Layout). IsReader k floor.reader) here.3 here.2.reader))
+    let asks : Action = floor_asks floor in
+    place_told terms.layout asks (got terms.layout words asks) (subst (λ (k : Layout). LoadsLayer k asks) here.3 (floor_only_loads floor here.2))
 told_of_line terms tally (at.Walking line entry walk) words is here fit ready =
     none_of_line terms.layout _ _ (subst (λ (k : Layout). LoadsApart k (walk_asks walk)) here.2.layout (walk_place walk here.2.sound))
 told_of_line terms tally (at.Seeing line entry found) words is here fit ready = apart terms.layout (Cached (Node found.node 0)) (here.2, omega arith) (λ c j o is. cc) _
 told_of_line terms tally (at.Setting line entry set) words is here fit ready =
-    let asks : Action = change_at_asks set.change set.change.at in
-    subst (λ (k : Layout). ToldOfLine k asks (got terms.layout words asks)) here.3 (change_told set.change set.change.at (got terms.layout words asks) here.2.change.here)
+    let asks : Action = change_asks set.change in
+    layer_told terms.layout asks (got terms.layout words asks) (subst (λ (k : Layout). IsOnLayer k asks) here.3 (changes_stay_on_layer set.change here.2.change))
 told_of_line terms tally (at.Unsetting line entry unset) words is here fit ready =
-    let asks : Action = change_at_asks unset.change unset.change.at in
-    subst (λ (k : Layout). ToldOfLine k asks (got terms.layout words asks)) here.3 (change_told unset.change unset.change.at (got terms.layout words asks) here.2.change.here)
+    let asks : Action = change_asks unset.change in
+    layer_told terms.layout asks (got terms.layout words asks) (subst (λ (k : Layout). IsOnLayer k asks) here.3 (changes_stay_on_layer unset.change here.2.change))
 told_of_line terms tally (at.Stamping line entry) words is here fit ready = no_load terms.layout _ _ (λ place is. cc)
 told_of_line terms tally (at.Clearing clear) words is here fit ready = no_load terms.layout _ _ (λ place is. cc)
 told_of_line terms tally (at.Status node) words is here fit ready = apart terms.layout (Volatile node 0) (here.within, omega arith) (λ c j o is. cc) _

@@ -20,7 +20,7 @@ use Rattle.node_ops.specs.declared.running.Running.{Running}
 use Rattle.index_layer_law.specs.Layers.{Layered, IsLayered}
 use Rattle.index_law.specs.LoneShapes.{has_merged}
 use Rattle.index_law.specs.Worlds.{Party, World, stepped, moved_on}
-use Rattle.search_layer.specs.Leaves.{layer_of}
+use Rattle.search_layer.specs.Kept.{layer_of}
 use Rattle.updater_law.specs.Covers.{set_at}
 use Rattle.updater_row_law.specs.Columns.{line_count}
 use Rattle.index_layer_law.specs.Turnings.{line_number}

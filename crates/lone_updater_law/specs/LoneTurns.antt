@@ -10,7 +10,7 @@ use Rattle.call_stages.specs.Stages.{Idle}
 use Rattle.index_law.specs.Facts.{IsListed}
 use Rattle.index_law.specs.Worlds.{World, facts}
 use Rattle.index_law.specs.Lawful.{Each}
-use Rattle.search_layer.specs.Leaves.{layer_of}
+use Rattle.search_layer.specs.Kept.{layer_of}
 use Rattle.updater_law.specs.Covered.{IsCovered}
 use Rattle.updater_row_law.specs.Columns.{line_count, line_field, volatile_field}
 use Rattle.updater_row_law.specs.Turnings.{Turning}

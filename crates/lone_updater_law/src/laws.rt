@@ -24,9 +24,9 @@ pub fn lone_turns()
 
 ghost use Rattle.lone_updater_law.specs.CallLogs.{CallsAreInStep, EmptyAreCounted, LogEnds, LogGoes, ReadyAreCounted};
 
-/// A try of a call with nothing else in flight leaves the search layer, and makes one of its caller's log lines READY if
-/// it makes the switch of a split or of a merge; it leaves all other lines in their states. So one line more is READY and
-/// one of the caller's fewer EMPTY, or as many as before.
+/// A try of a call with nothing else in flight leaves the search layer, and makes one of its caller's log lines READY
+/// if it makes the switch of a split or of a merge; it leaves all other lines in their states. So one line more is
+/// READY and one of the caller's fewer EMPTY, or as many as before.
 pub fn call_logs()
     ensures in_step { CallsAreInStep }
     ensures goes { LogGoes }

@@ -15,7 +15,7 @@ use Rattle.pm_words.specs.declared.action.Action.TheVariants.{Load, Exchange}
 use Rattle.pm_words.specs.declared.again.Again.TheVariants.{Moved}
 use Rattle.pm_words.specs.declared.machine.Turn.{Turn}
 use Rattle.pm_words.specs.declared.machine.Turn.TheVariants.{Go, Done}
-use Rattle.pm_words.specs.Locations.{node_words}
+use Rattle.pm_words.specs.Locations.{node_words, Word, Cached, address_of}
 use Rattle.version_lock.specs.Versions.{kept_count, locked_word, is_worn_word}
 use Rattle.data_node.specs.Slots.{IsLive}
 use Rattle.data_node.specs.Bits.{without_live, lowest_live, candidate_bits}
@@ -44,10 +44,9 @@ use Rattle.data_list.specs.WalkStages.{walk_at_watching, walk_watching, view_sta
 use Rattle.data_list.specs.Laws.{IsSighting, IsTarget, EndsAt, Walks, WalkViews}
 use Rattle.data_list.proofs.WalkLaw.{walks_are_looks, walks_are_views}
 use Rattle.search_layer.specs.declared.floor.Floor.{Floor}
-use Rattle.search_layer.specs.FloorSteps.{floor_asks, floor_turned}
-use Rattle.search_layer.specs.Laws.{FloorAfter, LoadsALeaf}
+use Rattle.search_layer.specs.FloorSteps.{floor_asks, floor_turned, floor_left}
+use Rattle.search_layer.specs.Laws.{FloorAfter, LoadsLayer}
 use Rattle.search_layer.proofs.FloorTold.{floor_stays, floor_only_loads}
-use Rattle.call_stages.specs.AnySteps.{HasLeafWord, leaf_address}
 use Rattle.call_stages.specs.declared.once.Once.{Once}
 use Rattle.call_stages.specs.declared.once.Placed.{Placed}
 use Rattle.node_ops.specs.declared.call.Call.{Call}
@@ -64,6 +63,7 @@ use Rattle.node_ops.specs.Calls.{IsCall, name_in, call_address, at_node}
 use Rattle.node_ops.specs.LookupSteps.{floored, came_by, walked_on, IsFlooring, IsWalking, is_spent as has_reached, value_of, goes_to, ends, finds, tried_lock, saw_clock, saw_prints, saw_name, saw_directory, next_candidate, candidate_turned, lookup_at_asks, lookup_at_turned, IsComparing, IsAtSeen, IsLookupAt}
 use Rattle.node_ops.specs.CallStages.{words_from, nothing, knows, timed, decided, held_by, walk_by, at_hold, lookup_at_stage}
 use Rattle.node_ops.proofs.SeenLemmas.{Seen, Stand, seen_append, seen_front, seen_back, stand_taken, taken_stand, stand_whole, whole_stand, stand_more, stand_set, name_stands}
+use Rattle.layer_map.specs.Places.{IsLayerPlace}
 
 -- what is known of the node once the name is looked up: the directory, and the name's words in the slot that has it
 abbrev pub hit_words : Call → Option Hit → List (ℕ × ℕ)
@@ -120,7 +120,7 @@ written_found (Some most) kept call stage action x found some leads = leads
 -- A step on nodes; or one of a call that relies on nothing, which loads a word of the search layer.
 pub data PlainStep (l : Layout) (g : ℕ) : Stage → Action → ℕ → Stage → Option (Once Placed) → Type 0 where
   steps : {stage next : Stage} {action : Action} {x : ℕ} {answer : Option (Once Placed)} → Step l g stage action x next answer → PlainStep l g stage action x next answer
-  reads_layer : {leaf offset x : ℕ} → HasLeafWord l leaf offset → PlainStep l g Idle (Load (leaf_address l leaf offset)) x Idle None
+  reads_layer : {w : Word} {x : ℕ} → IsLayerPlace l w → PlainStep l g Idle (Load (address_of l (Cached w))) x Idle None
 
 -- the kind of step of a turn
 abbrev pub Leads : Sight → Call → Stage → Action → ℕ → Turn Lookup Looked → Type 0
@@ -143,12 +143,12 @@ name_word s slot (suc (suc (suc k))) small = absurd (omega arith)
 floor_leads : (kept : Sight) (call : Call) (floor : Floor) (x : ℕ) → IsFlooring call floor → Leads kept call Idle (floor_asks floor) x (floored call (floor_turned floor x))
 floor_leads kept call floor x here = at (floor_turned floor x)
   where
-    asked : LoadsALeaf floor.layout (floor_asks floor)
+    asked : LoadsLayer floor.layout (floor_asks floor)
     asked = floor_only_loads floor here.sound
 
     reads : PlainStep call.view.layout call.view.generation Idle (floor_asks floor) x Idle None
     reads = subst (λ (l : Layout). PlainStep l call.view.generation Idle (floor_asks floor) x Idle None) here.layout
-        (subst (λ (a : Action). PlainStep floor.layout call.view.generation Idle a x Idle None) (sym asked.loads) (reads_layer (asked.within, asked.small)))
+        (subst (λ (a : Action). PlainStep floor.layout call.view.generation Idle a x Idle None) (sym asked.loads) (reads_layer asked.place))
 
     starts_idle : (limit : Option ℕ) (walk : Walk) → walk.at ≡ walk_at.Version → walk_by limit walk ≡ Idle
     starts_idle None walk is = ap (λ (a : WalkAt). view_stage (walk_at_watching walk.node a)) is
@@ -160,8 +160,8 @@ floor_leads kept call floor x here = at (floor_turned floor x)
         (sym (starts_idle call.limit (walk_from call.view.layout call.view.generation node (key_words call.name)) refl)) reads
 
 -- where it ends, that is at a node of the layout
-pub floor_after : (call : Call) (floor : Floor) (x : ℕ) → IsFlooring call floor → FloorAfter call.view.layout (floor_turned floor x)
-floor_after call floor x here = subst (λ (l : Layout). FloorAfter l (floor_turned floor x)) here.layout (floor_stays floor x here.sound)
+pub floor_after : (call : Call) (floor : Floor) (x : ℕ) → IsFlooring call floor → FloorAfter call.view.layout call.name (floor_left floor) (floor_turned floor x)
+floor_after call floor x here = subst (λ (q : Layout × List ℕ). FloorAfter q.0 q.1 (floor_left floor) (floor_turned floor x)) (λ i. (here.layout i, here.key i)) (floor_stays floor x here.sound)
 
 -- each turn of the walk, as the call's
 pub own_walks : (call : Call) (walk : Walk) (x : ℕ) → IsWalking call walk → Told call.view.layout call.view.generation (walk_asks walk) x

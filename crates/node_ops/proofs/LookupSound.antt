@@ -43,14 +43,8 @@ use Rattle.data_list.specs.WalkStages.{walk_stage}
 use Rattle.data_list.specs.Laws.{IsTarget, Walks}
 use Rattle.version_lock.proofs.WordTests.{fresh_word}
 use Rattle.node_ops.proofs.LookupLaw.{floor_after, own_walks}
-use Rattle.pm_words.specs.Locations.{leaf_count}
 use Rattle.search_layer.specs.declared.floor.Floor.{Floor}
-use Rattle.search_layer.specs.declared.floor.Entry.{Entry}
-use Rattle.search_layer.specs.declared.reader.ReaderAt.{ReaderAt}
-use Rattle.search_layer.specs.declared.reader.ReaderAt.TheVariants as reads
-use Rattle.search_layer.specs.declared.reader.Read.TheVariants as read
-use Rattle.search_layer.specs.Reading.{reads_leaf, read_at}
-use Rattle.search_layer.specs.FloorSteps.{floor_turned, floor_past, floor_read, landed, better}
+use Rattle.search_layer.specs.FloorSteps.{floor_turned, floor_left}
 use Rattle.search_layer.specs.Laws.{FloorAfter}
 
 -- the fields after a turn, and that the call is the same, maybe at another node
@@ -63,30 +57,6 @@ SoundLooked call (Done (looked.Found found)) = IsFoundIn call.limit call.view.la
 abbrev pub Stays : {M : Type 0} → (M → Type 0) → (M → Call) → Call → Turn M (Once Placed) → Type 0
 Stays sound of call (Go machine) = sound machine × IsSame call (of machine)
 Stays sound of call (Done answer) = Unit {0}
-
--- a floor that goes on is of the same key
-abbrev SameKey : List ℕ → Turn Floor ℕ → Type 0
-SameKey key (Go floor) = floor.key ≡ key
-SameKey key (Done node) = Unit {0}
-
-past_same : (floor : Floor) (best : Option Entry) → SameKey floor.key (floor_past floor best)
-past_same floor best =
-    elim (ltb (floor.reader.leaf + 1) (leaf_count floor.layout)) as (λ b. SameKey floor.key (cond b (Go (record floor { best = best; reader = reads_leaf (floor.reader.leaf + 1) })) (Done (landed best)))) [
-      | true ↦ refl
-      | false ↦ tt
-    ]
-
-floor_same : (floor : Floor) (x : ℕ) → SameKey floor.key (floor_turned floor x)
-floor_same floor x = at floor.reader.at
-  where
-    at : (part : ReaderAt) → SameKey floor.key (floor_read floor (read_at part x))
-    at reads.Node = elim (x == 0) as (λ b. SameKey floor.key (floor_read floor (cond b read.Unused (read.Part (reads.First x))))) [
-      | true ↦ past_same floor floor.best
-      | false ↦ refl
-    ]
-    at (reads.First node) = refl
-    at (reads.Second node first) = refl
-    at (reads.Third node first second) = past_same floor (better floor node (first ∷ second ∷ x ∷ []))
 
 -- a locked word that was made of a free one can be given back
 pub lock_word : (generation version word : ℕ) → generation < GENERATION_LIMIT → IsLocking generation version word → IsLockWord word
@@ -140,9 +110,9 @@ module _ (call : Call) (sound : IsCall call) where
         | None ↦ λ is. record { locked = locked; directory = loaded; hit = tt }
       ] refl
 
-  floored_sound : (turn : Turn Floor ℕ) → FloorAfter call.view.layout turn → SameKey call.name turn → SoundLooked call (floored call turn)
-  floored_sound (Go floor) after key = (record { call = sound; here = record { sound = after.0; layout = after.1; key = key } }, refl)
-  floored_sound (Done node) after key = (
+  floored_sound : (left : ℕ) (turn : Turn Floor ℕ) → FloorAfter call.view.layout call.name left turn → SoundLooked call (floored call turn)
+  floored_sound left (Go floor) after = (record { call = sound; here = record { sound = after.0; layout = after.1; key = after.2 } }, refl)
+  floored_sound left (Done node) after = (
     record {
       call = sound;
       here = record {
@@ -229,7 +199,7 @@ module _ (call : Call) (sound : IsCall call) where
       ]
 
   lookup_at_stays : (at : LookupAt) (x : ℕ) → IsLookupAt call at → Told call.view.layout call.view.generation (lookup_at_asks call at) x → SoundLooked call (lookup_at_turned call at x)
-  lookup_at_stays (look.Floor floor) x here told = floored_sound (floor_turned floor x) (floor_after call floor x here) (subst (λ (key : List ℕ). SameKey key (floor_turned floor x)) here.key (floor_same floor x))
+  lookup_at_stays (look.Floor floor) x here told = floored_sound (floor_left floor) (floor_turned floor x) (floor_after call floor x here)
   lookup_at_stays (look.Walk walk) x here told = walked_sound (walk_stage walk) (walk_asks walk) x (walk_turned walk x) (own_walks call walk x here told)
   lookup_at_stays (look.Read seen) x here told = (record { call = sound; here = subst (λ (o : Option ℕ). IsHeldBy o seen.version) (sym here.reads) tt }, refl)
   lookup_at_stays (look.Lock seen word) x here told =

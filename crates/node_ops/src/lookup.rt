@@ -80,8 +80,7 @@ pub enum Looked {
 /// It walks to the node of its name, which a write locks, loads the clock, and looks for the live slot with the call's
 /// name: it compares the name with those of the slots whose fingerprints agree.
 ///
-/// The walk begins at the floor of the name in the search layer, which takes one load for each leaf that is not used and
-/// four for each that is; a row has four leaves more than nodes.
+/// The walk begins at the floor of the name in the search layer, whose loads come first.
 #[derive(Clone, Copy)]
 pub struct Lookup {
     pub call: Call,

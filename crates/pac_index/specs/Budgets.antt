@@ -47,8 +47,8 @@ pub record StopsAt (call : CoreCall) (index : ℕ) (old : Member) (place : Optio
   pub own : placed_by old.state.caller new.seen ≡ placed_by old.state.caller old.seen ++ own_at old.state.caller index
       (change_of (op_of call)) place
 
--- What the steps of one try come to: the first holds of the answer, the second of the place that the write of a call has
--- that was cut off behind a step.
+-- What the steps of one try come to: the first holds of the answer, the second of the place that the write of a call
+-- has that was cut off behind a step.
 abbrev pub OnRan : {T : Type 0} → Ran T → (Once T → Type 0) → (Option ℕ → Type 0) → Type 0
 OnRan (ran.Answered answer) answered cut = answered answer
 OnRan (ran.Cut place) answered cut = cut place

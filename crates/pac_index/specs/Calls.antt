@@ -37,7 +37,8 @@ use Rattle.pac_index.specs.declared.caller.Caller.{Caller}
 use Rattle.pac_index.specs.declared.rule.Member.{Member}
 use Rattle.index_core.specs.Causes.{HasCauseIn}
 use Rattle.index_core.specs.Heard.{RunningTold}
-use Rattle.pac_index.specs.Kept.{Begins, HasPart, KnowsStill, placed_by, noted, view_in, machine_in, added_now, Goes, GoesTimely}
+use Rattle.pac_index.specs.Kept.{Begins, HasPart, KnowsStill, placed_by, noted, view_in, machine_in, added_now, Goes}
+use Rattle.pac_index.specs.Kept.{GoesTimely}
 use Rattle.index_core.specs.Weights.{added_by}
 
 -- What holds of the answer of a try, or where it was cut off.

@@ -74,9 +74,9 @@ pub record IsCrashOf (s : Shared) (callers : List Caller) (seed : ℕ) (image : 
   }
 
 -- What each caller tells was cut off, and an image that is sound by all rules, of the same layout and generation. Its
--- map is the one after a history and after the changes cut off without a place that are found in it. That history begins
--- with what each caller has seen, and has of each just the writes that it has seen itself place, each once and in this
--- order.
+-- map is the one after a history and after the changes cut off without a place that are found in it. That history
+-- begins with what each caller has seen, and has of each just the writes that it has seen itself place, each once and
+-- in this order.
 pub record CrashMeeting (s : Shared) (callers : List Caller) (crashed : Crashed) : Type 0 where
   pub cuts : crashed.cuts.items ≡ map cut_of callers
   pub history : List Write

@@ -59,9 +59,9 @@ pub record IsCutTurnTry (parties : ℕ) (old new : Caller) : Type 0 where
   pub spent : new.left ≡ Some 0
   pub cut : (new ≡ old) ⊎ TurnStops parties (seen_by old) (pins_of old) (seen_by new) (pins_of new)
 
--- A turn was cut off that is tried again while it finds the updater lock taken. Its caller has no step left: as the turn
--- began, so that nothing has changed, or behind tries that found the lock taken. Until its last try its party made no
--- step on the epoch.
+-- A turn was cut off that is tried again while it finds the updater lock taken. Its caller has no step left: as the
+-- turn began, so that nothing has changed, or behind tries that found the lock taken. Until its last try its party made
+-- no step on the epoch.
 pub record IsCutTurn (parties : ℕ) (old new : Caller) : Type 0 where
   pub spent : new.left ≡ Some 0
   pub cut : (new ≡ old) ⊎ AtLast FoundHeld (λ before after. TurnCutsOff parties before (pins_of old) after

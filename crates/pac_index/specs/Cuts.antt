@@ -57,8 +57,8 @@ pub record IsCutWithin (back : Member → Member → Type 0) (call : CoreCall) (
       (seen_by new)
   pub tells : IfSome new.cut (λ (cut : CutCall). (cut.call ≡ call) × (cut.index ≡ old.index))
 
--- A call was cut off that is tried again while it is turned back. Its caller has no step left: as the call began, so that
--- nothing has changed, or within a try.
+-- A call was cut off that is tried again while it is turned back. Its caller has no step left: as the call began, so
+-- that nothing has changed, or within a try.
 pub record IsCutCall (back : Member → Member → Type 0) (call : CoreCall) (old new : Caller) : Type 0 where
   pub spent : new.left ≡ Some 0
   pub index : new.index ≡ old.index

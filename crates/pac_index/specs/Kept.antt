@@ -1,5 +1,6 @@
 -- What the table keeps, and what one step tells.
-use Rattle.std.specs.Prelude.{◌*◌, ◌/◌, ◌≡◌, ℕ, ◌+◌, ◌<◌, ◌≤◌, ◌^◌, ◌==◌, Bool, true, false, if◌then◌else◌, List, [], ◌∷◌, ◌++◌}
+use Rattle.std.specs.Prelude.{◌*◌, ◌/◌, ◌≡◌, ℕ, ◌+◌, ◌<◌, ◌≤◌, ◌^◌, ◌==◌, Bool, true, false, if◌then◌else◌, List, []}
+use Rattle.std.specs.Prelude.{◌∷◌, ◌++◌}
 use Rattle.std.specs.Prelude.{length, map, Some, None, IfSome}
 use mathlib.Core.Option.{some}
 use lib.ListN.{get_elem?}
@@ -119,7 +120,8 @@ IsHalfPaid about views = about.layout.nodes * (about.layout.slots / 2) ≤ openi
 
 -- So it is where a party of this view has found no node FREE.
 abbrev pub AllPaid : About → List (List Member) → List Member → Type 0
-AllPaid about views view = (k : ℕ) (m : Member) → get_elem? view k ≡ some m → m.none_free ≡ true → IsHalfPaid about views
+AllPaid about views view = (k : ℕ) (m : Member) → get_elem? view k ≡ some m → m.none_free ≡ true →
+    IsHalfPaid about views
 
 -- A part as the core knows it.
 abbrev pub known_part : AnsweredPart → KnownPart

@@ -120,8 +120,8 @@ pub record TurnRuns (epoch : ℕ) (old : Member) (turn : Turn MakeTurn TurnReply
   pub own : placed_by old.state.caller new.seen ≡ placed_by old.state.caller old.seen
   pub ready : TurnReady old.about.layout turn
 
--- Among the numbers that a turn was told stand the statuses of all nodes, from the first to the last, and it answers that
--- it found none FREE exactly where none of them is.
+-- Among the numbers that a turn was told stand the statuses of all nodes, from the first to the last, and it answers
+-- that it found none FREE exactly where none of them is.
 pub record FoundStatuses (l : Layout) (none_free : Bool) (told : List ℕ) : Type 0 where
   pub before : List ℕ
   pub statuses : List ℕ
@@ -136,8 +136,8 @@ TellsOfFree l told (reply.Turned turned) = FoundStatuses l turned.none_free told
 TellsOfFree l told (reply.Held word) = Unit {0}
 
 -- What a turn at this epoch is answered: what its machine ends with on the numbers that its steps on the table gave, of
--- which the caller's count of steps tells how many there were. The caller has seen a longer history, with no more writes
--- of its own, and has counted no call.
+-- which the caller's count of steps tells how many there were. The caller has seen a longer history, with no more
+-- writes of its own, and has counted no call.
 pub record TurnAnswers (epoch : ℕ) (old : Member) (answer : TurnReply) (new : Member) : Type 0 where
   pub about : new.about ≡ old.about
   pub state : new.state ≡ record old.state { turn = None }

@@ -52,9 +52,9 @@ HaveTurned call index (suc turns) old new = (before : Member) × (none_free : Bo
     HaveTurned call index turns old before ×
     AtLast (WriteBack call index) (TurnedForRoom call index none_free) before new
 
--- A put found no room. It placed nothing. At least four of its tries found no node to split their own with, and the turn
--- behind the last of them found none FREE, which the caller's view notes. After as many writes as a clock of the put's
--- time says, the map lacked its name and had at least as many names as a node has slots.
+-- A put found no room. It placed nothing. At least four of its tries found no node to split their own with, and the
+-- turn behind the last of them found none FREE, which the caller's view notes. After as many writes as a clock of the
+-- put's time says, the map lacked its name and had at least as many names as a node has slots.
 pub record FoundFull (call : CoreCall) (index : ℕ) (old new : Member) : Type 0 where
   pub reads : HasOnlyRead old new
   pub earlier : ℕ

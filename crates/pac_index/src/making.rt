@@ -58,7 +58,8 @@ impl Shared {
         requires table { all.table_id ≡ self.now.table.shared.table_id }
         requires all { all.me ≡ (first_view self.now.about, []) }
         requires seats { HasSeats self.now.epochs self.now.epochs.parties seats.items × AreNewSeats seats.items }
-        ensures callers { IfOk result (λ callers. HasCallers self.now (parties_of self.now.about.layout) callers.items) }
+        ensures callers { IfOk result
+            (λ callers. HasCallers self.now (parties_of self.now.about.layout) callers.items) }
         ensures fresh { IfOk result (λ callers. AreNew callers.items) }
     {
         let count = self.about.layout.callers() + 1;

@@ -23,8 +23,8 @@ use std::thread::yield_now;
 use updater::Turned;
 
 impl Shared {
-    /// A get by one of the callers before the last, which is the updater's. It takes no lock. It is tried again while it
-    /// is turned back, so it may wait for as long as others lock the node or change it under the get.
+    /// A get by one of the callers before the last, which is the updater's. It takes no lock. It is tried again while
+    /// it is turned back, so it may wait for as long as others lock the node or change it under the get.
     pub fn get<R: Wait>(&self, rt: &R, caller: &mut Caller, name: &Name) -> Ended<Placed>
         requires caller { IsCallerOf self.now caller.old }
         requires worker { caller.old.number < self.now.about.layout.callers }
@@ -149,8 +149,8 @@ impl Shared {
         unreachable!()
     }
 
-    /// A turn of the updater by any caller. It is tried again while another party has the updater lock, so it may wait for
-    /// as long as that one has it.
+    /// A turn of the updater by any caller. It is tried again while another party has the updater lock, so it may wait
+    /// for as long as that one has it.
     pub fn turn<R: Wait>(&self, rt: &R, caller: &mut Caller) -> Ended<Turned>
         requires caller { IsCallerOf self.now caller.old }
         ensures caller { IsCallerOf self.now caller.new }

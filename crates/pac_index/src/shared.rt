@@ -124,8 +124,8 @@ impl Shared {
         }
     }
 
-    /// One part of a range scan by the seat's party, in the same way. What it lists takes some 2 KB, so it has a function
-    /// of its own, and a call on one name clears no such room.
+    /// One part of a range scan by the seat's party, in the same way. What it lists takes some 2 KB, so it has a
+    /// function of its own, and a call on one name clears no such room.
     pub(crate) fn run_part<C: BeginsCall, G: Gate>(
         &self,
         seat: &mut Seat<(), Members>,

@@ -28,12 +28,12 @@ use std::marker::Brand;
 use updater::{TakeTurn, Turned, Work};
 
 impl Shared {
-    /// One try of a turn of the updater, beside the calls of the others: it takes the READY log lines to the search layer
-    /// and empties them, and makes merged nodes FREE. Once it has the updater lock it tries to advance the epoch, and
-    /// loads it: that is the stamp for the nodes that it finds merged, and those are made FREE whose stamp is two less or
-    /// lower, so that each pin that is held was taken behind their stamp. The last caller makes such turns alone, and
-    /// each other caller may make one too. `Held` comes exactly where its first action finds the updater lock taken; then
-    /// the epoch isn't touched. It takes no pin, places no write and counts no call.
+    /// One try of a turn of the updater, beside the calls of the others: it takes the READY log lines to the search
+    /// layer and empties them, and makes merged nodes FREE. Once it has the updater lock it tries to advance the epoch,
+    /// and loads it: that is the stamp for the nodes that it finds merged, and those are made FREE whose stamp is two
+    /// less or lower, so that each pin that is held was taken behind their stamp. The last caller makes such turns
+    /// alone, and each other caller may make one too. `Held` comes exactly where its first action finds the updater
+    /// lock taken; then the epoch isn't touched. It takes no pin, places no write and counts no call.
     pub fn turn_once(&self, caller: &mut Caller) -> TriedTurn
         requires caller { IsCallerOf self.now caller.old }
         ensures caller { IsCallerOf self.now caller.new }
@@ -166,8 +166,8 @@ impl Shared {
         self.act::<FirstTurnStep>(seat, TakeTurn::new(self.about.layout).action())
     }
 
-    /// Tries once to advance the epoch, and loads it, for a turn that has the updater lock and has done nothing under it:
-    /// so the epoch stands still until that turn gives the lock back.
+    /// Tries once to advance the epoch, and loads it, for a turn that has the updater lock and has done nothing under
+    /// it: so the epoch stands still until that turn gives the lock back.
     pub(crate) fn date_turn(
         &self,
         seat: &Seat<(), Members>,
@@ -185,7 +185,8 @@ impl Shared {
         (epoch, advanced)
     }
 
-    /// The first step of a turn that has the updater lock, with the gate before it. From here on it is one at this epoch.
+    /// The first step of a turn that has the updater lock, with the gate before it. From here on it is one at this
+    /// epoch.
     pub(crate) fn begin_work<E: HasEpoch, G: Gate>(
         &self,
         seat: &mut Seat<(), Members>,

@@ -11,7 +11,7 @@ use Rattle.pm_words.proofs.Apart.{at-set_other}
 use Rattle.pm_words.proofs.Kept.{action_address-drain}
 use Rattle.call_stages.specs.Stages.{Stage}
 use Rattle.call_stages.specs.Lines.{line_address}
-use Rattle.call_stages.specs.AnySteps.{leaf_address, IsBeside as IsBesideAction, loads_line, stores_line, drains_line, stores_prev, loads_leaf, on_permutation, loads, stores, volatile_address}
+use Rattle.call_stages.specs.AnySteps.{IsBeside as IsBesideAction, loads_line, stores_line, drains_line, stores_prev, loads_layer, on_permutation, loads, stores, volatile_address}
 use Rattle.permutation_law.specs.Permuted.{made_at, permutation_in}
 use Rattle.permutation_law.specs.Laws.{IsSpared}
 use Rattle.index_law.specs.Beside.{IsBeside}
@@ -98,6 +98,6 @@ left_beside l words a n (drains_line {c = c} {j = j} {offset = offset} {y = y} h
     subst (λ (place : ℕ). IsLeft l words (slice_set words place y) n) (sym (action_address-drain l (Line c j offset) y)) (left_stored l words (Durable (Line c j offset)) y n has (λ o least e. cc))
 left_beside l words a n (stores_prev {n = m} {y = y} here fits) spared =
     left_stored l words (Volatile m 1) y n (here, omega arith) (λ o least e. let no : o ≡ 1 = ap offset_of e in omega arith)
-left_beside l words a n (loads_leaf {leaf = leaf} {offset = offset} has) spared = left_same l words (acted l words a) n (set-get_or words (leaf_address l leaf offset) 0)
+left_beside l words a n (loads_layer {w = v} place) spared = left_same l words (acted l words a) n (set-get_or words (address_of l (Cached v)) 0)
 left_beside l words a n (on_permutation (loads {n = m} {offset = offset} here of)) spared = left_same l words (acted l words a) n (set-get_or words (volatile_address l m offset) 0)
 left_beside l words a n (on_permutation (stores here of fits)) spared = absurd spared

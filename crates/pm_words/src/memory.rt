@@ -1,7 +1,8 @@
 ghost use Rattle.std.specs.Prelude.{◌≡◌, ◌+◌, ◌<◌, IfOk, slice_index};
 ghost use Rattle.pm_words.specs.Layouts.{IsLayout};
 ghost use Rattle.pm_words.specs.Locations.{image_words, row_words};
-ghost use Rattle.pm_words.specs.Rows.{IsRow, MayName, CanAct, action_address, acted, got, evicted, cached_row, durable_row, row_of};
+ghost use Rattle.pm_words.specs.Rows.{IsRow, MayName, CanAct, action_address, acted, got, evicted, cached_row};
+ghost use Rattle.pm_words.specs.Rows.{durable_row, row_of};
 ghost use Rattle.pm_words.specs.declared.action.Action.TheVariants.{Store};
 
 use crate::NoMemory;

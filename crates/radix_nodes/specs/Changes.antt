@@ -58,7 +58,8 @@ AddsBy cell byte reference switch (Some first) =
 abbrev pub Adds : Cell → ℕ → ℕ → Added → Type 0
 Adds cell byte reference added = AddsBy cell byte reference added.switch added.first
 
--- No place is free: each entry has a child, or each place of form 48 is some byte's. Form 256 has a place for each byte.
+-- No place is free: each entry has a child, or each place of form 48 is some byte's. Form 256 has a place for each
+-- byte.
 abbrev pub HasPlaces : CellWords → ℕ → ℕ → Type 0
 HasPlaces c first count = (i : ℕ) → i < count → c (first + i) ≢ 0
 

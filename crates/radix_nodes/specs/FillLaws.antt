@@ -12,7 +12,8 @@ use Rattle.radix_nodes.specs.declared.filling.Filling.TheVariants.{Store, Drain}
 use Rattle.radix_nodes.specs.declared.fill_leaf.FillLeaf.{FillLeaf}
 use Rattle.radix_nodes.specs.declared.fill_cell.FillCell.{FillCell}
 use Rattle.radix_nodes.specs.Cells.{words_of}
-use Rattle.radix_nodes.specs.Fills.{leaf_value, lines_of, IsFilling, filling_start, IsFillLeaf, fill_leaf_asks, fill_leaf_turned}
+use Rattle.radix_nodes.specs.Fills.{leaf_value, lines_of, IsFilling, filling_start, IsFillLeaf, fill_leaf_asks}
+use Rattle.radix_nodes.specs.Fills.{fill_leaf_turned}
 use Rattle.radix_nodes.specs.Fills.{IsFillCell, fill_cell_asks, fill_cell_turned}
 
 -- A leaf or a cell: how many lines it has, its words by their offsets, and what is to stand there.
@@ -80,10 +81,11 @@ pub record AreBeside (l : Layout) (part : Part) (words words' : List ℕ) : Type
 
 abbrev pub FillsStay : Type 0
 FillsStay = (l : Layout) (part : Part) (filling : Filling) (words words' : List ℕ) →
-    IsFilling part.lines filling → AreBeside l part words words' → IsFilledTo l part filling words → IsFilledTo l part filling words'
+    IsFilling part.lines filling → AreBeside l part words words' → IsFilledTo l part filling words →
+    IsFilledTo l part filling words'
 
--- Each step of a machine can be made, and leaves the part filled further; after the last one it is filled: both twins of
--- each of its words are as asked for.
+-- Each step of a machine can be made, and leaves the part filled further; after the last one it is filled: both twins
+-- of each of its words are as asked for.
 abbrev pub LeafAfter : Layout → Part → Turn FillLeaf (Unit {0}) → List ℕ → Type 0
 LeafAfter l part (Go m) words = IsFillLeaf m × IsFilledTo l part m.at words
 LeafAfter l part (Done answer) words = IsFilled l part words

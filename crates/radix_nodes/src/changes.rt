@@ -4,7 +4,8 @@ ghost use Rattle.std.specs.Prelude.{◌≡◌, ◌≢◌, ℕ, ◌+◌, ◌<◌,
 ghost use Rattle.radix_nodes.specs.Cells.{words_of, children_of, seek, IsReference, IsCell};
 ghost use Rattle.radix_nodes.specs.Entries.{IsFreeEntry, IsEntryOf};
 ghost use Rattle.radix_nodes.specs.Places.{IsFreePlace, AddsEntry, AddsInPlace, index_store_of};
-ghost use Rattle.radix_nodes.specs.Changes.{Adds, IsFull, HasPlaces, IsTaken, Removes, IsOneMore, HasTwoMore, SetsChild};
+ghost use Rattle.radix_nodes.specs.Changes.{Adds, IsFull, HasPlaces, IsTaken, Removes, IsOneMore, HasTwoMore};
+ghost use Rattle.radix_nodes.specs.Changes.{SetsChild};
 
 use crate::cell::{
     Cell, CellStore, ENTRY, FIRST, FIRST_OF_4, FORM_4, FORM_16, FORM_48, PLACES, byte_set,

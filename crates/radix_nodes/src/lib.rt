@@ -1,9 +1,9 @@
-//! The cells of a radix tree as words: their four forms, for 4, 16, 48 and 256 children, look-ups in them, and the stores
-//! that change them. They are the inner nodes of the adaptive radix tree (Leis, Kemper, Neumann, ICDE 2013).
+//! The cells of a radix tree as words: their four forms, for 4, 16, 48 and 256 children, look-ups in them, and the
+//! stores that change them. They are the inner nodes of the adaptive radix tree (Leis, Kemper, Neumann, ICDE 2013).
 //!
-//! A cell stands for the keys with a common prefix, which is its first bytes, as many as its depth; its children are told
-//! apart by the next byte, the branch byte. A child is a reference, to a leaf or to another cell; 0 is none. Word 0 of a
-//! cell is its depth, the words 1 to 3 are the prefix with zeros behind it.
+//! A cell stands for the keys with a common prefix, which is its first bytes, as many as its depth; its children are
+//! told apart by the next byte, the branch byte. A child is a reference, to a leaf or to another cell; 0 is none. Word
+//! 0 of a cell is its depth, the words 1 to 3 are the prefix with zeros behind it.
 //!
 //! ```text
 //! form   kind  words   children
@@ -13,9 +13,9 @@
 //!  256      5    264   8 to 263: a reference for each branch byte
 //! ```
 //!
-//! The words 4 to 7 of the larger forms are 0. A change of a cell in use is one store of one word, so whoever reads it in
-//! between, or finds it after a crash, sees the children as they were before or as they are after. In form 48 a new child
-//! takes two stores; the first one puts the reference into a place that no branch byte has, and changes no child.
+//! The words 4 to 7 of the larger forms are 0. A change of a cell in use is one store of one word, so whoever reads it
+//! in between, or finds it after a crash, sees the children as they were before or as they are after. In form 48 a new
+//! child takes two stores; the first one puts the reference into a place that no branch byte has, and changes no child.
 #![tactic(auto)]
 
 mod cell;

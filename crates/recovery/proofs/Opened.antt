@@ -9,7 +9,7 @@ use Rattle.cat_history.specs.declared.op.Write.{Write}
 use Rattle.pm_words.specs.Codes.{gone_status, empty_state}
 use Rattle.pm_words.specs.declared.layout.Layout.{Layout}
 use Rattle.pm_words.specs.Images.{Row}
-use Rattle.pm_words.specs.Locations.{Word, Location, Root, Leaf, Cached, Durable, HasWord, at}
+use Rattle.pm_words.specs.Locations.{Word, Location, Root, Cached, Durable, HasWord, at}
 use Rattle.pm_words.specs.Rows.{IsRow, durable_row}
 use Rattle.version_lock.specs.Versions.{IsGeneration}
 use Rattle.data_node.specs.Lists.{ListNode, MakeList, Rise, range_in}
@@ -22,8 +22,8 @@ use Rattle.image_rules.specs.Sound.{image_map, IsMapOf as IsImageMap}
 use Rattle.image_rules.proofs.MapLemmas.{sound_has_map}
 use Rattle.image_rules.specs.Weights.{image_weight}
 use Rattle.image_layer_rules.specs.Sound.{IsSoundByAll, in_image}
-use Rattle.search_layer.specs.Leaves.{leaves_in}
-use Rattle.search_layer.proofs.LeafRows.{leaves_in-alike}
+use Rattle.search_layer.specs.Rows.{layer_words}
+use Rattle.search_layer.proofs.RowLemmas.{rows_alike}
 use Rattle.index_law.specs.Facts.{Facts, list_in, spot_in}
 use Rattle.index_law.specs.Weights.{gone_weight, index_weight}
 use Rattle.index_law.specs.Worlds.{facts}
@@ -95,8 +95,8 @@ module _ (from row : Row) (recovered : IsRecoveredTo from row) where
 
     columns_kept : (twin : Word → Location) → ((w : Word) → HasWord l w → at l words (twin w) ≡ at l row.words (twin w)) → columns_in l words twin ≡ columns_in l row.words twin
     columns_kept twin same =
-        columns_alike l (λ w. at l row.words (twin w)) (λ w. at l words (twin w)) (leaves_in l row.words twin) (leaves_in l words twin) (λ w rest. same w rest.0)
-        (λ leaf o. leaves_in-alike l row.words words twin leaf o (λ here low. same (Leaf leaf o) (here, low)))
+        columns_alike l (λ w. at l row.words (twin w)) (λ w. at l words (twin w)) (layer_words l row.words twin) (layer_words l words twin) (λ w rest. same w rest.0)
+        (rows_alike l row.words words twin twin (λ w place. same w place.there))
 
     cached_kept : columns_in l words Cached ≡ columns_in l row.words Cached
     cached_kept = columns_kept Cached (λ w has. beside_here (Cached w) has (λ mark. mark))

@@ -16,8 +16,8 @@ use Rattle.image_recovery.specs.Recovered.{IsLeftOf, IsRecoverable}
 use Rattle.image_recovery.specs.Recoveries.{HasEnded, IsRecovering, MakesOne}
 use Rattle.recovery.specs.declared.stopping.Recovery.{Recovery}
 
--- It is a recovery of this image, which is sound by all rules and has a next generation, at some moment of it. It has in
--- hand what the index needs: the image's map as pairs, and parties that have made no call.
+-- It is a recovery of this image, which is sound by all rules and has a next generation, at some moment of it. It has
+-- in hand what the index needs: the image's map as pairs, and parties that have made no call.
 pub record IsRecoveryOf (image : Row) (r : Recovery) : Type 0 where
   pub sound : IsSoundByAll image.layout image.words
   pub next : IsGeneration (suc (header_generation image.layout image.words))
@@ -58,21 +58,21 @@ evicted_in r word = record r { memory = record r.memory { words = evicted r.memo
 abbrev pub crash_of : Recovery → Row
 crash_of r = record { layout = r.memory.layout; words = durable_row r.memory.layout r.memory.words }
 
--- What is left of an image where its recovery is broken off: an image that is sound by all rules, with the same list, map
--- and weight, in its generation or the next one.
+-- What is left of an image where its recovery is broken off: an image that is sound by all rules, with the same list,
+-- map and weight, in its generation or the next one.
 pub record IsLeftBy (image left : Row) : Type 0 where
   pub layout : left.layout ≡ image.layout
   pub is : IsLeftOf image left.words
 
--- The last image is what is left of the first one after so many recoveries, of which each began with what was left of the
--- one before and was broken off at some moment.
+-- The last image is what is left of the first one after so many recoveries, of which each began with what was left of
+-- the one before and was broken off at some moment.
 pub data IsBroken (image : Row) : ℕ → Row → Type 0 where
   whole : IsBroken image 0 image
   again : (count : ℕ) (between : Row) (r : Recovery) → IsBroken image count between → IsRecoveryOf between r →
       IsBroken image (suc count) (crash_of r)
 
--- What is left is as good as the first image was: sound by all rules, with the same list, map and weight. Its generation
--- has risen by as many at most as there were recoveries.
+-- What is left is as good as the first image was: sound by all rules, with the same list, map and weight. Its
+-- generation has risen by as many at most as there were recoveries.
 pub record IsAsGood (image : Row) (count : ℕ) (left : Row) : Type 0 where
   pub layout : left.layout ≡ image.layout
   pub is_image : IsImage left.layout left.words

@@ -3,8 +3,8 @@
 ghost use Rattle.recovery.specs.Crashed.{CrashIsUndamaged};
 ghost use Rattle.recovery.specs.Stops.{BrokenAreAsGood};
 
-/// An image that a crash left, at whatever moment, is never refused as damaged: it is opened, unless it is one of the last
-/// generation, or memory runs out.
+/// An image that a crash left, at whatever moment, is never refused as damaged: it is opened, unless it is one of the
+/// last generation, or memory runs out.
 pub fn crash_law()
     ensures { CrashIsUndamaged }
 {}

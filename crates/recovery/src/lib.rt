@@ -2,8 +2,8 @@
 //!
 //! An image that is sound by all rules, and of which there is a next generation, is recovered (`image_recovery`). Then
 //! its volatile words are made to tell its list, and it is an index of which nobody has made a call yet. `recover` does
-//! all of this; a `Recovery` makes one action at a time, and may be stopped by a crash. Where a fresh image is opened, or
-//! that of an index at rest, only memory can be wanting (`open_fresh`, `reopen`).
+//! all of this; a `Recovery` makes one action at a time, and may be stopped by a crash. Where a fresh image is opened,
+//! or that of an index at rest, only memory can be wanting (`open_fresh`, `reopen`).
 #![tactic(auto)]
 
 mod cores;

@@ -19,9 +19,9 @@ use std::sync::ledger::{Blank, Ledger};
 /// Recovers an image and opens it as an index.
 ///
 /// The index has the image's list, map and weight, in the next generation, with an empty log and a search layer that is
-/// exactly the list's. All of it is durable. Its base is the image's map, and its history is empty; no call is in flight,
-/// and no node was locked yet. An image that isn't sound is refused by the first of all rules that it breaks, and so is
-/// one of the last generation.
+/// exactly the list's. All of it is durable. Its base is the image's map, and its history is empty; no call is in
+/// flight, and no node was locked yet. An image that isn't sound is refused by the first of all rules that it breaks,
+/// and so is one of the last generation.
 ///
 /// It takes time in proportion to the words of the image.
 pub fn recover(alloc: Global, image: Image) -> Result<Core, OpenFault>

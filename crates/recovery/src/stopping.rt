@@ -9,7 +9,8 @@ ghost use Rattle.version_lock.specs.Versions.{IsGeneration};
 ghost use Rattle.image_recovery.specs.Plans.{columns};
 ghost use Rattle.image_recovery.specs.Recovered.{IsOpenFault};
 ghost use Rattle.recovery.specs.Opened.{IsOpenedFrom};
-ghost use Rattle.recovery.specs.Stops.{IsDone, IsLeftBy, IsRecoveryOf, IsStarted, MayGoOn, StepsOne, crash_of, evicted_in};
+ghost use Rattle.recovery.specs.Stops.{IsDone, IsLeftBy, IsRecoveryOf, IsStarted, MayGoOn, StepsOne, crash_of};
+ghost use Rattle.recovery.specs.Stops.{evicted_in};
 
 use crate::telling::tell_list;
 use cat_history::{Items, Write};
@@ -106,8 +107,8 @@ impl Recovery {
         self.memory.evict(word);
     }
 
-    /// The image that is left where power fails now: what is durable. It is sound by all rules, and has the map, the list
-    /// and the weight of the first image, in its generation or the next one.
+    /// The image that is left where power fails now: what is durable. It is sound by all rules, and has the map, the
+    /// list and the weight of the first image, in its generation or the next one.
     pub fn crash(self) -> Image
         ensures image { result ≡ crash_of self }
         ensures left { (image : Row) → IsRecoveryOf image self → IsLeftBy image result }

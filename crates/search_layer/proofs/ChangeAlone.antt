@@ -5,19 +5,23 @@ use Rattle.pm_words.specs.declared.action.Action.{Action}
 use Rattle.pm_words.specs.declared.action.Action.TheVariants.{Load, Store, Exchange, Add, Drain}
 use Rattle.pm_words.specs.declared.machine.Turn.{Turn}
 use Rattle.pm_words.specs.declared.machine.Turn.TheVariants.{Go, Done}
-use Rattle.pm_words.specs.Locations.{Cached, Durable, leaf_count}
+use Rattle.pm_words.specs.Locations.{Cached, Durable}
 use Rattle.pm_words.specs.Rows.{IsRow, CanAct, acted, got, given, action_address}
 use Rattle.pm_words.proofs.Kept.{acted_row}
 use Rattle.search_layer.specs.declared.change.Change.{Change}
-use Rattle.search_layer.specs.Layers.{AreSame, HasFew}
-use Rattle.search_layer.specs.Leaves.{leaves_in, layer_of, IsInOrder, KeepsOthers}
+use Rattle.layer_map.specs.Layers.{AreSame, HasFew}
+use Rattle.search_layer.specs.Rows.{layer_words, KeepsOthers}
+use Rattle.search_layer.specs.Kept.{layer_of, IsInOrder}
 use Rattle.search_layer.specs.ChangeSteps.{change_starts, change_asks, change_turned, IsChange}
-use Rattle.search_layer.specs.ChangeStages.{Aim, ChangeStep, made_of, SureChanging, LayerAt}
+use Rattle.search_layer.specs.ChangeStages.{Aim, ChangeStep, made_of, LayerAt}
 use Rattle.search_layer.specs.Laws.{stage_of, aim_of, stage_after, SoundAfter, ChangeKeeps, IsAtRest}
 use Rattle.search_layer.proofs.ChangeSteps.{change_step_keeps}
 use Rattle.search_layer.proofs.ChangeTurns.{changes_are_steps}
 use Rattle.search_layer.proofs.ChangeSound.{changes_stay_sound}
 use Rattle.search_layer.proofs.ChangeActions.{change_can_act}
+use Rattle.search_layer.specs.Laws.{SureIn}
+use Rattle.search_layer.specs.Rows.{layer_words}
+use Rattle.search_layer.proofs.ChangeLaw.{change_begins}
 
 given_fits : (a : Action) (word : ℕ) → word < 2 ^ 64 → given a word < 2 ^ 64
 given_fits (Load address) word small = small
@@ -33,7 +37,7 @@ pub record Lone (l : Layout) (target : Aim) (words : List ℕ) (change : Change)
   pub sound : IsChange change
   pub row : IsRow l now
   pub leaves : IsInOrder l now
-  pub sure : SureChanging (leaf_count l) l.nodes target (layer_of l words) (stage_of change) (leaves_in l now Cached) (leaves_in l now Durable)
+  pub sure : SureIn l (layer_of l words) target (stage_of change) now
   pub layer : LayerAt target (layer_of l words) (stage_of change) (layer_of l now)
 
 module _ (l : Layout) (aim : Aim) (words : List ℕ) (fits : aim.word ≤ l.nodes) (few : aim.word ≢ 0 → HasFew l.nodes (layer_of l words)) (change : Change) (now : List ℕ) (lone : Lone l aim words change now) where
@@ -83,13 +87,12 @@ module _ (l : Layout) (aim : Aim) (words : List ℕ) (fits : aim.word ≤ l.node
 
 pub lone_begins : (l : Layout) (words : List ℕ) (change : Change) → IsRow l words → change ≡ change_starts l change.key change.word → IsChange change → IsAtRest l words
     → Lone l (record { key = change.key; word = change.word }) words change words
-lone_begins l words change row start sound rest = record {
+lone_begins l words change row start sound rest = let begun = change_begins l (layer_of l words) (record { key = change.key; word = change.word }) (layer_words l words Cached) (layer_words l words Durable) rest.row rest.even (λ k. refl) in record {
   layout = ap (λ (m : Change). m.layout) start;
   aims = refl;
   sound = sound;
   row = row;
   leaves = rest.row;
-  sure = subst (λ (m : Change). SureChanging (leaf_count l) l.nodes (record { key = change.key; word = change.word }) (layer_of l words) (stage_of m) (leaves_in l words Cached) (leaves_in l words Durable)) (sym start)
-      (record { none_below = λ i lt. absurd (omega arith); unused = tt; used = λ e i lt. absurd (omega arith); seen = tt }, rest.even);
-  layer = subst (λ (m : Change). LayerAt (record { key = change.key; word = change.word }) (layer_of l words) (stage_of m) (layer_of l words)) (sym start) (λ k. refl);
+  sure = subst (λ (m : Change). SureIn l (layer_of l words) (record { key = change.key; word = change.word }) (stage_of m) words) (sym start) begun.0;
+  layer = subst (λ (m : Change). LayerAt (record { key = change.key; word = change.word }) (layer_of l words) (stage_of m) (layer_of l words)) (sym start) begun.1;
 }

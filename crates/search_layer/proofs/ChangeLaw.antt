@@ -1,12 +1,16 @@
 -- Each kind of step of a change keeps what is known of the leaves, and only the switch store changes the layer, at the key.
 use Rattle.std.proofs.Common.{◌≡◌, ◌≢◌, ℕ, ◌+◌, ◌⊎◌, ◌<◌, ◌≤◌, true, false, cond, List, Option, Some, None, slice_index, inl, inr, refl, sym, subst, ap, ap₂, ◌∙◌, arith}
 use Rattle.std.proofs.lemmas.Bool.{cases_eq, cases_lt, eq-eqb, ne_eqb}
-use Rattle.search_layer.specs.Layers.{Layer, AreSame, changed_at}
-use Rattle.search_layer.specs.Keys.{key_number, key_of}
-use Rattle.search_layer.specs.Leaves.{LayerWords, key_in, has_key, layer_in, node_of, IsLayerRow, AreEven}
-use Rattle.search_layer.specs.ChangeStages.{Aim, Changing, Looks, Fills, CanSwitch, Switched, Changed, made_of, SureFills, SureCanSwitch, SureSwitched, SureChanging, LayerAt, MixAt, IsLeafMix, Stored}
+use Rattle.layer_map.specs.Layers.{Layer, AreSame, changed_at, node_of}
+use Rattle.layer_map.specs.Keys.{key_number, key_of}
+use Rattle.pm_words.specs.Locations.{leaf_count}
+use Rattle.search_layer.specs.Leaves.{key_in, has_key, layer_in, IsLayerRow}
+use Rattle.search_layer.specs.Rows.{LayerWords, AreEven, IsLayerMix}
+use Rattle.search_layer.specs.ChangeStages.{Aim, Changing, Looks, Fills, CanSwitch, Switched, Changed, made_of, SureFills, SureCanSwitch, SureSwitched, SureChanging, LayerAt, MixAt, Stored}
 use Rattle.search_layer.specs.Laws.{ChangeIsBacked, ChangeEvicts, UnsetKeepsZero, aim_of, stage_of}
 use Rattle.search_layer.proofs.LayerLemmas.{has_made, has_not_unused, has_same, layer_unused, layer_switched, led_by_leaf}
+use Rattle.search_layer.specs.Laws.{ChangeBegins, ChangeEnds, LayerIsEither, MixIsEither, StepIsEither}
+use Rattle.search_layer.proofs.RowLemmas.{mixes_are_even}
 
 -- words of a leaf that make up a key
 key_made : (w : LayerWords) (leaf : ℕ) (key : List ℕ) → ((o : ℕ) → o < 3 → w leaf o ≡ slice_index key o) → key_in w leaf ≡ key_number key
@@ -165,16 +169,16 @@ switched_ends count most aim before leaf w s sure i o =
     ]
 
 -- Whichever words become durable at any stage, the durable leaves are in order, and keep the layer of the stage.
-even_mix : (w s mix : LayerWords) → AreEven w s → IsLeafMix w s mix → (i o : ℕ) → mix i o ≡ w i o
+even_mix : (w s mix : LayerWords) → AreEven w s → IsLayerMix w s mix → (i o : ℕ) → mix i o ≡ w i o
 even_mix w s mix even is i o = elim (is i o) [ inl a ↦ a | inr b ↦ b ∙ even i o ]
 
-even_path : (w s mix : LayerWords) → AreEven w s → IsLeafMix w s mix → w ≡ mix
+even_path : (w s mix : LayerWords) → AreEven w s → IsLayerMix w s mix → w ≡ mix
 even_path w s mix even is = λ k i o. sym (even_mix w s mix even is i o) k
 
-even_row : (count most : ℕ) (w s mix : LayerWords) → IsLayerRow count most w → AreEven w s → IsLeafMix w s mix → IsLayerRow count most mix
+even_row : (count most : ℕ) (w s mix : LayerWords) → IsLayerRow count most w → AreEven w s → IsLayerMix w s mix → IsLayerRow count most mix
 even_row count most w s mix row even is = subst (λ (v : LayerWords). IsLayerRow count most v) (even_path w s mix even is) row
 
-even_layer : (count : ℕ) (w s mix : LayerWords) (layer : Layer) → AreEven w s → IsLeafMix w s mix → AreSame (layer_in w count) layer → AreSame (layer_in mix count) layer
+even_layer : (count : ℕ) (w s mix : LayerWords) (layer : Layer) → AreEven w s → IsLayerMix w s mix → AreSame (layer_in w count) layer → AreSame (layer_in mix count) layer
 even_layer count w s mix layer even is same = subst (λ (v : LayerWords). AreSame (layer_in v count) layer) (even_path w s mix even is) same
 
 -- the row is in order also where a leaf that isn't in use has any words
@@ -221,7 +225,7 @@ row_switched count most leaf key w w' row is only fits others =
     }
 
 -- the leaf that is filled is in use in no mix
-module _ (count most : ℕ) (aim : Aim) (leaf stored drained : ℕ) (hand : Option ℕ) (w s mix : LayerWords) (sure : SureFills count aim leaf stored drained hand w s) (is : IsLeafMix w s mix) where
+module _ (count most : ℕ) (aim : Aim) (leaf stored drained : ℕ) (hand : Option ℕ) (w s mix : LayerWords) (sure : SureFills count aim leaf stored drained hand w s) (is : IsLayerMix w s mix) where
   filling_unused : mix leaf 3 ≡ 0
   filling_unused = elim (is leaf 3) [ inl a ↦ a ∙ sure.unused | inr b ↦ b ∙ sure.unused_durable ]
 
@@ -235,7 +239,7 @@ module _ (count most : ℕ) (aim : Aim) (leaf stored drained : ℕ) (hand : Opti
   filling_layer k = layer_unused w mix count leaf sure.unused filling_unused filling_others k
 
 -- of the leaf that is switched only the node word may differ
-module _ (count most : ℕ) (aim : Aim) (before : Layer) (leaf drained : ℕ) (hand : Option ℕ) (w s mix : LayerWords) (sure : SureSwitched count most aim before leaf drained hand w s) (is : IsLeafMix w s mix) where
+module _ (count most : ℕ) (aim : Aim) (before : Layer) (leaf drained : ℕ) (hand : Option ℕ) (w s mix : LayerWords) (sure : SureSwitched count most aim before leaf drained hand w s) (is : IsLayerMix w s mix) where
   abbrev key : ℕ
   key = key_number aim.key
 
@@ -287,7 +291,7 @@ module _ (count most : ℕ) (aim : Aim) (before : Layer) (leaf drained : ℕ) (h
     ]
   ]
 
-mix_row : (count most : ℕ) (aim : Aim) (before : Layer) (stage : Changing) (w s mix : LayerWords) → IsLayerRow count most w → aim.word ≤ most → SureChanging count most aim before stage w s → IsLeafMix w s mix
+mix_row : (count most : ℕ) (aim : Aim) (before : Layer) (stage : Changing) (w s mix : LayerWords) → IsLayerRow count most w → aim.word ≤ most → SureChanging count most aim before stage w s → IsLayerMix w s mix
     → IsLayerRow count most mix
 mix_row count most aim before (Looks sight) w s mix row fits sure is = even_row count most w s mix row sure.1 is
 mix_row count most aim before (Fills leaf stored drained hand) w s mix row fits sure is = filling_row count most aim leaf stored drained hand w s mix sure is row
@@ -295,7 +299,7 @@ mix_row count most aim before (CanSwitch leaf) w s mix row fits sure is = even_r
 mix_row count most aim before (Switched leaf drained hand) w s mix row fits sure is = switched_row count most aim before leaf drained hand w s mix sure is row fits
 mix_row count most aim before Changed w s mix row fits sure is = even_row count most w s mix row sure is
 
-mix_layer : (count most : ℕ) (aim : Aim) (before : Layer) (stage : Changing) (w s mix : LayerWords) → SureChanging count most aim before stage w s → LayerAt aim before stage (layer_in w count) → IsLeafMix w s mix
+mix_layer : (count most : ℕ) (aim : Aim) (before : Layer) (stage : Changing) (w s mix : LayerWords) → SureChanging count most aim before stage w s → LayerAt aim before stage (layer_in w count) → IsLayerMix w s mix
     → MixAt aim before stage (layer_in mix count)
 mix_layer count most aim before (Looks sight) w s mix sure at is = even_layer count w s mix before sure.1 is at
 mix_layer count most aim before (Fills leaf stored drained hand) w s mix sure at is = λ k. filling_layer count most aim leaf stored drained hand w s mix sure is k ∙ at k
@@ -304,9 +308,9 @@ mix_layer count most aim before (Switched leaf drained hand) w s mix sure at is 
 mix_layer count most aim before Changed w s mix sure at is = even_layer count w s mix (made_of aim before) sure is at
 
 pub change_is_backed : ChangeIsBacked
-change_is_backed count most aim before stage w s row fits sure at = record {
-  row = λ mix is. mix_row count most aim before stage w s mix row fits sure is;
-  layer = λ mix is. mix_layer count most aim before stage w s mix sure at is;
+change_is_backed l aim before stage w s row fits sure at = record {
+  row = λ mix is. mix_row (leaf_count l) l.nodes aim before stage w s mix row fits sure is;
+  layer = λ mix is. mix_layer (leaf_count l) l.nodes aim before stage w s mix sure at is;
 }
 
 -- The zero key isn't an unset's.
@@ -324,12 +328,9 @@ pub unset_keeps_zero : UnsetKeepsZero
 unset_keeps_zero unset before layer is at = zero_kept (aim_of unset.change) before layer (stage_of unset.change) is.word is.key at
 
 -- Whatever words become durable, what is known stays so.
-even_evicts : (w s d : LayerWords) → AreEven w s → IsLeafMix w s d → AreEven w d
-even_evicts w s d even is i o = elim (is i o) [ inl a ↦ a | inr b ↦ b ∙ even i o ]
-
 pub change_evicts : ChangeEvicts
-change_evicts count most aim before (Looks sight) w s d is sure = (sure.0, even_evicts w s d sure.1 is)
-change_evicts count most aim before (Fills leaf stored drained hand) w s d is sure = record {
+change_evicts l aim before (Looks sight) w s d is sure = (sure.0, mixes_are_even w s d sure.1 is)
+change_evicts l aim before (Fills leaf stored drained hand) w s d is sure = record {
   within = sure.within;
   unused = sure.unused;
   unused_durable = elim (is leaf 3) [ inl a ↦ a ∙ sure.unused | inr b ↦ b ∙ sure.unused_durable ];
@@ -340,8 +341,8 @@ change_evicts count most aim before (Fills leaf stored drained hand) w s d is su
   beyond = λ o past. elim (is leaf o) [ inl a ↦ a | inr b ↦ b ∙ sure.beyond o past ];
   hand = sure.hand;
 }
-change_evicts count most aim before (CanSwitch leaf) w s d is sure = record { within = sure.within; key = sure.key; only = sure.only; even = even_evicts w s d sure.even is }
-change_evicts count most aim before (Switched leaf drained hand) w s d is sure = record {
+change_evicts l aim before (CanSwitch leaf) w s d is sure = record { within = sure.within; key = sure.key; only = sure.only; even = mixes_are_even w s d sure.even is }
+change_evicts l aim before (Switched leaf drained hand) w s d is sure = record {
   within = sure.within;
   key = sure.key;
   only = sure.only;
@@ -350,9 +351,39 @@ change_evicts count most aim before (Switched leaf drained hand) w s d is sure =
   others = λ o ne. elim (is leaf o) [ inl a ↦ a | inr b ↦ b ∙ sure.others o ne ];
   twin = elim (is leaf 3) [
     | inl a ↦ inl (a ∙ sure.word)
-    | inr b ↦ twin_same count most aim before leaf s d b sure.twin
+    | inr b ↦ twin_same (leaf_count l) l.nodes aim before leaf s d b sure.twin
   ];
   drained = λ lt. elim (is leaf 3) [ inl a ↦ a | inr b ↦ b ∙ sure.drained lt ];
   hand = sure.hand;
 }
-change_evicts count most aim before Changed w s d is sure = even_evicts w s d sure is
+change_evicts l aim before Changed w s d is sure = mixes_are_even w s d sure is
+
+-- What the cached layer may be at a stage, and what a mix and a step make of it.
+pub layer_is_either : LayerIsEither
+layer_is_either aim before (Looks sight) layer at = inl at
+layer_is_either aim before (Fills leaf stored drained hand) layer at = inl at
+layer_is_either aim before (CanSwitch leaf) layer at = inl at
+layer_is_either aim before (Switched leaf drained hand) layer at = inr at
+layer_is_either aim before Changed layer at = inr at
+
+pub mix_is_either : MixIsEither
+mix_is_either aim before (Looks sight) layer mix at is = inr is
+mix_is_either aim before (Fills leaf stored drained hand) layer mix at is = inr is
+mix_is_either aim before (CanSwitch leaf) layer mix at is = inr is
+mix_is_either aim before (Switched leaf drained hand) layer mix at is = elim is [ inl new ↦ inl (λ k. new k ∙ sym (at k)) | inr old ↦ inr old.1 ]
+mix_is_either aim before Changed layer mix at is = inl (λ k. is k ∙ sym (at k))
+
+pub step_is_either : StepIsEither
+step_is_either aim (Looks sight) layer after is = inl is
+step_is_either aim (Fills leaf stored drained hand) layer after is = inl is
+step_is_either aim (CanSwitch leaf) layer after is = inr is
+step_is_either aim (Switched leaf drained hand) layer after is = inl is
+step_is_either aim Changed layer after is = inl is
+
+-- A change begins with nothing seen, and ends with all durable.
+pub change_begins : ChangeBegins
+change_begins l before aim w s row even same =
+    ((record { none_below = λ i lt. absurd (omega arith); unused = tt; used = λ e i lt. absurd (omega arith); seen = tt }, even), same)
+
+pub change_ends : ChangeEnds
+change_ends l before aim w s sure at = (sure, at)

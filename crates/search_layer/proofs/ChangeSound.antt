@@ -13,14 +13,14 @@ use Rattle.search_layer.specs.declared.reader.ReaderAt.TheVariants as reads
 use Rattle.search_layer.specs.declared.reader.Read.TheVariants as read
 use Rattle.search_layer.specs.declared.set.Set.{Set}
 use Rattle.search_layer.specs.declared.set.Unset.{Unset}
-use Rattle.search_layer.specs.Keys.{key_number, key_of}
+use Rattle.layer_map.specs.Keys.{key_number, key_of}
 use Rattle.search_layer.specs.Reading.{IsReaderAt, reads_leaf, read_at}
 use Rattle.pm_words.specs.Fences.{IsFence, fence_start, fence_next}
 use Rattle.pm_words.proofs.Fencing.{fence_stays}
 use Rattle.search_layer.specs.ChangeSteps.{first_unused, change_to, change_fills, change_ends, change_past, change_read, change_turned, change_at_turned, leaf_drained, switch_drained, IsChangeAt, IsChange}
 use Rattle.search_layer.specs.SetSteps.{IsSet, set_of, IsUnset, unset_of}
 use Rattle.search_layer.specs.ChangeStages.{Aim}
-use Rattle.search_layer.specs.Laws.{aim_of, SoundAfter, ChangesStaySound, SetAfter, SetsStaySound, UnsetAfter, UnsetsStaySound}
+use Rattle.search_layer.specs.Laws.{aim_of, SoundAfter, ChangesStaySound, SetAfter, SetsStaySound, UnsetAfter, UnsetsStaySound, SetsBeginSound, UnsetsBeginSound}
 use Rattle.search_layer.proofs.ChangeTurns.{first_within}
 
 module _ (change : Change) (sound : IsChange change) where
@@ -101,3 +101,17 @@ unset_sound unset (Done answer) is after = tt
 
 pub unsets_stay_sound : UnsetsStaySound
 unsets_stay_sound unset x is fits = unset_sound unset (change_turned unset.change x) is (changes_stay_sound unset.change x is.change fits)
+
+-- how they begin
+pub sets_begin_sound : SetsBeginSound
+sets_begin_sound l key node layout is within = record {
+  change = record { layout = layout; key = is; word = omega arith; here = (record { leaf = omega arith; here = tt }, tt) };
+  word = λ e. absurd (omega arith);
+}
+
+pub unsets_begin_sound : UnsetsBeginSound
+unsets_begin_sound l key layout is named = record {
+  change = record { layout = layout; key = is; word = omega arith; here = (record { leaf = omega arith; here = tt }, tt) };
+  word = refl;
+  key = named;
+}

@@ -8,26 +8,27 @@ use Rattle.pm_words.specs.declared.action.Action.TheVariants.{Load, Drain}
 use Rattle.pm_words.specs.Locations.{Cached, Durable, Leaf, leaf_count, row_words, at}
 use Rattle.pm_words.specs.Rows.{acted, got}
 use Rattle.pm_words.proofs.Kept.{action_address-drain}
-use Rattle.search_layer.specs.Layers.{Layer, HasFew}
-use Rattle.search_layer.specs.Keys.{key_number}
-use Rattle.search_layer.specs.Leaves.{LayerWords, leaves_in, leaf_place, layer_in, node_of, IsLayerRow, KeepsOthers}
+use Rattle.layer_map.specs.Layers.{Layer, HasFew, node_of}
+use Rattle.layer_map.specs.Keys.{key_number}
+use Rattle.search_layer.specs.Leaves.{leaf_place, layer_in, IsLayerRow}
+use Rattle.search_layer.specs.Rows.{LayerWords, layer_words, KeepsOthers}
 use Rattle.search_layer.specs.ChangeStages.{Aim, Changing, Fills, CanSwitch, Switched, Changed, ChangeLook, sees, finds, finds_none, has_none, has_no_room, glances, glances_switch, ChangeStep, looks, fills, drains, drains_last, switches, drains_switch, drains_switch_last, SureFills, SureSwitched, SureChanging, LayerAt, LayerAfter, Stored}
 use Rattle.search_layer.specs.Laws.{ChangeKeeps, ChangeStepKeeps}
 use Rattle.search_layer.proofs.LayerLemmas.{has_parts, layer_none, only_here}
 use Rattle.search_layer.proofs.CountLemmas.{has_room, same_few}
-use Rattle.search_layer.proofs.LeafRows.{leaves_in-here, leaf_stored, durable_kept, durable_stored, cached_kept, cached_keeps_others, durable_keeps_others}
+use Rattle.search_layer.proofs.RowLemmas.{layer_words-here, leaf_stored, durable_kept, durable_stored, cached_kept, cached_keeps_others, durable_keeps_others}
 use Rattle.search_layer.proofs.ChangeLaw.{fills_begin, fills_keep, fills_same, drains_keep, filled_can, switches_keep, switches_layer, switched_drains, switched_ends, row_unused, row_switched}
 
 -- what a drain makes of the leaves
 pub drain_keeps_cached : (l : Layout) (words : List ℕ) (leaf o y : ℕ) → leaf < leaf_count l → o < 8
-    → leaves_in l (acted l words (Drain (leaf_place l leaf o) y)) Cached ≡ leaves_in l words Cached
+    → layer_words l (acted l words (Drain (leaf_place l leaf o) y)) Cached ≡ layer_words l words Cached
 drain_keeps_cached l words leaf o y here small =
-    ap (λ p. leaves_in l (slice_set words p y) Cached) (action_address-drain l (Leaf leaf o) y) ∙ cached_kept l words leaf o y here small
+    ap (λ p. layer_words l (slice_set words p y) Cached) (action_address-drain l (Leaf leaf o) y) ∙ cached_kept l words leaf o y here small
 
 pub drain_stores : (l : Layout) (words : List ℕ) (leaf o y : ℕ) → length words ≡ row_words l → leaf < leaf_count l → o < 8
-    → Stored (leaves_in l words Durable) (leaves_in l (acted l words (Drain (leaf_place l leaf o) y)) Durable) leaf o y
+    → Stored (layer_words l words Durable) (layer_words l (acted l words (Drain (leaf_place l leaf o) y)) Durable) leaf o y
 drain_stores l words leaf o y whole here small =
-    subst (λ p. Stored (leaves_in l words Durable) (leaves_in l (slice_set words p y) Durable) leaf o y) (sym (action_address-drain l (Leaf leaf o) y)) (durable_stored l words leaf o y whole here small)
+    subst (λ p. Stored (layer_words l words Durable) (layer_words l (slice_set words p y) Durable) leaf o y) (sym (action_address-drain l (Leaf leaf o) y)) (durable_stored l words leaf o y whole here small)
 
 pub drain_keeps_others : (l : Layout) (words : List ℕ) (leaf o y : ℕ) → leaf < leaf_count l → o < 8 → KeepsOthers l words (acted l words (Drain (leaf_place l leaf o) y))
 drain_keeps_others l words leaf o y here small = subst (λ p. KeepsOthers l words (slice_set words p y)) (sym (action_address-drain l (Leaf leaf o) y)) (durable_keeps_others l words leaf o y here small)
@@ -42,12 +43,12 @@ look_row l aim words (has_no_room {s = s} {offset = o} here small some_word all)
 look_row l aim words (glances {leaf = leaf} {drained = o} here small) = set-get_or words (leaf_place l leaf o) 0
 look_row l aim words (glances_switch {leaf = leaf} {drained = o} here small) = set-get_or words (leaf_place l leaf o) 0
 
-module _ (l : Layout) (aim : Aim) (before : Layer) (words : List ℕ) (whole : length words ≡ row_words l) (row : IsLayerRow (leaf_count l) l.nodes (leaves_in l words Cached)) (fits : aim.word ≤ l.nodes) (few : aim.word ≢ 0 → HasFew l.nodes before) where
+module _ (l : Layout) (aim : Aim) (before : Layer) (words : List ℕ) (whole : length words ≡ row_words l) (row : IsLayerRow (leaf_count l) l.nodes (layer_words l words Cached)) (fits : aim.word ≤ l.nodes) (few : aim.word ≢ 0 → HasFew l.nodes before) where
   abbrev w : LayerWords
-  w = leaves_in l words Cached
+  w = layer_words l words Cached
 
   abbrev d : LayerWords
-  d = leaves_in l words Durable
+  d = layer_words l words Durable
 
   abbrev count : ℕ
   count = leaf_count l
@@ -56,7 +57,7 @@ module _ (l : Layout) (aim : Aim) (before : Layer) (words : List ℕ) (whole : l
   key = key_number aim.key
 
   told_word : (leaf o x : ℕ) → leaf < count → o < 8 → x ≡ got l words (Load (leaf_place l leaf o)) → w leaf o ≡ x
-  told_word leaf o x here small told = leaves_in-here l words Cached leaf o here small ∙ sym told
+  told_word leaf o x here small told = layer_words-here l words Cached leaf o here small ∙ sym told
 
   -- what a step leaves
   abbrev After : Changing → LayerWords → LayerWords → Type 0
@@ -88,11 +89,11 @@ module _ (l : Layout) (aim : Aim) (before : Layer) (words : List ℕ) (whole : l
       (record { within = sure.within; key = sure.key; only = sure.only; word = sure.word; even = sure.even; others = sure.others; twin = sure.twin; drained = sure.drained; hand = told_word leaf o x here small told }, layer)
 
   -- the cached leaves stay
-  by_durable : (s : Changing) (a : Action) (t : Changing) → leaves_in l (acted l words a) Cached ≡ w → After t w (leaves_in l (acted l words a) Durable)
+  by_durable : (s : Changing) (a : Action) (t : Changing) → layer_words l (acted l words a) Cached ≡ w → After t w (layer_words l (acted l words a) Durable)
       → LayerAfter aim s (layer_in w count) (layer_in w count) → KeepsOthers l words (acted l words a) → ChangeKeeps l aim before words s a t
   by_durable s a t same after changes others = record {
     row = subst (λ (v : LayerWords). IsLayerRow count l.nodes v) (sym same) row;
-    sure = subst (λ (v : LayerWords). SureChanging count l.nodes aim before t v (leaves_in l (acted l words a) Durable)) (sym same) after.0;
+    sure = subst (λ (v : LayerWords). SureChanging count l.nodes aim before t v (layer_words l (acted l words a) Durable)) (sym same) after.0;
     layer = subst (λ (v : LayerWords). LayerAt aim before t (layer_in v count)) (sym same) after.1;
     changes = subst (λ (v : LayerWords). LayerAfter aim s (layer_in w count) (layer_in v count)) (sym same) changes;
     others = others;
@@ -111,12 +112,12 @@ module _ (l : Layout) (aim : Aim) (before : Layer) (words : List ℕ) (whole : l
       → ChangeKeeps l aim before words s a t
   step_keeps (looks {s = s} {a = a} {t = t} look) told sure layer =
       let same = look_row l aim words look in
-      by_durable s a t (ap (λ v. leaves_in l v Cached) same)
-      (subst (λ v. After t w (leaves_in l v Durable)) (sym same) (look_after look told sure layer))
+      by_durable s a t (ap (λ v. layer_words l v Cached) same)
+      (subst (λ v. After t w (layer_words l v Durable)) (sym same) (look_after look told sure layer))
       (look_changes look)
       (λ p has outside. ap (λ v. at l v p) same)
   step_keeps (fills {leaf = leaf} {stored = stored} {drained = drained} {offset = o} {y = y} {stored' = stored'} {hand = hand} here small apart fits_word word behind more) told sure layer =
-      let w' = leaves_in l (slice_set words (leaf_place l leaf o) y) Cached in
+      let w' = layer_words l (slice_set words (leaf_place l leaf o) y) Cached in
       let act : Stored w w' leaf o y = leaf_stored l words leaf o y whole here small in
       let same_layer = fills_same count aim leaf stored drained o y hand w w' d apart act sure in
       record {
@@ -129,15 +130,15 @@ module _ (l : Layout) (aim : Aim) (before : Layer) (words : List ℕ) (whole : l
       }
   step_keeps (drains {leaf = leaf} {stored = stored} {drained = o} {y = y} here small fits_word) told sure layer =
       by_durable (Fills leaf stored o (Some y)) (Drain (leaf_place l leaf o) y) (Fills leaf stored (o + 1) None) (drain_keeps_cached l words leaf o y here small)
-      (drains_keep count aim leaf stored o y w d (leaves_in l (acted l words (Drain (leaf_place l leaf o) y)) Durable) (drain_stores l words leaf o y whole here small) sure, layer)
+      (drains_keep count aim leaf stored o y w d (layer_words l (acted l words (Drain (leaf_place l leaf o) y)) Durable) (drain_stores l words leaf o y whole here small) sure, layer)
       (λ k. refl) (drain_keeps_others l words leaf o y here small)
   step_keeps (drains_last {leaf = leaf} {stored = stored} {y = y} here fits_word enough) told sure layer =
-      let d' = leaves_in l (acted l words (Drain (leaf_place l leaf 7) y)) Durable in
+      let d' = layer_words l (acted l words (Drain (leaf_place l leaf 7) y)) Durable in
       by_durable (Fills leaf stored 7 (Some y)) (Drain (leaf_place l leaf 7) y) (CanSwitch leaf) (drain_keeps_cached l words leaf 7 y here (omega arith))
       (filled_can count aim leaf stored w d' enough (drains_keep count aim leaf stored 7 y w d d' (drain_stores l words leaf 7 y whole here (omega arith)) sure), layer)
       (λ k. refl) (drain_keeps_others l words leaf 7 y here (omega arith))
   step_keeps (switches {leaf = leaf} here) told sure layer =
-      let w' = leaves_in l (slice_set words (leaf_place l leaf 3) aim.word) Cached in
+      let w' = layer_words l (slice_set words (leaf_place l leaf 3) aim.word) Cached in
       let act : Stored w w' leaf 3 aim.word = leaf_stored l words leaf 3 aim.word whole here (omega arith) in
       let changes = switches_layer count aim leaf w w' d act sure in
       record {
@@ -150,10 +151,10 @@ module _ (l : Layout) (aim : Aim) (before : Layer) (words : List ℕ) (whole : l
       }
   step_keeps (drains_switch {leaf = leaf} {drained = o} {y = y} here small fits_word) told sure layer =
       by_durable (Switched leaf o (Some y)) (Drain (leaf_place l leaf o) y) (Switched leaf (o + 1) None) (drain_keeps_cached l words leaf o y here small)
-      (switched_drains count l.nodes aim before leaf o y w d (leaves_in l (acted l words (Drain (leaf_place l leaf o) y)) Durable) (drain_stores l words leaf o y whole here small) sure, layer)
+      (switched_drains count l.nodes aim before leaf o y w d (layer_words l (acted l words (Drain (leaf_place l leaf o) y)) Durable) (drain_stores l words leaf o y whole here small) sure, layer)
       (λ k. refl) (drain_keeps_others l words leaf o y here small)
   step_keeps (drains_switch_last {leaf = leaf} {y = y} here fits_word) told sure layer =
-      let d' = leaves_in l (acted l words (Drain (leaf_place l leaf 7) y)) Durable in
+      let d' = layer_words l (acted l words (Drain (leaf_place l leaf 7) y)) Durable in
       let last = switched_drains count l.nodes aim before leaf 7 y w d d' (drain_stores l words leaf 7 y whole here (omega arith)) sure in
       by_durable (Switched leaf 7 (Some y)) (Drain (leaf_place l leaf 7) y) Changed (drain_keeps_cached l words leaf 7 y here (omega arith))
       (switched_ends count l.nodes aim before leaf w d' last, layer) (λ k. refl) (drain_keeps_others l words leaf 7 y here (omega arith))

@@ -13,8 +13,9 @@ use Rattle.pm_words.specs.declared.fence.Fence.{Fence}
 use Rattle.search_layer.specs.declared.reader.ReaderAt.{ReaderAt}
 use Rattle.search_layer.specs.declared.reader.ReaderAt.TheVariants as reads
 use Rattle.search_layer.specs.declared.reader.Read.TheVariants as read
-use Rattle.search_layer.specs.Keys.{key_number, key_of}
-use Rattle.search_layer.specs.Leaves.{LayerWords, leaf_place, key_in, has_key}
+use Rattle.layer_map.specs.Keys.{key_number, key_of}
+use Rattle.search_layer.specs.Leaves.{leaf_place, key_in, has_key}
+use Rattle.search_layer.specs.Rows.{LayerWords}
 use Rattle.search_layer.specs.Reading.{IsReaderAt, reads_leaf, offset_read, read_at}
 use Rattle.pm_words.specs.Fences.{fence_start, FenceTurn}
 use Rattle.pm_words.specs.Fences as turn

@@ -1,10 +1,13 @@
 -- How many keys a layer has: no more than leaves, and as many as leaves in use.
-use Rattle.std.proofs.Common.{◌≡◌, ◌≢◌, ℕ, zero, suc, ◌+◌, ◌-◌, ◌<◌, ◌≤◌, ◌==◌, ◌⊎◌, Bool, true, cond, Option, Some, None, inl, inr, refl, sym, subst, ap, ◌∙◌, arith}
+use Rattle.std.proofs.Common.{◌≡◌, ◌≢◌, ℕ, zero, suc, ◌+◌, ◌-◌, ◌<◌, ◌≤◌, ◌==◌, ◌⊎◌, Bool, true, cond, Some, None, inl, inr, refl, sym, subst, ap, ◌∙◌, arith}
 use Rattle.std.proofs.lemmas.Bool.{cases_eq, cases_lt, eq-eqb, ne_eqb}
-use Rattle.search_layer.specs.Layers.{Layer, AreSame, HasFew, LeadsBelow, LeadsApart}
-use Rattle.search_layer.specs.Leaves.{LayerWords, key_in, has_key, layer_in, used_count, IsLayerRow, LeavesLead, LayerIsFinite, LayerLeadsToNodes, FewIsCount}
+use Rattle.layer_map.specs.Layers.{Layer, AreSame, HasFew}
+use Rattle.pm_words.specs.Locations.{leaf_count}
+use Rattle.search_layer.specs.Kept.{KeptLeadsBelow}
+use Rattle.search_layer.specs.Leaves.{key_in, has_key, layer_in, used_count, IsLayerRow, LeavesLead, LayerIsFinite, LayerLeadsToNodes, FewIsCount}
+use Rattle.search_layer.specs.Rows.{LayerWords}
 use Rattle.search_layer.proofs.LayerLemmas.{has_parts, has_made, has_or_not, layer_found, layer_leaf}
-use Rattle.search_layer.proofs.Pigeons.{different_fit}
+use Rattle.layer_map.proofs.Pigeons.{different_fit}
 
 count_unused : (w : LayerWords) (c : ℕ) → w c 3 ≡ 0 → used_count w (suc c) ≡ used_count w c
 count_unused w c e = ap (λ b. cond b (used_count w c) (used_count w c + 1)) (eq-eqb (w c 3) 0 e)
@@ -164,14 +167,6 @@ has_room count most w row more few all =
 pub same_few : (most : ℕ) (layer before : Layer) → AreSame layer before → HasFew most before → HasFew most layer
 same_few most layer before same few m f some differ = few m f (λ i lt e. some i lt (same (f i) ∙ e)) differ
 
--- A layer that has no two keys of one node has at most as many keys as nodes.
-abbrev target_of : Option ℕ → ℕ
-target_of None = 0
-target_of (Some n) = n
-
-pub few_apart : (nodes : ℕ) (layer : Layer) → LeadsBelow nodes layer → LeadsApart layer → HasFew nodes layer
-few_apart nodes layer below apart m f some differ =
-    let is : (i : ℕ) → i < m → layer (f i) ≡ Some (target_of (layer (f i))) =
-    λ i lt. elim (layer (f i)) as (λ v. v ≢ None → v ≡ Some (target_of v)) [ None ↦ λ none. absurd (none refl) | Some n ↦ λ e. refl ] (some i lt) in
-    different_fit nodes m (λ i. target_of (layer (f i))) (λ i lt. below (f i) (target_of (layer (f i))) (is i lt))
-    (λ i j lt lt' same. differ i j lt lt' (apart (f i) (f j) (target_of (layer (f i))) (is i lt) (is j lt' ∙ ap Some (sym same))))
+-- the same of the layer that words keep
+pub kept_leads_below : KeptLeadsBelow
+kept_leads_below l w = layer_leads_to_nodes (leaf_count l) l.nodes w

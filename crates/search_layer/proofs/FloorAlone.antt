@@ -16,14 +16,16 @@ use Rattle.search_layer.specs.declared.floor.Entry.{Entry}
 use Rattle.search_layer.specs.declared.reader.ReaderAt.{ReaderAt}
 use Rattle.search_layer.specs.declared.reader.ReaderAt.TheVariants as reads
 use Rattle.search_layer.specs.declared.reader.Read.TheVariants as read
-use Rattle.search_layer.specs.Layers.{IsFloorOf}
-use Rattle.search_layer.specs.Keys.{key_number, key_of}
-use Rattle.search_layer.specs.Leaves.{LayerWords, leaf_place, key_in, layer_in, layer_of, leaves_in, IsLayerRow, IsInOrder}
+use Rattle.layer_map.specs.Layers.{IsFloorOf}
+use Rattle.layer_map.specs.Keys.{key_number, key_of}
+use Rattle.search_layer.specs.Leaves.{leaf_place, key_in, layer_in, IsLayerRow}
+use Rattle.search_layer.specs.Rows.{LayerWords, layer_words}
+use Rattle.search_layer.specs.Kept.{layer_of, IsInOrder}
 use Rattle.search_layer.specs.Reading.{IsReaderAt, reads_leaf, offset_read, read_at}
 use Rattle.search_layer.specs.FloorSteps.{floor_starts, floor_asks, floor_turned, floor_past, floor_read, floor_left, landed, better, kept_best, IsFloor}
 use Rattle.search_layer.specs.Laws.{seen_at, told_turn, answer_from, FloorIsExact, FloorAfter}
 use Rattle.search_layer.proofs.LayerLemmas.{has_parts, has_made, has_not, layer_none, layer_found}
-use Rattle.search_layer.proofs.LeafRows.{leaves_in-here}
+use Rattle.search_layer.proofs.RowLemmas.{layer_words-here}
 use Rattle.search_layer.proofs.FloorTold.{left_some, floor_fewer, better_cases, offset_small, floor_stays, floor_starts_sound, floor_acts}
 
 abbrev AtLeast : Option Entry → ℕ → Type 0
@@ -165,13 +167,13 @@ floor_is_exact l key w is row =
     exact_from (4 * leaf_count l) w (floor_starts l key) row (record { within = omega arith; best = record { covers = λ i lt used most. absurd (omega arith); stands = tt }; here = tt; seen = tt }) (omega arith)
 
 -- a turn on a row of words
-turn_knows : (l : Layout) (words : List ℕ) (floor : Floor) (turn : Turn Floor ℕ) → IsInOrder l words → floor.layout ≡ l → FloorKnows (leaves_in l words Cached) floor
-    → floor_turned floor (got l words (floor_asks floor)) ≡ turn → KnowsAfter (leaves_in l words Cached) floor turn
+turn_knows : (l : Layout) (words : List ℕ) (floor : Floor) (turn : Turn Floor ℕ) → IsInOrder l words → floor.layout ≡ l → FloorKnows (layer_words l words Cached) floor
+    → floor_turned floor (got l words (floor_asks floor)) ≡ turn → KnowsAfter (layer_words l words Cached) floor turn
 turn_knows l words floor turn row same_layout knows is =
-    let cached : LayerWords = leaves_in l words Cached in
+    let cached : LayerWords = layer_words l words Cached in
     let within : floor.reader.leaf < leaf_count l = subst (λ (m : Layout). floor.reader.leaf < leaf_count m) same_layout knows.within in
     let told : cached floor.reader.leaf (offset_read floor.reader.at) ≡ got l words (floor_asks floor) =
-    leaves_in-here l words Cached floor.reader.leaf (offset_read floor.reader.at) within (offset_small floor.reader.at)
+    layer_words-here l words Cached floor.reader.leaf (offset_read floor.reader.at) within (offset_small floor.reader.at)
     ∙ ap (λ (m : Layout). slice_index words (leaf_place m floor.reader.leaf (offset_read floor.reader.at))) (sym same_layout) in
     let row' = subst (λ (m : Layout). IsLayerRow (leaf_count m) m.nodes cached) (sym same_layout) row in
     subst (λ (t : Turn Floor ℕ). KnowsAfter cached floor t) is (floor_step cached floor row' (got l words (floor_asks floor)) knows told)
@@ -181,7 +183,7 @@ pub record LoneFloor (l : Layout) (sought words : List ℕ) (floor : Floor) : Ty
   pub layout : floor.layout ≡ l
   pub key : floor.key ≡ sought
   pub sound : IsFloor floor
-  pub knows : FloorKnows (leaves_in l words Cached) floor
+  pub knows : FloorKnows (layer_words l words Cached) floor
 
 pub lone_starts : (l : Layout) (sought words : List ℕ) → IsLayout l → LoneFloor l sought words (floor_starts l sought)
 lone_starts l sought words is = record {
@@ -199,12 +201,12 @@ pub lone_turns : (l : Layout) (sought words : List ℕ) (floor : Floor) (turn : 
     → floor_turned floor (got l words (floor_asks floor)) ≡ turn → LoneFloorAfter l sought words turn
 lone_turns l sought words floor (Go next) row lone is =
     let knows = turn_knows l words floor (Go next) row lone.layout lone.knows is in
-    let stays = subst (λ (t : Turn Floor ℕ). FloorAfter floor.layout t) is (floor_stays floor (got l words (floor_asks floor)) lone.sound) in
+    let stays = subst (λ (t : Turn Floor ℕ). FloorAfter floor.layout floor.key (floor_left floor) t) is (floor_stays floor (got l words (floor_asks floor)) lone.sound) in
     record { layout = knows.1 ∙ lone.layout; key = knows.2 ∙ lone.key; sound = stays.0; knows = knows.0 }
 lone_turns l sought words floor (Done node) row lone is =
     let answer = turn_knows l words floor (Done node) row lone.layout lone.knows is in
-    subst (λ (m : Layout). IsFloorOf (layer_in (leaves_in l words Cached) (leaf_count m)) (key_number sought) node) lone.layout
-    (subst (λ (k : List ℕ). IsFloorOf (layer_in (leaves_in l words Cached) (leaf_count floor.layout)) (key_number k) node) lone.key answer)
+    subst (λ (m : Layout). IsFloorOf (layer_in (layer_words l words Cached) (leaf_count m)) (key_number sought) node) lone.layout
+    (subst (λ (k : List ℕ). IsFloorOf (layer_in (layer_words l words Cached) (leaf_count floor.layout)) (key_number k) node) lone.key answer)
 
 pub lone_can : (l : Layout) (sought words : List ℕ) (floor : Floor) → LoneFloor l sought words floor → CanAct l words (floor_asks floor)
 lone_can l sought words floor lone = subst (λ (m : Layout). CanAct m words (floor_asks floor)) lone.layout (floor_acts floor words lone.sound)

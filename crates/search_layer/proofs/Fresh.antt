@@ -8,26 +8,28 @@ use Rattle.pm_words.specs.Images.{fresh_words, fresh_word}
 use Rattle.pm_words.specs.Locations.{Leaf, Cached, Durable, leaf_count, at}
 use Rattle.pm_words.specs.Rows.{row_of}
 use Rattle.pm_words.proofs.Made.{fresh_at, fresh_image, row_of-at}
-use Rattle.search_layer.specs.Layers.{HasFew, AreSame}
-use Rattle.search_layer.specs.Keys.{key_of}
-use Rattle.search_layer.specs.Leaves.{LayerWords, leaves_in, key_in, layer_in, IsInOrder, AreEven}
+use Rattle.layer_map.specs.Layers.{HasFew, AreSame}
+use Rattle.layer_map.specs.Keys.{key_of}
+use Rattle.search_layer.specs.Leaves.{key_in, layer_in}
+use Rattle.search_layer.specs.Rows.{LayerWords, layer_words, AreEven}
+use Rattle.search_layer.specs.Kept.{IsInOrder}
 use Rattle.search_layer.specs.Laws.{fresh_layer, FreshIsAtRest}
 use Rattle.search_layer.proofs.LayerLemmas.{has_parts, has_made, has_not, has_not_unused, layer_none, layer_only}
-use Rattle.search_layer.proofs.LeafRows.{leaves_in-here}
+use Rattle.search_layer.proofs.RowLemmas.{layer_words-here}
 
 zero_is_not_one : (n : ℕ) → n ≡ 1 → n ≡ 0 → ⊥
 zero_is_not_one n one none = omega arith
 
 module _ (l : Layout) (layout : IsLayout l) where
   abbrev w : LayerWords
-  w = leaves_in l (row_of l (fresh_words l)) Cached
+  w = layer_words l (row_of l (fresh_words l)) Cached
 
   here : (leaf o : ℕ) → leaf < leaf_count l → o < 8 → w leaf o ≡ fresh_word l (Leaf leaf o)
   here leaf o within small =
-      leaves_in-here l (row_of l (fresh_words l)) Cached leaf o within small ∙ (row_of-at l (fresh_words l) (Leaf leaf o) (fresh_image l layout) (within, small)).0 ∙ fresh_at l (Leaf leaf o) (within, small)
+      layer_words-here l (row_of l (fresh_words l)) Cached leaf o within small ∙ (row_of-at l (fresh_words l) (Leaf leaf o) (fresh_image l layout) (within, small)).0 ∙ fresh_at l (Leaf leaf o) (within, small)
 
-  twins : AreEven w (leaves_in l (row_of l (fresh_words l)) Durable)
-  unfolding leaves_in
+  twins : AreEven w (layer_words l (row_of l (fresh_words l)) Durable)
+  unfolding layer_words
   twins leaf o =
       elim (nat_lt leaf (leaf_count l) && nat_lt o 8) as (λ b. (nat_lt leaf (leaf_count l) && nat_lt o 8) ≡ b
       → cond b (at l (row_of l (fresh_words l)) (Durable (Leaf leaf o))) 0 ≡ cond b (at l (row_of l (fresh_words l)) (Cached (Leaf leaf o))) 0) [

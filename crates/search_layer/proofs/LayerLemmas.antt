@@ -1,8 +1,9 @@
 -- The layer of a row of leaves: what a key leads to, and what a store does to it.
 use Rattle.std.proofs.Common.{◌≡◌, ◌≢◌, ℕ, zero, suc, ◌+◌, ◌-◌, ◌*◌, ◌^◌, ◌⊎◌, ◌<◌, ◌==◌, ◌&&◌, not, true, false, cond, Some, None, inl, inr, refl, sym, subst, ap, ap₂, ◌∙◌, arith}
 use Rattle.std.proofs.lemmas.Bool.{cases_eq, eqb-true, eq-eqb, ne_eqb, and_parts}
-use Rattle.search_layer.specs.Layers.{changed_at}
-use Rattle.search_layer.specs.Leaves.{LayerWords, key_in, has_key, layer_in, node_of, IsLayerRow}
+use Rattle.layer_map.specs.Layers.{changed_at, node_of}
+use Rattle.search_layer.specs.Leaves.{key_in, has_key, layer_in, IsLayerRow}
+use Rattle.search_layer.specs.Rows.{LayerWords}
 use Rattle.search_layer.specs.ChangeStages.{Stored}
 
 -- a leaf in use that has the key

@@ -1,8 +1,6 @@
-pub mod KeyLemmas
 pub mod LayerLemmas
-pub mod Pigeons
 pub mod CountLemmas
-pub mod LeafRows
+pub mod RowLemmas
 pub mod ChangeLaw
 pub mod ChangeSteps
 pub mod ChangeTurns

@@ -7,9 +7,10 @@ use Rattle.pm_words.specs.declared.action.Action.{Action}
 use Rattle.pm_words.specs.declared.action.Action.TheVariants.{Load, Store, Drain}
 use Rattle.pm_words.specs.declared.layout.Layout.{Layout}
 use Rattle.pm_words.specs.Locations.{leaf_count}
-use Rattle.search_layer.specs.Layers.{Layer, AreSame, changed_at}
-use Rattle.search_layer.specs.Keys.{key_number}
-use Rattle.search_layer.specs.Leaves.{LayerWords, leaf_place, key_in, has_key, node_of, AreEven}
+use Rattle.layer_map.specs.Layers.{Layer, AreSame, changed_at, node_of}
+use Rattle.layer_map.specs.Keys.{key_number}
+use Rattle.search_layer.specs.Leaves.{leaf_place, key_in, has_key}
+use Rattle.search_layer.specs.Rows.{LayerWords, AreEven}
 
 -- What is known of the leaves while it looks for the key.
 pub record Sight : Type 0 where
@@ -101,10 +102,6 @@ pub data ChangeStep (l : Layout) (aim : Aim) : Changing → Action → ℕ → C
 -- the layer that the change is to make
 abbrev pub made_of : Aim → Layer → ℕ → Option ℕ
 made_of aim before = changed_at before (key_number aim.key) (node_of aim.word)
-
--- each word is that of the one or of the other
-abbrev pub IsLeafMix : LayerWords → LayerWords → LayerWords → Type 0
-IsLeafMix w s mix = (i o : ℕ) → (mix i o ≡ w i o) ⊎ (mix i o ≡ s i o)
 
 -- one word of the leaves is another
 pub record Stored (w w' : LayerWords) (leaf offset word : ℕ) : Type 0 where

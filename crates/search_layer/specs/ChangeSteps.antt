@@ -14,7 +14,7 @@ use Rattle.search_layer.specs.declared.change.ChangeAt.TheVariants as at
 use Rattle.pm_words.specs.declared.fence.Fence.{Fence}
 use Rattle.search_layer.specs.declared.reader.Read.{Read}
 use Rattle.search_layer.specs.declared.reader.Read.TheVariants as read
-use Rattle.search_layer.specs.Keys.{key_number, IsKey}
+use Rattle.layer_map.specs.Keys.{key_number, IsKey}
 use Rattle.search_layer.specs.Leaves.{leaf_place}
 use Rattle.search_layer.specs.Reading.{IsReader, reads_leaf, reader_asks, read_at, reader_left}
 use Rattle.pm_words.specs.Fences.{IsFence, fence_start, fence_asks, fence_next, fence_left}

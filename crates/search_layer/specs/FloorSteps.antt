@@ -12,7 +12,7 @@ use Rattle.search_layer.specs.declared.floor.Entry.{Entry}
 use Rattle.search_layer.specs.declared.reader.ReaderAt.{ReaderAt}
 use Rattle.search_layer.specs.declared.reader.Read.{Read}
 use Rattle.search_layer.specs.declared.reader.Read.TheVariants as read
-use Rattle.search_layer.specs.Keys.{key_number}
+use Rattle.layer_map.specs.Keys.{key_number}
 use Rattle.search_layer.specs.Reading.{IsReader, reads_leaf, reader_asks, read_at, reader_left}
 
 abbrev pub floor_starts : Layout → List ℕ → Floor
@@ -65,3 +65,7 @@ floor_takes floor got = IsFloor floor × (got < 2 ^ 64)
 
 abbrev pub floor_left : Floor → ℕ
 floor_left floor = 4 * (leaf_count floor.layout - (floor.reader.leaf + 1)) + reader_left floor.reader.at
+
+-- and from its start on, in all
+abbrev pub floor_most : Layout → ℕ
+floor_most l = 4 * leaf_count l

@@ -1,6 +1,6 @@
-pub mod Layers
-pub mod Keys
+pub mod Rows
 pub mod Leaves
+pub mod Kept
 pub mod Reading
 pub mod FloorSteps
 pub mod ChangeSteps

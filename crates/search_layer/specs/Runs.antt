@@ -1,20 +1,16 @@
--- A set or an unset, turn by turn, beside parties that leave the leaves to it, and under evictions.
+-- A set or an unset, turn by turn, beside parties that leave the layer to it, and under evictions.
 use Rattle.std.specs.Prelude.{◌≡◌, ◌≢◌, ℕ, ◌<◌, ◌⊎◌, List}
 use Rattle.pm_words.specs.declared.layout.Layout.{Layout}
 use Rattle.pm_words.specs.declared.machine.Turn.TheVariants.{Go, Done}
-use Rattle.pm_words.specs.Locations.{Cached, Durable, leaf_count, image_words}
+use Rattle.pm_words.specs.Locations.{Cached, Durable, image_words}
 use Rattle.pm_words.specs.Rows.{IsRow, CanAct, acted, got, evicted}
 use Rattle.search_layer.specs.declared.change.Change.{Change}
-use Rattle.search_layer.specs.Layers.{AreSame, HasFew}
-use Rattle.search_layer.specs.Leaves.{LayerWords, leaves_in, layer_in, layer_of, IsLayerRow}
+use Rattle.layer_map.specs.Layers.{AreSame, HasFew}
+use Rattle.search_layer.specs.Rows.{LayerWords, layer_words, IsLayerMix, HasSameLayer}
+use Rattle.search_layer.specs.Kept.{kept, IsKept, layer_of}
 use Rattle.search_layer.specs.ChangeSteps.{IsChange, change_starts, change_asks, change_turned}
-use Rattle.search_layer.specs.ChangeStages.{IsLeafMix, made_of}
+use Rattle.search_layer.specs.ChangeStages.{made_of}
 use Rattle.search_layer.specs.Laws.{aim_of, IsAtRest}
-
--- no leaf's word is another, cached or durable
-pub record HasSameLeaves (l : Layout) (words after : List ℕ) : Type 0 where
-  pub cached : leaves_in l after Cached ≡ leaves_in l words Cached
-  pub durable : leaves_in l after Durable ≡ leaves_in l words Durable
 
 -- The change that began as `first` on these words is now this one, and the words are these: it took turns, other
 -- parties changed other words, and words were evicted.
@@ -24,7 +20,7 @@ pub data Runs (l : Layout) (words : List ℕ) (first : Change) : Change → List
       change_turned change (got l now (change_asks change)) ≡ Go next →
       Runs l words first next (acted l now (change_asks change))
   others : {change : Change} {now after : List ℕ} → Runs l words first change now → IsRow l after →
-      HasSameLeaves l now after → Runs l words first change after
+      HasSameLayer l now after → Runs l words first change after
   evicts : {change : Change} {now : List ℕ} {word : ℕ} → Runs l words first change now → word < image_words l →
       Runs l words first change (evicted l now word)
 
@@ -36,21 +32,19 @@ pub record Begins (l : Layout) (words : List ℕ) (first : Change) : Type 0 wher
   pub sound : IsChange first
   pub few : first.word ≢ 0 → HasFew l.nodes (layer_of l words)
 
--- At any moment the next action may be done, and of whichever words become durable now the leaves are in order, with
--- the layer before the change or the layer that it makes.
+-- At any moment the next action may be done, and whichever words become durable now, they are in order, with the layer
+-- before the change or the layer that it makes.
 pub record MomentKeeps (l : Layout) (words : List ℕ) (first change : Change) (now : List ℕ) : Type 0 where
   pub acts : CanAct l now (change_asks change)
-  pub row : (mix : LayerWords) → IsLeafMix (leaves_in l now Cached) (leaves_in l now Durable) mix →
-      IsLayerRow (leaf_count l) l.nodes mix
-  pub layer : (mix : LayerWords) → IsLeafMix (leaves_in l now Cached) (leaves_in l now Durable) mix →
-      AreSame (layer_in mix (leaf_count l)) (layer_of l words) ⊎
-      AreSame (layer_in mix (leaf_count l)) (made_of (aim_of first) (layer_of l words))
+  pub row : (mix : LayerWords) → IsLayerMix (layer_words l now Cached) (layer_words l now Durable) mix → IsKept l mix
+  pub layer : (mix : LayerWords) → IsLayerMix (layer_words l now Cached) (layer_words l now Durable) mix →
+      AreSame (kept l mix) (layer_of l words) ⊎ AreSame (kept l mix) (made_of (aim_of first) (layer_of l words))
 
 abbrev pub EachMomentKeeps : Type 0
 EachMomentKeeps = (l : Layout) (words : List ℕ) (first change : Change) (now : List ℕ) → Begins l words first →
     Runs l words first change now → MomentKeeps l words first change now
 
--- once it is done, the layer is the one that it makes, and the leaves are at rest
+-- once it is done, the layer is the one that it makes, and at rest
 abbrev pub RunsEndChanged : Type 0
 RunsEndChanged = (l : Layout) (words : List ℕ) (first change : Change) (now : List ℕ) (answer : Unit {0}) →
     Begins l words first → Runs l words first change now →

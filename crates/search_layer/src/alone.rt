@@ -1,9 +1,9 @@
 //! The machines run to their ends, with nobody else at the memory.
 ghost use Rattle.std.specs.Prelude.{◌≡◌, ◌≢◌, ◌<◌, ◌≤◌, ◌+◌, ◌*◌, Some, None};
 ghost use Rattle.pm_words.specs.Locations.{leaf_count};
-ghost use Rattle.search_layer.specs.Layers.{HasFew, IsFloorOf};
-ghost use Rattle.search_layer.specs.Keys.{key_number};
-ghost use Rattle.search_layer.specs.Leaves.{node_of, layer_of, IsInOrder};
+ghost use Rattle.layer_map.specs.Layers.{HasFew, IsFloorOf, node_of};
+ghost use Rattle.layer_map.specs.Keys.{key_number};
+ghost use Rattle.search_layer.specs.Kept.{layer_of, IsInOrder};
 ghost use Rattle.search_layer.specs.ChangeSteps.{IsChange, change_starts};
 ghost use Rattle.search_layer.specs.Laws.{IsAtRest, IsChanged};
 

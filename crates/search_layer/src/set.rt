@@ -93,7 +93,7 @@ impl Machine for Unset {
 
 impl Unset {
     ghost use Rattle.pm_words.specs.Layouts.{IsLayout};
-    ghost use Rattle.search_layer.specs.Keys.{key_number};
+    ghost use Rattle.layer_map.specs.Keys.{key_number};
     ghost use Rattle.search_layer.specs.SetSteps.{IsUnset, unset_starts};
 
     /// The unset of the key, which isn't zero.

@@ -111,7 +111,8 @@ pub record IsShapeWithin (slots nodes weighs names : ℕ) (m : Map) (anchors : A
 abbrev pub AnswersInShape : ℕ → ℕ → ℕ → ℕ → Map → Anchors → ToldRound → Type 0
 AnswersInShape slots nodes weighs names m anchors round =
     MatchBool round.lone
-    (IsLoneRound m (answered_records round.records) × IsFullByShape slots nodes m anchors (answered_records round.records))
+    (IsLoneRound m (answered_records round.records) ×
+    IsFullByShape slots nodes m anchors (answered_records round.records))
     (All (FullIsPaid slots nodes weighs names) round.records)
 
 -- Where that round was joined, the next shape is what its calls made of this one. After any other round the next one

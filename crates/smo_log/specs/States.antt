@@ -69,7 +69,8 @@ ready_at_held line entry (at.Fence fence) = fenced true line (fields entry 7) fe
 abbrev pub ready_held : Entry → Ready → HeldLine
 ready_held entry ready = ready_at_held ready.line entry ready.at
 
--- The kind of step of a turn, and that the fields are kept. At the end the line was made READY, and all that it says is durable.
+-- The kind of step of a turn, and that the fields are kept. At the end the line was made READY, and all that it says is
+-- durable.
 abbrev pub ReadyNotes : Layout → ℕ → Entry → HeldLine → Action → ℕ → Turn Ready (Unit {0}) → Type 0
 ReadyNotes l line entry held action x (Go next) =
     Notes l (Some held) action x (Some (ready_held entry next)) × IsReady next × (next.layout ≡ l) × (next.line ≡ line)

@@ -1,5 +1,6 @@
 -- What a call on a map comes to within a budget.
-use Rattle.std.specs.Prelude.{◌≡◌, ℕ, ◌+◌, ◌<◌, ◌≤◌, Bool, List, [], ◌∷◌, Option, Some, None, MatchBool, MatchResult, Result, Ok, Err}
+use Rattle.std.specs.Prelude.{◌≡◌, ℕ, ◌+◌, ◌<◌, ◌≤◌, Bool, List, [], ◌∷◌, Option, Some, None, MatchBool, MatchResult}
+use Rattle.std.specs.Prelude.{Result, Ok, Err}
 use Rattle.std.specs.FinMap.{insert, remove}
 use Rattle.cat_history.specs.Maps.{Map, at}
 use Rattle.cat_history.specs.Writes.{changed}
@@ -15,8 +16,8 @@ abbrev pub ComesTo : {T : Type 0} → Bounded T → (T → Type 0) → (Bool →
 ComesTo (bounded.Answered answer) answered cut = answered answer
 ComesTo (bounded.Cut placed) answered cut = cut placed
 
--- It takes so many events at most: it was answered, has taken no more of its budget, and this holds behind it; or it was
--- cut off, with a budget below that.
+-- It takes so many events at most: it was answered, has taken no more of its budget, and this holds behind it; or it
+-- was cut off, with a budget below that.
 abbrev pub IsInTime : {T : Type 0} → Bounded T → ℕ → ℕ → ℕ → Type 0 → Type 0
 IsInTime (bounded.Answered answer) most before after Then = (before ≤ after + most) × Then
 IsInTime (bounded.Cut placed) most before after Then = before < most
@@ -46,8 +47,8 @@ pub record DelGave (slots : ℕ) (s : MapState) (name : List ℕ) (old : Option 
   pub anchors : new.anchors ≡ del_anchors slots s.contents s.anchors name
   pub cut : new.cut ≡ s.cut
 
--- A change was cut off: the map is the one behind it where it has its place; else it is as it was, and the change may be
--- found or not.
+-- A change was cut off: the map is the one behind it where it has its place; else it is as it was, and the change may
+-- be found or not.
 abbrev pub WasCut : MapState → Change → Bool → MapState → Type 0
 WasCut s c placed new =
     MatchBool placed ((new.contents ≡ changed s.contents c) × AreAmong new.cut [])

@@ -63,4 +63,5 @@ pub record WasCutOff (limit : ℕ) (s : MapState) (place : ℕ) (op : Op) (reply
 abbrev pub Replies : ℕ → ℕ → ℕ → MapState → ℕ → Op → ℕ → Reply → ℕ → MapState → Type 0
 Replies slots most limit s place op budget reply left new =
     ((budget ≡ 0) × (left ≡ 0) × (reply ≡ Unstarted) × IsSame s new)
-    ⊎ ((0 < budget) × (WasAnswered slots most limit s place op reply new ⊎ ((left ≡ 0) × WasCutOff limit s place op reply new)))
+    ⊎ ((0 < budget) × (WasAnswered slots most limit s place op reply new ⊎
+    ((left ≡ 0) × WasCutOff limit s place op reply new)))

@@ -28,7 +28,8 @@ pub record HasStopped (slots most limit budget : ℕ) (s : MapState) (asked : Li
   pub leaves : new.contents ≡ after_all s.contents (writes_of records)
   pub cut : AreAmong new.cut (changes_cut records)
 
--- The parts of a scan, as far as it came: whether it was cut off behind them, and each at this place, ending with a member.
+-- The parts of a scan, as far as it came: whether it was cut off behind them, and each at this place, ending with a
+-- member.
 pub record IsScanSoFar (s : MapState) (from : List ℕ) (count place : ℕ) (cut : Bool) (parts : List ScanPart) : Type 0
   where
     pub legal : AreParts (λ _. s.contents) from count 0 cut parts

@@ -47,8 +47,8 @@ pub trait BoundedMap {
     /// How many more of them can be puts and removals.
     ghost writes_left: { Self → ℕ };
 
-    /// What it weighs, and so what a crash leaves of it at most. A put that adds a name makes it heavier by one at most,
-    /// and so does one that is cut off.
+    /// What it weighs, and so what a crash leaves of it at most. A put that adds a name makes it heavier by one at
+    /// most, and so does one that is cut off.
     ghost weighs: { Self → ℕ };
 
     /// Whether none of these calls, made one after another with no turn of the updater between, makes one itself.

@@ -60,7 +60,8 @@ pub fn run_crash_round<M: BoundedMap>(
     ensures told { IfOk result (λ round. All SettlesToReport round.records) }
     ensures weighs { IfOk result (λ round. M.weighs map.new ≤ M.weighs map.old + puts_added round.records) }
     // Where neither the calls nor the updater make turns, each call is answered for which the budget is enough.
-    ensures in_time { IfOk result (λ round. 0 < M.call_events → M.turnless map.old plan.now.ops → AreOnNames plan.now.ops →
+    ensures in_time { IfOk result (λ round. 0 < M.call_events → M.turnless map.old plan.now.ops →
+        AreOnNames plan.now.ops →
         HasNoTurns plan.now → AreInTime M.call_events budget round.records) }
     // So it is where the updater makes turns, so often that no call makes one, and with a budget for each.
     ensures in_time_with_turns { IfOk result (λ round. 0 < M.call_events → M.has_room map.old plan.now.ops →
@@ -129,7 +130,8 @@ fn reply_to<M: BoundedMap>(
     requires uncut { 0 < budget.old → (M.state map.old).cut ≡ [] }
     requires calls { M.most map.old ≤ M.calls_left map.old }
     requires writes { 0 < M.writes_left map.old }
-    ensures reply { IfOk result (λ reply. Replies (M.slots map.old) (M.most map.old) limit (M.state map.old) place op.now
+    ensures reply { IfOk result
+        (λ reply. Replies (M.slots map.old) (M.most map.old) limit (M.state map.old) place op.now
         budget.old reply budget.new (M.state map.new)) }
     ensures told { IfOk result (IsTold op.now) }
     ensures slots { M.slots map.new ≡ M.slots map.old }
@@ -185,7 +187,8 @@ fn write_mark(placed: bool, place: u64) -> CutMark
 
 /// What a put is told.
 fn put_reply(ended: Bounded<Result<Option<u64>, Full>>, place: u64) -> Reply
-    ensures reply { ComesTo ended (λ answer. MatchResult answer (λ old. result ≡ Reply.Old old place) (λ _. result ≡ Reply.Full))
+    ensures reply { ComesTo ended (λ answer. MatchResult answer (λ old. result ≡ Reply.Old old place)
+        (λ _. result ≡ Reply.Full))
         (λ placed. result ≡ Reply.Cut (write_mark placed place)) }
     ensures told { (name : List ℕ) (value : ℕ) → IsTold (Op.Put name value) result }
 {
@@ -213,7 +216,8 @@ fn get_reply(ended: Bounded<Option<u64>>, place: u64) -> Reply
 
 /// What a delete is told.
 fn del_reply(ended: Bounded<Option<u64>>, place: u64) -> Reply
-    ensures reply { ComesTo ended (λ old. result ≡ Reply.Old old place) (λ placed. result ≡ Reply.Cut (write_mark placed place)) }
+    ensures reply { ComesTo ended (λ old. result ≡ Reply.Old old place)
+        (λ placed. result ≡ Reply.Cut (write_mark placed place)) }
     ensures told { (name : List ℕ) → IsTold (Op.Del name) result }
 {
     match ended {
@@ -224,8 +228,8 @@ fn del_reply(ended: Bounded<Option<u64>>, place: u64) -> Reply
     }
 }
 
-/// Reads the parts of a scan, one after another, until there are as many names as were asked for, or no member is left, or
-/// the budget is used up; and whether it was.
+/// Reads the parts of a scan, one after another, until there are as many names as were asked for, or no member is left,
+/// or the budget is used up; and whether it was.
 fn scan<M: BoundedMap>(
     alloc: Global,
     map: &mut M,
@@ -278,7 +282,8 @@ fn read_part<M: BoundedMap>(
     requires uncut { (M.state map.old).cut ≡ [] }
     requires calls { 0 < M.calls_left map.old }
     requires some { 0 < budget.old }
-    ensures part { IfOk result (λ read. IfSome read (λ part. IsPart (λ _. (M.state map.old).contents) low left place part ×
+    ensures part { IfOk result (λ read. IfSome read
+        (λ part. IsPart (λ _. (M.state map.old).contents) low left place part ×
         (part.place ≡ place) × (part.high ≡ next_of (M.state map.old).anchors low))) }
     ensures cut { IfOk result (λ read. read ≡ None → budget.new ≡ 0) }
     ensures told { IfOk result (λ read. IfSome read IsReportPart) }

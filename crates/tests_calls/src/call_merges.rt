@@ -11,8 +11,8 @@ use pm_words::{Again, Layout};
 use std::process::Abort;
 use std::test::Fail;
 
-/// Node 0 gets the names a and b, and node 2 the name g. The floor takes 7 loads, since no leaf is used, a walk to node 0
-/// takes 9, and one to node 2 as many more; a put of a new name takes 67 actions behind the walk.
+/// Node 0 gets the names a and b, and node 2 the name g. The floor takes 7 loads, since no leaf is used, a walk to node
+/// 0 takes 9, and one to node 2 as many more; a put of a new name takes 67 actions behind the walk.
 fn three_names(rt: &impl Abort, row: &mut Row)
     ensures { row.new.layout ≡ row.old.layout }
 {
@@ -94,10 +94,10 @@ fn see_merged(rt: &impl Abort, row: &Row) {
     assert_eq!(rt; around, [READY, GONE, 0, 0]);
 }
 
-/// A delete that leaves one name, beside a node that has one, merges. Actions: 7 for the floor, 9 for the walk, 15 until
-/// the name is found, next, 17 for a line, 17 for the bitmap, and the add; then 20 up to the words of both nodes, 40 for
-/// the opened line, 8 loads and stores for the copy, a store of fingerprints, 32 for two lines, 17 for the bitmap, 17 for
-/// the switch, 3 for GONE and prevs, 17 for READY, and 2 stores. Its line is left READY.
+/// A delete that leaves one name, beside a node that has one, merges. Actions: 7 for the floor, 9 for the walk, 15
+/// until the name is found, next, 17 for a line, 17 for the bitmap, and the add; then 20 up to the words of both nodes,
+/// 40 for the opened line, 8 loads and stores for the copy, a store of fingerprints, 32 for two lines, 17 for the
+/// bitmap, 17 for the switch, 3 for GONE and prevs, 17 for READY, and 2 stores. Its line is left READY.
 fn merges(rt: &impl Abort, row: &mut Row) {
     let actions = 67 + 20 + 40 + 8 + 1 + 32 + 17 + 17 + 3 + 17 + 2;
     let is_merged = is_answered(rt, row, del(b'a'), done(Some(1), 3), actions);

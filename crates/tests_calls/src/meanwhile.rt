@@ -141,8 +141,8 @@ fn other_step(rt: &impl Abort, row: &mut Row, count: Option<u64>, actions: u64) 
     actions.wrapping_add(1)
 }
 
-/// A get of one name takes 5 actions of the floor, 6 of the walk, 10 until the fingerprints are loaded, 4 for the name and
-/// its value, and the last one.
+/// A get of one name takes 5 actions of the floor, 6 of the walk, 10 until the fingerprints are loaded, 4 for the name
+/// and its value, and the last one.
 #[test]
 fn a_get_beside_a_put_is_of_one_time(rt: HostRuntime) -> Result<(), Fail> {
     let layout = Layout::new(1, 4, 1)?;

@@ -221,8 +221,8 @@ fn see_versions(rt: &impl Abort, row: &Row, wants: (u64, u64)) {
     assert!(rt; left == LOCKED + 1);
 }
 
-/// A merge that merges nothing takes so many actions, gives both nodes back, and changes nothing else: the right one has
-/// this version word after it.
+/// A merge that merges nothing takes so many actions, gives both nodes back, and changes nothing else: the right one
+/// has this version word after it.
 fn refused(rt: &impl Abort, row: &mut Row, merge: Merge, meanwhile: Option<u64>, wants: (u64, u64))
     requires sound { IsMerge merge }
     requires generation { merge.view.generation ≡ RUN }

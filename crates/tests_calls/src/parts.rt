@@ -175,7 +175,8 @@ fn parts_of_one_node(rt: HostRuntime) -> Result<(), Fail> {
     Ok(())
 }
 
-/// A node that was split ends before the anchor of the next one, to which the walk makes a hop. The floor takes 6 loads.
+/// A node that was split ends before the anchor of the next one, to which the walk makes a hop. The floor takes 6
+/// loads.
 #[test]
 fn parts_end_with_their_node(rt: HostRuntime) -> Result<(), Fail> {
     let layout = Layout::new(2, 4, 1)?;

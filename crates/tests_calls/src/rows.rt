@@ -51,8 +51,8 @@ pub(crate) const P: u64 = 0x70 << 56;
 /// An address, and the word that is stored there.
 pub(crate) type Stored = (u64, u64);
 
-/// The words of a row, how many actions were done on it, and the first words that were stored, exchanged or counted; the
-/// loaded ones too, where those are noted.
+/// The words of a row, how many actions were done on it, and the first words that were stored, exchanged or counted;
+/// the loaded ones too, where those are noted.
 #[derive(Drop)]
 pub(crate) struct Row {
     pub(crate) layout: Layout,
@@ -265,7 +265,8 @@ impl Row {
 }
 
 impl Row {
-    /// The first of these addresses that isn't that of the noted action in its place: its number, or how many are noted.
+    /// The first of these addresses that isn't that of the noted action in its place: its number, or how many are
+    /// noted.
     pub(crate) fn other_address(&self, addresses: &[u64]) -> usize {
         for (k, address) in addresses.iter().copied().enumerate() {
             let (found, _) = self.stores.get(k).copied().unwrap_or((u64::MAX, 0));

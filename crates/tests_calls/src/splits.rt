@@ -15,8 +15,8 @@ use std::test::Fail;
 /// The word with which the full node is locked.
 const LOCKED: u64 = FREE + 7;
 
-/// Whether a crash now leaves each name in a node of the durable list: node 0 leads to node 1 only once that is whole and
-/// the line tells of it, and loses its upper half only once it leads there.
+/// Whether a crash now leaves each name in a node of the durable list: node 0 leads to node 1 only once that is whole
+/// and the line tells of it, and loses its upper half only once it leads there.
 fn is_in_order(rt: &impl Abort, row: &Row) -> bool {
     let (_, next) = row.of_node(rt, 0, node::NEXT);
     let (_, kept) = row.of_node(rt, 0, node::BITMAP);

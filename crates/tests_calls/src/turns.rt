@@ -172,8 +172,8 @@ fn split(rt: &impl Abort, row: &mut Row)
     make_ready(rt, row, 1, 1, G);
 }
 
-/// The stores of a split's line: the second leaf, which isn't in use, gets the key, zeros, and last the node; then the line
-/// is EMPTY.
+/// The stores of a split's line: the second leaf, which isn't in use, gets the key, zeros, and last the node; then the
+/// line is EMPTY.
 fn stores_of_split(rt: &impl Abort, layout: &Layout) -> [Stored; 10]
     requires { IsLayout layout.now }
 {
@@ -220,8 +220,8 @@ fn merge(rt: &impl Abort, row: &mut Row)
     make_ready(rt, row, 2, 2, M);
 }
 
-/// The stores of a merge's line, and the last two where the node is made FREE: the leaf leads to none, the merged node has
-/// the stamp, and the line is EMPTY; then the stamp is zero, and the status FREE.
+/// The stores of a merge's line, and the last two where the node is made FREE: the leaf leads to none, the merged node
+/// has the stamp, and the line is EMPTY; then the stamp is zero, and the status FREE.
 fn stores_of_merge(rt: &impl Abort, layout: &Layout) -> [Stored; 5]
     requires { IsLayout layout.now }
 {
@@ -241,8 +241,8 @@ fn stores_of_merge(rt: &impl Abort, layout: &Layout) -> [Stored; 5]
 /// The fields; the floor, which finds two of eight leaves used; the walk, which loads the version, the status and the
 /// node before of the merged node, and then of node 0 its version, its status, its anchor and that there is no next
 /// node; the version again; the unset, which reads two leaves and stores and drains one; the stamp, and EMPTY. Of each
-/// line the state; of each node the status, and of the merged one the stamp; the statuses once more, and the lock. Where
-/// the release allows the stamp, the version of the node, stamp 0 and FREE.
+/// line the state; of each node the status, and of the merged one the stamp; the statuses once more, and the lock.
+/// Where the release allows the stamp, the version of the node, stamp 0 and FREE.
 fn carries_a_merge(rt: &impl Abort, row: &mut Row, release: u64) {
     let (floor, walk, unset) = (2 * 4 + 6, 3 + 6, 2 * 4 + 1 + 16);
     let carried = 6 + floor + walk + 1 + unset + 1 + 1;
@@ -268,7 +268,8 @@ fn stamps_a_merged_node(rt: HostRuntime) -> Result<(), Fail> {
     Ok(())
 }
 
-/// Node 1 with this stamp, node 2 with one past the release 5, and node 3, which is worn: a turn frees the first, or none.
+/// Node 1 with this stamp, node 2 with one past the release 5, and node 3, which is worn: a turn frees the first, or
+/// none.
 fn frees(rt: &impl Abort, row: &mut Row, stamp: u64, freed: bool) {
     gone(rt, row, 1, stamp);
     gone(rt, row, 2, 7);

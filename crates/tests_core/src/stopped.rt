@@ -88,8 +88,8 @@ fn evict_word(recovery: &mut Recovery, word: u64) {
     }
 }
 
-/// What a crash leaves of a recovery after so many actions, with the words of this seed evicted; and whether all actions
-/// were made.
+/// What a crash leaves of a recovery after so many actions, with the words of this seed evicted; and whether all
+/// actions were made.
 fn broken(
     alloc: Global,
     image: Image,
@@ -142,8 +142,8 @@ fn half_way(alloc: Global) -> Option<u64> {
     None
 }
 
-/// After how many actions, and with which seed, a recovery of the split that was cut off half way leaves another map. All
-/// numbers of actions are tried, up to its end.
+/// After how many actions, and with which seed, a recovery of the split that was cut off half way leaves another map.
+/// All numbers of actions are tried, up to its end.
 fn first_lost(alloc: Global) -> Option<Option<(u64, u64)>> {
     let before = half_way(alloc)?;
     for actions in 0..MANY {
@@ -167,8 +167,8 @@ fn a_stopped_recovery_keeps_the_map(rt: HostRuntime) {
     assert!(rt; first_lost(rt.alloc()) == Some(None));
 }
 
-/// Breaks recoveries of an image off, five one after another after drawn actions with drawn words evicted, and tells by how
-/// many generations it has risen.
+/// Breaks recoveries of an image off, five one after another after drawn actions with drawn words evicted, and tells by
+/// how many generations it has risen.
 fn broken_five_times(alloc: Global, image: Image, draws: &mut u64) -> Option<(Image, u64)> {
     let first = word_of(&image, header::GENERATION);
     let mut left = image;
@@ -219,8 +219,8 @@ fn generations_end(rt: HostRuntime) {
     assert!(rt; ends_of(rt.alloc()) == Some([None, Some(OpenFault::Generations)]));
 }
 
-/// An image of the last generation but one: what a recovery that is broken off after its first store is refused for, and
-/// what one of what that leaves.
+/// An image of the last generation but one: what a recovery that is broken off after its first store is refused for,
+/// and what one of what that leaves.
 fn ends_of(alloc: Global) -> Option<[Option<OpenFault>; 2]> {
     let mut bytes = split(alloc, 0)?.write(alloc).ok()?;
     let (words, _) = bytes.as_mut_slice().as_chunks_mut::<8>();

@@ -199,14 +199,16 @@ fn all_four<R: Threads + Sync>(
     join(
         rt,
         move || -> ((EpochSeat, Pinned), (EpochSeat, Pinned))
-            requires { IsSync R.row × (IsSeatOf epochs.now one × IsUnpinned one) × (IsSeatOf epochs.now two × IsUnpinned two) }
+            requires { IsSync R.row × (IsSeatOf epochs.now one × IsUnpinned one) ×
+                (IsSeatOf epochs.now two × IsUnpinned two) }
             ensures { (IsSeatOf epochs.entry.now result.0.0 × IsUnpinned result.0.0 × (result.0.0.party ≡ one.party)) ×
                 (IsSeatOf epochs.entry.now result.1.0 × IsUnpinned result.1.0 × (result.1.0.party ≡ two.party)) }
         { both_pin(rt, epochs, one, two, freed, done) },
         move || -> ((EpochSeat, u64), (EpochSeat, u64))
             requires { IsSync R.row × (IsSeatOf epochs.now three × IsUnpinned three) ×
                 (IsSeatOf epochs.now four × IsUnpinned four) }
-            ensures { (IsSeatOf epochs.entry.now result.0.0 × IsUnpinned result.0.0 × (result.0.0.party ≡ three.party)) ×
+            ensures { (IsSeatOf epochs.entry.now result.0.0 × IsUnpinned result.0.0 ×
+                (result.0.0.party ≡ three.party)) ×
                 (IsSeatOf epochs.entry.now result.1.0 × IsUnpinned result.1.0 × (result.1.0.party ≡ four.party)) }
         { both_advance(rt, epochs, three, four, freed, done) },
     )

@@ -50,7 +50,8 @@ fn are_pairs(pairs: &[Pair], want: &[(&[u8], u64)]) -> bool {
 
 /// Whether these are the pairs of an image of four nodes of four slots with these words.
 ///
-/// Node n starts at word 16 + 32 n: its bitmap is one word behind, its fingerprints eight, and slot k is 16 + 4 k behind.
+/// Node n starts at word 16 + 32 n: its bitmap is one word behind, its fingerprints eight, and slot k is 16 + 4 k
+/// behind.
 fn tells(alloc: Global, first: &[u64], changes: &[u64], want: &[(&[u8], u64)]) -> bool {
     let Some(image) = image_with(alloc, 4, 4, first, changes) else {
         return false;

@@ -151,8 +151,8 @@ fn set(row: &mut [u64], field: usize, value: u64) {
     }
 }
 
-/// Changes one number of a round: its table, its row there, its place in the row, and what it becomes. Where there is no
-/// such row nothing changes.
+/// Changes one number of a round: its table, its row there, its place in the row, and what it becomes. Where there is
+/// no such row nothing changes.
 pub fn change(round: &mut Round, table: u64, row: usize, field: usize, value: u64) {
     match table {
         IN_BASE => change_base(&mut round.base, row, field, value),

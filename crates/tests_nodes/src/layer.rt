@@ -2,7 +2,7 @@
 
 ghost use Rattle.std.specs.Prelude.{◌≡◌, ◌≢◌, ◌<◌, ◌≤◌};
 ghost use Rattle.pm_words.specs.Layouts.{IsLayout};
-ghost use Rattle.search_layer.specs.Keys.{key_number};
+ghost use Rattle.layer_map.specs.Keys.{key_number};
 ghost use Rattle.search_layer.specs.ChangeSteps.{IsChange};
 
 use pm_words::offsets::leaf;

@@ -60,8 +60,8 @@ fn is_due(turns: u64, made: u64) -> bool {
     turns != 0 && made % turns == 0
 }
 
-/// Makes a put or a delete, and then a turn of the updater where one is due. Other calls it passes over. Returns how many
-/// are made then of the calls that it doesn't.
+/// Makes a put or a delete, and then a turn of the updater where one is due. Other calls it passes over. Returns how
+/// many are made then of the calls that it doesn't.
 fn make<L: Ledger>(
     core: &mut Core,
     op: &Op,
@@ -109,8 +109,8 @@ fn bytes_after<L: Ledger>(
     core.image(alloc).ok()?.write(alloc).ok()
 }
 
-/// Runs the puts and deletes among these calls on the file of a shelf. Whether it is then the image of a core that makes
-/// the same ones.
+/// Runs the puts and deletes among these calls on the file of a shelf. Whether it is then the image of a core that
+/// makes the same ones.
 fn is_beside<R: AllocGlobal + Threads + Wait + Sync>(
     rt: &R,
     shelf: &mut MemoryShelf,

@@ -75,8 +75,8 @@ fn first_other_write<R: AllocGlobal + Threads + Wait + Sync>(rt: &R) -> Option<u
     })
 }
 
-/// What `run` comes to on a file, of which calls of the shelf, the source and the sink fail: the exit code, how many bytes
-/// it writes, and the generation that the file has then. `format` makes the shelf's first two calls.
+/// What `run` comes to on a file, of which calls of the shelf, the source and the sink fail: the exit code, how many
+/// bytes it writes, and the generation that the file has then. `format` makes the shelf's first two calls.
 fn run_on_file<R: AllocGlobal + Threads + Wait + Sync>(
     rt: &R,
     shelf_call: u64,

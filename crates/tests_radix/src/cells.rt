@@ -181,8 +181,8 @@ fn wrong_down(cell: &mut Cell, map: &mut BTreeMap<u8, u64>, order: Order) -> u64
     wrong
 }
 
-/// Whether the way up in one order and down in another come as on the map, and taking out each of the last two tells the
-/// other one.
+/// Whether the way up in one order and down in another come as on the map, and taking out each of the last two tells
+/// the other one.
 fn is_right(alloc: Global, up: Order, down: Order) -> Option<bool> {
     let mut map = BTreeMap::new(alloc);
     let (one, two) = (up.byte(0), up.byte(1));

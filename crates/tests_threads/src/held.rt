@@ -1,5 +1,5 @@
-//! A get and a part of a range scan that stand still before one of their steps while another caller puts a name into their
-//! node, before each step in turn.
+//! A get and a part of a range scan that stand still before one of their steps while another caller puts a name into
+//! their node, before each step in turn.
 
 use crate::meeting::{First, Seen, met};
 use crate::playing::{Habit, Kind, Plan};
@@ -35,8 +35,9 @@ fn idle() -> Plan {
     }
 }
 
-/// How many steps a read takes where its node has one live slot or two: of the floor, the walk, the clock, the bitmap and
-/// the fingerprints, of the name and its value, and the version word. A part loads four words of each live slot too.
+/// How many steps a read takes where its node has one live slot or two: of the floor, the walk, the clock, the bitmap
+/// and the fingerprints, of the name and its value, and the version word. A part loads four words of each live slot
+/// too.
 fn steps_of(habit: Habit, slots: u64) -> u64 {
     let get = 8 + 6 + 1 + 1 + 8 + 4 + 1;
     match habit {
@@ -47,8 +48,8 @@ fn steps_of(habit: Habit, slots: u64) -> u64 {
 
 /// How many steps the first read takes, over all its tries, and of which place it is, where it stands still before this
 /// step. A put before its first load of the version word is seen; from then on the read is turned back by it, and is of
-/// the next place once it is made again; and no put is seen that comes once it is over. A try that stands still before its
-/// bitmap is loaded sees two slots.
+/// the next place once it is made again; and no put is seen that comes once it is over. A try that stands still before
+/// its bitmap is loaded sees two slots.
 fn by_the_rule(habit: Habit, step: u64) -> (u64, u64) {
     let (one, two) = (steps_of(habit, 1), steps_of(habit, 2));
     if step < 9 {

@@ -98,8 +98,8 @@ fn replies_are_those_of_one_history(rt: HostRuntime) -> Result<(), Fail> {
     Ok(())
 }
 
-/// Parts and scans beside writers, on one node, and where the writers split nodes of four slots and merge them. A scan has
-/// a part at least.
+/// Parts and scans beside writers, on one node, and where the writers split nodes of four slots and merge them. A scan
+/// has a part at least.
 #[test]
 fn parts_and_scans_are_those_of_the_history(rt: HostRuntime) -> Result<(), Fail> {
     for (nodes, slots, names) in [(1, 64, 5), (64, 4, 16)] {
@@ -118,8 +118,8 @@ fn parts_and_scans_are_those_of_the_history(rt: HostRuntime) -> Result<(), Fail>
     Ok(())
 }
 
-/// A caller has eight log lines, so that without turns its ninth split would find none. The names rise, so the fifth one
-/// splits the last node, which then has three, and every second one after it does so again.
+/// A caller has eight log lines, so that without turns its ninth split would find none. The names rise, so the fifth
+/// one splits the last node, which then has three, and every second one after it does so again.
 #[test]
 fn turns_empty_the_lines_of_puts_that_split(rt: HostRuntime) -> Result<(), Fail> {
     let plans = [tries(Kind::Puts, b'a', 120, 120), IDLE, IDLE, IDLE];
@@ -171,8 +171,8 @@ fn puts_that_no_turn_can_help_end_full(rt: HostRuntime) -> Result<(), Fail> {
     Ok(())
 }
 
-/// A put that ends full is a call as any other: it has an index of its own, and places nothing. On one node of four slots
-/// the fifth name finds no room, and the sixth call is of the first name again.
+/// A put that ends full is a call as any other: it has an index of its own, and places nothing. On one node of four
+/// slots the fifth name finds no room, and the sixth call is of the first name again.
 #[test]
 fn a_full_put_counts_as_one_call(rt: HostRuntime) -> Result<(), Fail> {
     let plans = [waits(Kind::Puts, b'a', 5, 7), IDLE, IDLE, IDLE];
@@ -186,8 +186,8 @@ fn a_full_put_counts_as_one_call(rt: HostRuntime) -> Result<(), Fail> {
 }
 
 /// A gate is told of all steps of a whole put, over its four tries and a turn behind each. A put of a new name takes 8
-/// steps for the floor, 6 for the walk and 67 for the rest; one that finds no room 8, 6 and 31; and a turn with nothing to
-/// do takes the lock, loads the states of 32 lines and the status of the node twice, and gives the lock back.
+/// steps for the floor, 6 for the walk and 67 for the rest; one that finds no room 8, 6 and 31; and a turn with nothing
+/// to do takes the lock, loads the states of 32 lines and the status of the node twice, and gives the lock back.
 #[test]
 fn a_gate_sees_each_step_of_a_whole_put(rt: HostRuntime) -> Result<(), Fail> {
     let plans = [waits(Kind::Puts, b'a', 5, 5), IDLE, IDLE, IDLE];

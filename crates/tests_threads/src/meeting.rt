@@ -264,7 +264,8 @@ pub(crate) struct First {
     pub(crate) moved: bool,
 }
 
-/// Whether a try that was turned back tells both version words, the second of a node that was locked once and given back.
+/// Whether a try that was turned back tells both version words, the second of a node that was locked once and given
+/// back.
 fn is_moved(back: Option<Again>) -> bool {
     match back {
         Some(

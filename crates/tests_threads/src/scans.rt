@@ -54,8 +54,8 @@ fn are_wanted(parts: &[ScanPart], place: u64, wanted: &[Wanted]) -> bool {
             .all(|(part, wanted)| is_wanted(part, place, *wanted))
 }
 
-/// A call of the letter of this number: a put of its number from 1 on, which is made once more if it was turned back, as
-/// one is that splits its node; or a get.
+/// A call of the letter of this number: a put of its number from 1 on, which is made once more if it was turned back,
+/// as one is that splits its node; or a get.
 fn calls(shared: &Shared, caller: &mut Caller, number: u64, puts: bool) -> Option<()>
     requires { IsCallerOf shared.now caller.old × (caller.old.number < shared.now.about.layout.callers) }
     ensures { IsCallerOf shared.now caller.new × (caller.new.number ≡ caller.old.number) }
@@ -124,8 +124,8 @@ fn other_scan<R: Wait>(
     Some(rows.len())
 }
 
-/// Five calls, these scans, and a put behind them, all of one caller of a fresh index: the number of the first scan that is
-/// otherwise, and the index of the last write's call with the number of writes.
+/// Five calls, these scans, and a put behind them, all of one caller of a fresh index: the number of the first scan
+/// that is otherwise, and the index of the last write's call with the number of writes.
 fn scanned<R: Wait>(
     rt: &R,
     alloc: Global,
@@ -155,8 +155,8 @@ fn scanned<R: Wait>(
     Ok((other, last, history.len()))
 }
 
-/// The fifth name splits a node of four slots: `a` and `b` stay, and the others have the next one. A scan is one call, so
-/// that the put behind the scans has the index behind theirs.
+/// The fifth name splits a node of four slots: `a` and `b` stay, and the others have the next one. A scan is one call,
+/// so that the put behind the scans has the index behind theirs.
 #[test]
 fn a_scan_has_a_part_for_each_node(rt: HostRuntime) -> Result<(), Fail> {
     let layout = Layout::new(8, 4, 1)?;

@@ -37,8 +37,8 @@ pub record HasMet (s : Shared) (callers : List Caller) (records : List Record) (
   pub records_are : round.records ≡ records
   pub met : IsJoinedAnd round.finish (λ core. Meeting s callers core × (round.writes ≡ length core.history))
 
--- A crash ended the round, which has these records, and as many writes as of them tell their place. The image is what it
--- left, by this seed.
+-- A crash ended the round, which has these records, and as many writes as of them tell their place. The image is what
+-- it left, by this seed.
 pub record HasEndedByCrash (s : Shared) (callers : List Caller) (records : List Record) (seed : ℕ) (round : Round) :
     Type 0 where
   pub records_are : round.records ≡ records

@@ -48,10 +48,10 @@ scan_told (scanned.Cut parts) = Parts parts true
 abbrev pub made : ℕ → ℕ → Op → Reply → Record
 made caller index op reply = record { caller = caller; index = index; op = op; reply = reply }
 
--- A caller has made its call of this index between two views, or come so far with it as its record says. What that tells
--- is the map's at a place of that time, and of its own writes just the one that the record tells is added. Where the call
--- was full, the caller has noted that no node was FREE. What it tells now as cut off is this call: the record says so of
--- its change, if that has no place, and counts its put as one that may have added a name.
+-- A caller has made its call of this index between two views, or come so far with it as its record says. What that
+-- tells is the map's at a place of that time, and of its own writes just the one that the record tells is added. Where
+-- the call was full, the caller has noted that no node was FREE. What it tells now as cut off is this call: the record
+-- says so of its change, if that has no place, and counts its put as one that may have added a name.
 pub record IsMade (limit caller index : ℕ) (op : Op) (reply : Reply) (old new : Member) (cut : Option CutCall) :
     Type 0 where
   pub about : new.about ≡ old.about

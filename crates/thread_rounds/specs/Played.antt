@@ -36,8 +36,8 @@ abbrev pub IsToldOnceSettled : Record → Type 0
 IsToldOnceSettled r = (end : Map) → IsReportReply r.op (settled_reply end r.op r.reply)
 
 -- A caller of this number was asked these, and came so far with these calls within this budget: its view says that they
--- came to their replies so, and a report may have each of these. What it tells as cut off the records tell. Where it had
--- no bound each call was answered, and the caller is at rest.
+-- came to their replies so, and a report may have each of these. What it tells as cut off the records tell. Where it
+-- had no bound each call was answered, and the caller is at rest.
 pub record HasPlayed (limit caller : ℕ) (budget : Option ℕ) (asked : List Op) (c : Caller) (records : List Record) :
     Type 0 where
   pub stopped : HasStopped (map_of (seen_by c).about.base) limit caller asked (seen_by c).seen records

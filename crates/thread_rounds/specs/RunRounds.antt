@@ -32,9 +32,10 @@ use Rattle.thread_rounds.specs.Played.{IsToldOnceSettled}
 
 -- The plan's calls were made from this core on, by their callers at once, and are a legal round that was joined. Its
 -- records stand by caller, each caller's in the order of its calls, and each reply is one of a report. It has so many
--- writes, which are the history of the core in which the callers met. Each full answer is paid for by the weight and the
--- names of the first core and the puts that added a name, and the second one weighs no more than that. Where calls of
--- different callers are about different names and each took place, the map is that of the calls in the script's order.
+-- writes, which are the history of the core in which the callers met. Each full answer is paid for by the weight and
+-- the names of the first core and the puts that added a name, and the second one weighs no more than that. Where calls
+-- of different callers are about different names and each took place, the map is that of the calls in the script's
+-- order.
 pub record IsRunRound (core : Index) (plan : RoundPlan) (records : List Record) (writes : ℕ) (met : Index) : Type 0
   where
     pub legal : IsJoinedRound (map_of core.base) (numbered plan.ops) plan.limit records met.history
@@ -55,8 +56,8 @@ pub record IsRunRound (core : Index) (plan : RoundPlan) (records : List Record) 
     pub clock : at met.layout met.words Clock ≡ length met.history
     pub stamps : (n : ℕ) → n < met.layout.nodes → stamp_in met.layout met.words n ≤ 1
 
--- The image is what a crash leaves of an index of the core's run, of the same base, once those words are durable that the
--- seed chooses.
+-- The image is what a crash leaves of an index of the core's run, of the same base, once those words are durable that
+-- the seed chooses.
 pub record IsLeftByCrash (core : Index) (seed : ℕ) (image : Row) : Type 0 where
   pub left : Index
   pub index : IsIndex left

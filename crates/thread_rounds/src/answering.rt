@@ -44,8 +44,8 @@ pub(crate) fn reply_to<R: Wait, G: Gate>(
     answer(rt, alloc, shared, caller, op, limit, gate)
 }
 
-/// One call by a caller that has a step left, with the gate before its first step and between its steps. It may wait for
-/// a node that another caller holds.
+/// One call by a caller that has a step left, with the gate before its first step and between its steps. It may wait
+/// for a node that another caller holds.
 fn answer<R: Wait, G: Gate>(
     rt: &R,
     alloc: Global,

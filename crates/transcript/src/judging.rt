@@ -40,8 +40,8 @@ use std::alloc::Global;
 /// 8. the map at the end has as many names as the end says.
 ///
 /// `NoMemory` may come instead of each of them. In the base a name that stands twice has its first number. It takes
-/// time in proportion to the base, the calls and the records with what they list, and to the logarithm of how many there
-/// are.
+/// time in proportion to the base, the calls and the records with what they list, and to the logarithm of how many
+/// there are.
 pub fn judge(
     alloc: Global,
     base: Pairs,

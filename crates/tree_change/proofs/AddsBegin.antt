@@ -9,7 +9,7 @@ use Rattle.radix_nodes.proofs.IndexForm.{place_fills, index_adds}
 use Rattle.tree_law.specs.Trees.{Nothing, Cell, Tree, IsLeaf, byte_at}
 use Rattle.tree_law.specs.Switches.{Entry, IsSameAt}
 use Rattle.tree_law.specs.Paths.{Comes}
-use Rattle.search_layer.specs.Layers.{Layer}
+use Rattle.layer_map.specs.Layers.{Layer}
 use Rattle.tree_law.specs.Words.{Keeps, RootWord, LeafWord, CellWord, LayerWords, kind_of, number_of, reference_of, cell_in, tree_of, room_of, Stored, in_cell}
 use Rattle.tree_law.specs.Changes.{IsFilledLeaf}
 use Rattle.tree_law.proofs.StageLaw.{quiet_keeps}

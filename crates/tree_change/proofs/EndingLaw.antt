@@ -1,7 +1,7 @@
 -- The stages of the end of a change.
 use Rattle.std.proofs.Common.{◌≡◌, ◌≢◌, ℕ, ◌+◌, ◌*◌, ◌/◌, ◌%◌, ◌<◌, ◌≤◌, ◌==◌, cond, inl, inr, Option, Some, None, refl, sym, subst, subst₂, ap, ◌∙◌, arith}
 use Rattle.std.proofs.lemmas.Bool.{cases_eq}
-use Rattle.search_layer.specs.Layers.{Layer}
+use Rattle.layer_map.specs.Layers.{Layer}
 use Rattle.tree_law.specs.Words.{LayerWord, CellWord, LayerWords, word_in, kind_of, number_of, Stored, AreEven, IsMix, Keeps}
 use Rattle.tree_law.specs.Stages.{SwitchLaw}
 use Rattle.tree_law.proofs.StageLaw.{same_words, switches_keep}

@@ -1,7 +1,7 @@
 -- The stages of a filling.
 use Rattle.std.proofs.Common.{◌≡◌, ◌≢◌, ℕ, ◌+◌, ◌*◌, ◌<◌, ◌≤◌, inl, inr, Option, Some, None, refl, sym, subst, subst₂, ap, ◌∙◌, arith}
 use Rattle.std.proofs.lemmas.Bool.{cases_eq, cases_lt}
-use Rattle.search_layer.specs.Layers.{Layer}
+use Rattle.layer_map.specs.Layers.{Layer}
 use Rattle.tree_law.specs.Words.{LayerWords, word_in, Stored, IsMix, Part, LeafPart, CellPart, part_word}
 use Rattle.tree_law.specs.Stages.{FillLaw}
 use Rattle.tree_law.proofs.StageLaw.{fills_keep}

@@ -8,7 +8,7 @@ use Rattle.pm_words.specs.Rows.{IsRow, acted, evicted}
 use Rattle.pm_words.specs.Rows as rows
 use Rattle.radix_nodes.specs.Cells.{words_of}
 use Rattle.radix_nodes.specs.Fills.{lines_of, fill_leaf_asks, fill_leaf_turned, fill_cell_asks, fill_cell_turned}
-use Rattle.search_layer.specs.Layers.{Layer}
+use Rattle.layer_map.specs.Layers.{Layer}
 use Rattle.tree_law.specs.Words.{LayerWords, IsMix, Keeps, LeafPart}
 use Rattle.tree_row.specs.Rows.{layer_words}
 use Rattle.tree_row.proofs.RowLaw.{crash_reads, eviction_mixes}

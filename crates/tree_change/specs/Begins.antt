@@ -4,7 +4,7 @@ use Rattle.cat_key.specs.declared.TheConstants.{WORDS}
 use Rattle.radix_nodes.specs.Bytes.{byte_set}
 use Rattle.radix_nodes.specs.Cells.{children}
 use Rattle.radix_nodes.specs.Changes.{with_word, IsCellStore, HasTwoMore, IsOneMore}
-use Rattle.search_layer.specs.Layers.{Layer, changed_at}
+use Rattle.layer_map.specs.Layers.{Layer, changed_at}
 use Rattle.tree_law.specs.Trees.{Cell, byte_at}
 use Rattle.tree_law.specs.Switches.{Root}
 use Rattle.tree_law.specs.Words.{LayerWords, kind_of, reference_of, cell_in, tree_of, Keeps}

@@ -10,7 +10,7 @@ use Rattle.pm_words.specs.declared.fence.FenceAt.{FenceAt}
 use Rattle.pm_words.specs.declared.fence.FenceAt.TheVariants as fence_at
 use Rattle.pm_words.specs.Fences.{line_of}
 use Rattle.pm_words.specs.Locations.{Root}
-use Rattle.search_layer.specs.Layers.{Layer, AreSame, changed_at}
+use Rattle.layer_map.specs.Layers.{Layer, AreSame, changed_at}
 use Rattle.tree_law.specs.Words.{LayerWord, RootWord, LeafWord, CellWord, LayerWords, word_in, kind_of, number_of}
 use Rattle.tree_law.specs.Words.{layer_of, Stored, AreEven, IsMix, Keeps, ChangesKey}
 use Rattle.tree_law.specs.Stages.{SureSwitched}

@@ -11,7 +11,7 @@ use Rattle.radix_nodes.specs.declared.fill_cell.FillCell.{FillCell}
 use Rattle.radix_nodes.specs.Cells.{words_of}
 use Rattle.radix_nodes.specs.Fills.{leaf_value, fill_leaf_asks, fill_leaf_turned, fill_leaf_takes}
 use Rattle.radix_nodes.specs.Fills.{lines_of, fill_cell_asks, fill_cell_turned, fill_cell_takes}
-use Rattle.search_layer.specs.Layers.{Layer}
+use Rattle.layer_map.specs.Layers.{Layer}
 use Rattle.tree_law.specs.Words.{LayerWords, word_in, IsMix, Keeps, Part, LeafPart, CellPart, part_word, AreSameBut}
 use Rattle.tree_law.specs.Stages.{SureFills}
 use Rattle.tree_change.specs.Takes.{IsUnreached}

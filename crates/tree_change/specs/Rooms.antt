@@ -8,7 +8,7 @@ use Rattle.radix_nodes.specs.Bytes.{byte_in, byte_set}
 use Rattle.radix_nodes.specs.Cells.{CellWords, entry_of, children, IsForm}
 use Rattle.radix_nodes.specs.Changes.{with_word, IsCellStore}
 use Rattle.radix_nodes.specs.Places.{IsFreePlace}
-use Rattle.search_layer.specs.Layers.{Layer, AreSame, changed_at}
+use Rattle.layer_map.specs.Layers.{Layer, AreSame, changed_at}
 use Rattle.tree_law.specs.Trees.{Leaf, byte_at}
 use Rattle.tree_law.specs.Words.{LayerWords, kind_of, number_of, reference_of, cell_in, layer_of, CellWord, IsLawful}
 use Rattle.tree_law.specs.Words.{Stored, Keeps}

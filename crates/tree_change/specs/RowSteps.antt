@@ -9,7 +9,7 @@ use Rattle.radix_nodes.specs.declared.fill_cell.FillCell.{FillCell}
 use Rattle.radix_nodes.specs.Cells.{words_of}
 use Rattle.radix_nodes.specs.Fills.{lines_of, IsFillLeaf, fill_leaf_asks, fill_leaf_turned}
 use Rattle.radix_nodes.specs.Fills.{IsFillCell, fill_cell_asks, fill_cell_turned}
-use Rattle.search_layer.specs.Layers.{Layer}
+use Rattle.layer_map.specs.Layers.{Layer}
 use Rattle.tree_law.specs.Words.{LayerWords, Keeps, Part, LeafPart}
 use Rattle.tree_row.specs.Rows.{layer_words, image_layer}
 use Rattle.tree_change.specs.declared.finish.Finish.{Finish}

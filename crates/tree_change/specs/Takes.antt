@@ -7,7 +7,7 @@ use Rattle.pm_words.specs.declared.machine.Turn.{Turn}
 use Rattle.pm_words.specs.declared.machine.Turn.TheVariants.{Go, Done}
 use Rattle.pm_words.specs.Layouts.{IsLayout}
 use Rattle.pm_words.specs.Locations.{Mark, address_of, leaf_count}
-use Rattle.search_layer.specs.Layers.{HasFew}
+use Rattle.layer_map.specs.Layers.{HasFew}
 use Rattle.tree_law.specs.Trees.{IsReached}
 use Rattle.tree_law.specs.Words.{LayerWords, tree_of, layer_of, IsLawful, Part, LeafPart, CellPart, part_reference}
 use Rattle.tree_law.specs.Words.{AreSameBut, kind_of, number_of, reference_of}

@@ -8,7 +8,7 @@ use Rattle.pm_words.specs.declared.machine.Turn.{Turn}
 use Rattle.pm_words.specs.declared.machine.Turn.TheVariants.{Go, Done}
 use Rattle.pm_words.specs.Layouts.{IsLayout}
 use Rattle.pm_words.specs.Locations.{leaf_count}
-use Rattle.search_layer.specs.Layers.{IsFloorOf}
+use Rattle.layer_map.specs.Layers.{IsFloorOf}
 use Rattle.tree_law.specs.Trees.{Reference, Nothing, Leaf, Cell, Tree, Reaches, here, below, IsReached, Room, IsLeaf, IsCell, IsSound, IsSoundFrom, span, first_bytes, byte_at}
 use Rattle.radix_nodes.specs.Cells.{children, prefix_words}
 use Rattle.radix_nodes.specs.Keys.{key_bytes}

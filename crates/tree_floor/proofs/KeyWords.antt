@@ -3,8 +3,8 @@ use Rattle.std.proofs.Common.{◌≡◌, ℕ, zero, suc, ◌+◌, ◌*◌, ◌^�
 use Rattle.std.proofs.lemmas.Bool.{cases_eq}
 use Rattle.std.proofs.lemmas.List.{get_or-set_same, get_or-set_other, length-set}
 use Rattle.cat_key.specs.declared.TheConstants.{WORDS}
-use Rattle.search_layer.specs.Keys as row
-use Rattle.search_layer.proofs.KeyLemmas.{key_order}
+use Rattle.layer_map.specs.Keys as row
+use Rattle.layer_map.proofs.KeyLemmas.{key_order}
 use Rattle.std.specs.Prelude.{nat_le}
 use Rattle.std.specs.Ordering.{partial_le, as_partial_cmp}
 use Rattle.std.specs.Cmp.Lexicographic.{slice_partial_cmp}

@@ -14,7 +14,7 @@ use Rattle.radix_nodes.specs.Keys.{key_bytes}
 use Rattle.tree_law.specs.Trees.{span, first_bytes, byte_at, way_length}
 use Rattle.tree_law.specs.Words.{LayerWord, RootWord, LeafWord, CellWord, LayerWords, word_in, kind_of, number_of}
 use Rattle.tree_law.specs.Words.{IsLawful, layer_of}
-use Rattle.search_layer.specs.Layers.{IsFloorOf}
+use Rattle.layer_map.specs.Layers.{IsFloorOf}
 use Rattle.tree_row.specs.Rows.{layer_address, HasLayerWord}
 use Rattle.tree_law.specs.FloorWalks.{node_told}
 use Rattle.tree_floor.specs.declared.floor.Floor.{Floor}

@@ -1,7 +1,7 @@
 -- A floor in a tree in order is exact.
 use Rattle.std.proofs.Common.{◌≡◌, ◌≢◌, ℕ, zero, suc, ◌+◌, ◌<◌, ◌≤◌, ◌⊎◌, true, false, cond, ltb, leb, Option, Some, None, inl, inr, refl, sym, subst, ap, ◌∙◌, arith}
 use Rattle.std.proofs.lemmas.Bool.{cases_eq, cases_lt, ltb-true, ltb-false, leb-true, leb-false}
-use Rattle.search_layer.specs.Layers.{IsFloorOf}
+use Rattle.layer_map.specs.Layers.{IsFloorOf}
 use Rattle.tree_law.specs.Trees.{Reference, Nothing, Leaf, Cell, Tree, Reaches, here, below, Room, IsUnder, IsCell, IsSoundFrom, IsTree, span, byte_at, depth_of, first_bytes, layer_in}
 use Rattle.tree_law.specs.Floors.{child_or, child_below, last_leaf, floor_in, landed, FloorIsExact}
 use Rattle.tree_law.proofs.Spans.{span_last, byte_of, ByteOf, edges_rise}

@@ -3,7 +3,7 @@ use Rattle.std.proofs.Common.{◌≡◌, ℕ, zero, suc, ◌+◌, ◌-◌, ◌<�
 use Rattle.std.proofs.lemmas.Bool.{cases_eq, cases_lt, eq-eqb, ne_eqb}
 use Rattle.tree_law.specs.Trees.{Reference, Nothing, Leaf, Cell, Tree, Reaches, here, below, IsReached, Room, IsUnder, IsSound, IsSoundFrom, depth_of, node_at, find}
 use Rattle.tree_law.specs.Leaves.{gather, bytes, leaves, FewIsCount, CellsByChildren}
-use Rattle.search_layer.proofs.Pigeons.{different_fit}
+use Rattle.layer_map.proofs.Pigeons.{different_fit}
 use Rattle.tree_law.proofs.Reach.{is_nothing, depth_most, child_sound, is_found}
 use Rattle.tree_law.proofs.TreeLaw.{led, some_or_none}
 use Rattle.tree_law.proofs.FloorLaw.{via_child, none_reached, leaf_reaches, keys_rise}

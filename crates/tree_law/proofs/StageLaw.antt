@@ -1,7 +1,7 @@
 -- Mixes of the words of one stage.
 use Rattle.std.proofs.Common.{◌≡◌, ◌≢◌, ℕ, ◌+◌, ◌*◌, ◌/◌, ◌%◌, ◌<◌, ◌⊎◌, inl, inr, refl, sym, subst, ap, ap₂, ◌∙◌, arith, ◌^◌}
 use Rattle.std.proofs.lemmas.Bool.{cases_eq}
-use Rattle.search_layer.specs.Layers.{Layer, AreSame}
+use Rattle.layer_map.specs.Layers.{Layer, AreSame}
 use Rattle.cat_key.specs.declared.TheConstants.{WORDS}
 use Rattle.tree_law.specs.Trees.{Reference, Nothing, Leaf, Cell, IsReached}
 use Rattle.radix_nodes.specs.Cells.{IsForm}

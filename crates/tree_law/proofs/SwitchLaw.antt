@@ -1,7 +1,7 @@
 -- What one store of a reference makes of a tree in order.
 use Rattle.std.proofs.Common.{◌≡◌, ◌≢◌, ℕ, ◌+◌, ◌-◌, ◌<◌, ◌≤◌, ◌⊎◌, cond, Option, Some, None, inl, inr, refl, sym, subst, ap, ap₂, ◌∙◌, arith}
 use Rattle.std.proofs.lemmas.Bool.{cases_eq, eq-eqb, ne_eqb}
-use Rattle.search_layer.specs.Layers.{changed_at}
+use Rattle.layer_map.specs.Layers.{changed_at}
 use Rattle.tree_law.specs.Trees.{Reference, Nothing, Leaf, Cell, Tree, Reaches, here, below, IsReached, Room, IsUnder, HasTwo, IsCell, IsSound, IsSoundFrom, IsTree, first_bytes, byte_at, low, depth_of, layer_in}
 use Rattle.tree_law.specs.Switches.{Place, Root, Entry, reference_at, IsPlace, FitsAt, rooted, IsSwitched, Makes}
 use Rattle.tree_law.proofs.Reach.{within, byte_below, child_sound}

@@ -1,7 +1,7 @@
 -- The layer of a tree in order is its leaves.
 use Rattle.std.proofs.Common.{◌≡◌, ◌≢◌, ℕ, ◌+◌, ◌-◌, ◌<◌, ◌≤◌, ◌⊎◌, Option, Some, None, inl, inr, refl, sym, subst, ap, ◌∙◌, arith}
 use Rattle.tree_law.specs.Trees.{Leaf, Tree, IsReached, Room, IsLeaf, IsTree, find, node_at, layer_in, LeavesLead, LayerIsFinite, LayerLeadsToNodes, LeavesAreApart}
-use Rattle.search_layer.proofs.Pigeons.{different_fit}
+use Rattle.layer_map.proofs.Pigeons.{different_fit}
 use Rattle.tree_law.proofs.Reach.{found, is_found}
 use Rattle.tree_law.specs.Trees.{way_length}
 

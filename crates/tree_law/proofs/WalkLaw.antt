@@ -3,7 +3,7 @@ use Rattle.std.proofs.Common.{◌≡◌, ◌≢◌, ℕ, zero, suc, ◌+◌, ◌
 use Rattle.std.specs.Prelude.{IsSomeAnd}
 use Rattle.std.proofs.lemmas.Bool.{cases_eq, cases_lt, ltb-true, ltb-false, leb-true, leb-false, lt-leb, ne_eqb, eqb-false}
 use Rattle.std.proofs.Common.{le-ltb}
-use Rattle.search_layer.specs.Layers.{IsFloorOf}
+use Rattle.layer_map.specs.Layers.{IsFloorOf}
 use Rattle.tree_law.specs.Trees.{Reference, Nothing, Leaf, Cell, Tree, Reaches, here, below, Room, IsLeaf, IsCell, IsSoundFrom, IsTree, span, byte_at, depth_of, layer_in}
 use Rattle.tree_law.specs.Floors.{child_or, child_below}
 use Rattle.tree_law.specs.FloorWalks.{FloorWalk, Walked, On, At, starts, node_told, to_last, goes_back, back, least_of, goes_down, in_cell, walked, walks, walk_left, WalkedBelow, WalksEnd, view_at, walked_on, walk_answer, WalkIsExact}

@@ -2,7 +2,7 @@
 -- and within the nodes whatever it is told.
 use Rattle.std.specs.Prelude.{ℕ, zero, suc, ◌+◌, ◌-◌, ◌*◌, ◌<◌, ◌==◌, ◌||◌, nat_lt, nat_le, Bool, true, false}
 use Rattle.std.specs.Prelude.{if◌then◌else◌, Option, Some, None, IsSomeAnd}
-use Rattle.search_layer.specs.Layers.{IsFloorOf}
+use Rattle.layer_map.specs.Layers.{IsFloorOf}
 use Rattle.tree_law.specs.Trees.{Reference, Nothing, Leaf, Cell, Tree, Room, IsTree, span, byte_at, layer_in}
 use Rattle.tree_law.specs.Floors.{child_or, child_below}
 use Rattle.tree_law.specs.Trees.{way_length}

@@ -1,6 +1,6 @@
 -- The leaves below a reference, as a walk by recursion meets them; and what a check of a tree by recursion rests on.
 use Rattle.std.specs.Prelude.{◌≢◌, ℕ, zero, suc, ◌≤◌, ◌↔◌, List, [], ◌∷◌, ◌++◌, length}
-use Rattle.search_layer.specs.Layers.{HasFew}
+use Rattle.layer_map.specs.Layers.{HasFew}
 use Rattle.tree_law.specs.Trees.{Reference, Nothing, Leaf, Cell, Tree, Room, IsCell, IsSoundFrom, IsTree, layer_in}
 use Rattle.tree_law.specs.Trees.{way_length}
 

@@ -1,6 +1,6 @@
 -- A tree has at most as many leaves, and at most as many cells, as keys: so one of each kind is free.
 use Rattle.std.specs.Prelude.{◌≡◌, ◌≢◌, ℕ, ◌<◌, ◌≤◌}
-use Rattle.search_layer.specs.Layers.{HasFew}
+use Rattle.layer_map.specs.Layers.{HasFew}
 use Rattle.tree_law.specs.Trees.{Nothing, Leaf, Cell, Tree, IsReached, Room, IsTree, layer_in}
 
 abbrev pub LeavesAreFew : Type 0

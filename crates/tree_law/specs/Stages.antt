@@ -1,6 +1,6 @@
 -- The stages of a change: what holds of the cached words (w) and of the durable ones (s), and of each mix of the two.
 use Rattle.std.specs.Prelude.{◌≡◌, ◌≢◌, ℕ, ◌^◌, ◌<◌, ◌≤◌, ◌⊎◌}
-use Rattle.search_layer.specs.Layers.{Layer, HasFew}
+use Rattle.layer_map.specs.Layers.{Layer, HasFew}
 use Rattle.tree_law.specs.Trees.{Leaf, Cell, IsReached}
 use Rattle.radix_nodes.specs.Changes.{IsQuietStore}
 use Rattle.tree_law.specs.Words.{LayerWord, CellWord, LayerWords, word_in, kind_of, number_of, cell_in, tree_of}

@@ -1,6 +1,6 @@
 -- One store of a reference, and one of a node word: what they make of a tree.
 use Rattle.std.specs.Prelude.{◌≡◌, ◌≢◌, ℕ, ◌-◌, ◌*◌, ◌<◌, ◌≤◌, true, Option, Some, None}
-use Rattle.search_layer.specs.Layers.{AreSame, changed_at}
+use Rattle.layer_map.specs.Layers.{AreSame, changed_at}
 use Rattle.tree_law.specs.Trees.{Reference, Nothing, Leaf, Cell, Tree, IsReached, Room, IsUnder, IsLeaf}
 use Rattle.tree_law.specs.Trees.{IsTree, layer_in, span, first_bytes}
 use Rattle.radix_nodes.specs.Keys.{key_bytes}

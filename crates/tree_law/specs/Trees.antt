@@ -3,7 +3,7 @@
 use Rattle.std.specs.Prelude.{◌≡◌, ◌≢◌, ℕ, zero, suc, ◌+◌, ◌-◌, ◌*◌, ◌/◌, ◌%◌, ◌^◌, ◌<◌, ◌≤◌, ◌==◌, ◌↔◌}
 use Rattle.std.specs.Prelude.{if◌then◌else◌, Bool, true, Option, Some, None}
 use Rattle.radix_nodes.specs.Keys.{key_bytes}
-use Rattle.search_layer.specs.Layers.{Layer, HasFew, LeadsBelow}
+use Rattle.layer_map.specs.Layers.{Layer, HasFew, LeadsBelow}
 
 -- What a reference leads to: nothing, a leaf by its number, or a cell by the reference's own number.
 pub data Reference : Type 0 where

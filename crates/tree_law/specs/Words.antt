@@ -5,7 +5,7 @@ use Rattle.cat_key.specs.declared.TheConstants.{WORDS}
 use Rattle.radix_nodes.specs.Keys.{KeyWords}
 use Rattle.radix_nodes.specs.Cells.{CellWords, prefix_words, children, IsForm}
 use Rattle.radix_nodes.specs.Changes.{IsCellStore}
-use Rattle.search_layer.specs.Layers.{Layer, AreSame, changed_at}
+use Rattle.layer_map.specs.Layers.{Layer, AreSame, changed_at}
 use Rattle.tree_law.specs.Trees.{Reference, Nothing, Leaf, Cell, Tree, Reaches, IsReached, Room, IsTree, layer_in}
 use Rattle.tree_law.specs.Switches as switches
 use Rattle.tree_law.specs.Switches.{Place, Entry, reference_at}

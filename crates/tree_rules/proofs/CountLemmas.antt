@@ -3,7 +3,7 @@ use Rattle.std.proofs.Common.{◌≡◌, ℕ, zero, suc, ◌+◌, ◌-◌, ◌<�
 use Rattle.std.proofs.lemmas.Bool.{cases_eq, cases_lt}
 use Rattle.pm_words.specs.declared.layout.Layout.{Layout}
 use Rattle.pm_words.specs.Images.{IsImage}
-use Rattle.search_layer.specs.Layers.{HasFew}
+use Rattle.layer_map.specs.Layers.{HasFew}
 use Rattle.radix_nodes.specs.Keys.{key_bytes}
 use Rattle.tree_law.specs.Trees.{Reference, Nothing, Leaf, Cell, Tree, Reaches, depth_of, way_length}
 use Rattle.tree_rules.specs.Checks.{IsWrongFrom}

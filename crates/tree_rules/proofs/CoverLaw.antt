@@ -11,7 +11,7 @@ use Rattle.image_layer_rules.proofs.LeafLemmas.{line_word-here, line_word-outsid
 use Rattle.data_node.proofs.ListLemmas.{member_or}
 use Rattle.image_rules.specs.Nodes.{image_list, IsListedNode}
 use Rattle.image_rules.specs.Sound.{IsSound}
-use Rattle.search_layer.specs.Keys.{key_number}
+use Rattle.layer_map.specs.Keys.{key_number}
 use Rattle.image_layer_rules.specs.Leaves.{image_anchor, image_lines, line_word, AreKeyWords, IsKeyNumber}
 use Rattle.image_layer_rules.proofs.RuleLemmas.{anchor_is_key}
 use Rattle.tree_law.proofs.TreeLaw.{led, leaves_lead}

@@ -7,7 +7,7 @@ use Rattle.data_node.specs.Lists.{anchor_words}
 use Rattle.data_node.proofs.KeyLemmas.{anchor-number}
 use Rattle.image_rules.specs.Nodes.{image_spot, IsListedNode}
 use Rattle.image_rules.specs.Sound.{IsSound}
-use Rattle.search_layer.specs.Keys.{key_number}
+use Rattle.layer_map.specs.Keys.{key_number}
 use Rattle.updater_law.specs.Covers.{IsOpenFor}
 use Rattle.image_layer_rules.specs.Leaves.{image_anchor, image_lines, IsKeyNumber}
 use Rattle.image_layer_rules.proofs.RuleLemmas.{anchor_is_key}

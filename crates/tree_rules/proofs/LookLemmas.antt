@@ -1,7 +1,7 @@
 -- What a key leads to from a cell is what it leads to from the child under its byte.
 use Rattle.std.proofs.Common.{◌≡◌, ℕ, zero, suc, ◌+◌, ◌*◌, ◌^◌, ◌<◌, ◌≤◌, List, Option, slice_index, sym, ap, ◌∙◌, arith}
 use Rattle.pm_words.specs.declared.layout.Layout.{Layout}
-use Rattle.search_layer.specs.Keys.{key_number}
+use Rattle.layer_map.specs.Keys.{key_number}
 use Rattle.radix_nodes.specs.Keys.{key_bytes}
 use Rattle.tree_law.specs.Trees.{Reference, Cell, find, node_at, way_length, byte_at}
 use Rattle.tree_law.specs.Words.{reference_of}

@@ -6,7 +6,7 @@ use Rattle.pm_words.specs.declared.layout.Layout.{Layout}
 use Rattle.data_node.specs.Lists.{anchor_words}
 use Rattle.data_node.proofs.KeyLemmas.{anchor-number}
 use Rattle.image_rules.specs.Nodes.{image_spot, IsListedNode}
-use Rattle.search_layer.specs.Keys.{key_number}
+use Rattle.layer_map.specs.Keys.{key_number}
 use Rattle.updater_law.specs.Covers.{IsOpenFor}
 use Rattle.image_layer_rules.specs.Leaves.{image_anchor, image_lines}
 use Rattle.tree_law.specs.Trees.{Reference, Nothing, Leaf, Cell, Tree, Reaches, here, below}

@@ -3,7 +3,7 @@ use Rattle.std.proofs.Common.{◌≡◌, ◌≢◌, ℕ, ◌+◌, ◌-◌, ◌*�
 use Rattle.std.proofs.lemmas.Bool.{cases_eq, cases_lt, and_parts, leb-true, ltb-true}
 use Rattle.pm_words.specs.declared.layout.Layout.{Layout}
 use Rattle.pm_words.specs.Locations.{leaf_count}
-use Rattle.search_layer.proofs.Pigeons.{different_fit}
+use Rattle.layer_map.proofs.Pigeons.{different_fit}
 use Rattle.radix_nodes.specs.Keys.{key_bytes}
 use Rattle.tree_law.specs.Trees.{Reference, Nothing, Leaf, Cell, first_bytes, low, depth_of}
 use Rattle.tree_law.specs.Words.{kind_of, number_of}

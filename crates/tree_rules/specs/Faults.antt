@@ -43,8 +43,8 @@ pub data IsWrong (l : Layout) (image : List ℕ) : Reference → Type 0 where
   is_too_deep : {x : ℕ} → key_bytes ≤ (image_tree l image).depth x → IsWrong l image (Cell x)
   has_no_prefix : {x : ℕ} → ¬ HasPrefix (image_tree l image) x → IsWrong l image (Cell x)
   has_no_spare : {x : ℕ} → kind_of x ≢ 2 → ¬ HasSpare (image_cell l image x) → IsWrong l image (Cell x)
-  -- it has two children at least, whose branch bytes differ and are below 256; index places differ and are from 1 to 48,
-  -- and have references
+  -- it has two children at least, whose branch bytes differ and are below 256; index places differ and are from 1 to
+  -- 48, and have references
   has_few : {x : ℕ} → ¬ HasTwo (image_tree l image) x → IsWrong l image (Cell x)
   has_no_four : {x : ℕ} → kind_of x ≡ 2 → ¬ AreEntries (image_cell l image x) 4 4 → IsWrong l image (Cell x)
   has_no_sixteen : {x : ℕ} → kind_of x ≡ 3 → ¬ AreEntries (image_cell l image x) 8 16 → IsWrong l image (Cell x)

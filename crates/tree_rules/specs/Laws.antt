@@ -5,7 +5,7 @@ use Rattle.pm_words.specs.Images.{IsImage}
 use Rattle.pm_words.specs.Locations.{leaf_count}
 use Rattle.image_rules.specs.Nodes.{IsListedNode}
 use Rattle.image_rules.specs.Sound.{IsSound}
-use Rattle.search_layer.specs.Layers.{HasFew}
+use Rattle.layer_map.specs.Layers.{HasFew}
 use Rattle.updater_law.specs.Covered.{IsCovered}
 use Rattle.updater_law.specs.Covers.{IsOpenFor}
 use Rattle.image_layer_rules.specs.Leaves.{image_anchor, image_lines, AreKeyWords}

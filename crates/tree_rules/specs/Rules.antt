@@ -7,7 +7,7 @@ use Rattle.image_rules.specs.declared.broken.Broken.{Broken}
 use Rattle.image_rules.specs.Lowest.{IsFirst}
 use Rattle.image_rules.specs.Nodes.{IsListedNode}
 use Rattle.image_rules.specs.Sound.{Breaks}
-use Rattle.search_layer.specs.Layers.{Layer, HasFew}
+use Rattle.layer_map.specs.Layers.{Layer, HasFew}
 use Rattle.updater_law.specs.Covers.{IsOpenFor}
 use Rattle.image_layer_rules.specs.Leaves.{image_anchor, image_lines, IsKeyNumber}
 use Rattle.tree_law.specs.Trees.{Reference, Nothing, Cell, IsReached}

@@ -2,7 +2,7 @@
 
 ghost use Rattle.std.specs.Prelude.{◌≡◌, ℕ, ◌↔◌, IsTrue, Some};
 ghost use Rattle.image_rules.specs.Sound.{IsSound};
-ghost use Rattle.search_layer.specs.Keys.{key_number};
+ghost use Rattle.layer_map.specs.Keys.{key_number};
 ghost use Rattle.tree_floor.specs.Keys.{IsKey};
 ghost use Rattle.data_node.specs.Lists.{anchor_words};
 ghost use Rattle.image_rules.specs.NodeSets.{AreListed};

@@ -60,7 +60,8 @@ pub(crate) fn is_under(image: &Image, reference: u64, byte: u64, child: u64) -> 
     requires depth { (image_tree image.now.layout image.now.words).depth reference < key_bytes }
     requires byte { byte < 256 }
     requires child { child ≢ 0 }
-    ensures { IsTrue result ↔ IsUnder (image_tree image.now.layout image.now.words) reference byte (reference_of child) }
+    ensures { IsTrue result ↔
+        IsUnder (image_tree image.now.layout image.now.words) reference byte (reference_of child) }
 {
     let depth = cell_word(image, reference, 0);
     if depth_of(image, child) <= depth {

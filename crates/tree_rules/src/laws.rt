@@ -13,8 +13,8 @@ pub fn tree_law()
     ensures keys { CoverTellsKeys }
 {}
 
-/// An image is sound by all rules exactly where it is by those on its header, list, nodes and log, its tree is in order,
-/// there are few keys, and the layer is covered.
+/// An image is sound by all rules exactly where it is by those on its header, list, nodes and log, its tree is in
+/// order, there are few keys, and the layer is covered.
 pub fn rules_law()
     ensures { SoundIsKept }
 {}

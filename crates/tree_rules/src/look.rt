@@ -1,7 +1,7 @@
 //! What a key leads to in a tree in order.
 
 ghost use Rattle.std.specs.Prelude.{◌≢◌, ◌≤◌};
-ghost use Rattle.search_layer.specs.Keys.{key_number};
+ghost use Rattle.layer_map.specs.Keys.{key_number};
 ghost use Rattle.tree_law.specs.Trees.{depth_of};
 ghost use Rattle.tree_law.specs.Words.{reference_of};
 ghost use Rattle.tree_floor.specs.Keys.{IsKey};

@@ -1,7 +1,7 @@
 //! Whether a leaf leads its key elsewhere than the list has it.
 
 ghost use Rattle.std.specs.Prelude.{◌≢◌, ◌≤◌, ◌↔◌, IsTrue};
-ghost use Rattle.search_layer.specs.Keys.{key_number};
+ghost use Rattle.layer_map.specs.Keys.{key_number};
 ghost use Rattle.image_rules.specs.NodeSets.{AreListed};
 ghost use Rattle.tree_law.specs.Trees.{depth_of};
 ghost use Rattle.tree_law.specs.Words.{reference_of};

@@ -3,7 +3,7 @@ use Rattle.std.proofs.Common.{◌≡◌, ◌≢◌, ℕ, ◌+◌, ◌*◌, ◌<�
 use Rattle.std.proofs.lemmas.Bool.{cases_eq, eq-eqb, ne_eqb}
 use Rattle.radix_nodes.specs.Keys.{key_bytes}
 use Rattle.radix_nodes.specs.Cells.{children}
-use Rattle.search_layer.specs.Layers.{Layer, AreSame, changed_at}
+use Rattle.layer_map.specs.Layers.{Layer, AreSame, changed_at}
 use Rattle.tree_law.specs.Trees.{Reference, Nothing, Leaf, Cell, Tree, Room, Reaches, here, IsReached, IsCell, IsSoundFrom, first_bytes, byte_at, low, depth_of}
 use Rattle.tree_law.specs.Switches.{Place, Entry, reference_at}
 use Rattle.tree_law.specs.Paths.{Comes, PartsAt}

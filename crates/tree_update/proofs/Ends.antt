@@ -15,8 +15,7 @@ use Rattle.radix_nodes.proofs.IndexForm.{direct_stores, index_goes, child_none}
 use Rattle.radix_nodes.proofs.GrownCells.{larger_is_larger}
 use Rattle.radix_nodes.proofs.PairCells.{pair_is_pair}
 use Rattle.radix_nodes.proofs.CellFits.{prefix_fits}
-use Rattle.search_layer.specs.Layers.{Layer, changed_at}
-use Rattle.search_layer.specs.Leaves.{node_of}
+use Rattle.layer_map.specs.Layers.{Layer, changed_at, node_of}
 use Rattle.tree_law.specs.Trees.{Nothing, Leaf, Cell, IsReached, byte_at, low}
 use Rattle.tree_law.specs.Switches.{Place, Root, Entry}
 use Rattle.tree_law.specs.Words.{LayerWord, LeafWord, CellWord, LayerWords, word_in, kind_of, number_of, reference_of, cell_in, tree_of, layer_of, room_of, Stored, IsSwitchStore, IsLawful, Keeps, CellPart}

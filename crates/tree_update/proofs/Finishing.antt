@@ -11,7 +11,7 @@ use Rattle.pm_words.specs.Fences.{fence_start, fence_next}
 use Rattle.pm_words.specs.Locations.{Cached, Durable}
 use Rattle.pm_words.specs.Rows.{IsRow, acted}
 use Rattle.pm_words.specs.Rows as rows
-use Rattle.search_layer.specs.Layers.{Layer}
+use Rattle.layer_map.specs.Layers.{Layer}
 use Rattle.tree_law.specs.Words.{LayerWord, LayerWords, reference_of}
 use Rattle.tree_law.specs.Stages.{Marks, MarksTell}
 use Rattle.tree_law.specs.Marking.{IsMarkSet}

@@ -7,5 +7,6 @@ mod Taking
 mod Finishing
 mod Turning
 mod Acting
+mod Doing
 mod RunLaw
 mod OthersStay

@@ -11,8 +11,7 @@ use Rattle.pm_words.proofs.Kept.{acted_row, evicted_row}
 use Rattle.radix_nodes.specs.Cells.{words_of}
 use Rattle.radix_nodes.specs.Fills.{lines_of}
 use Rattle.std.proofs.lemmas.Bool.{ne_eqb}
-use Rattle.search_layer.specs.Leaves.{node_of}
-use Rattle.search_layer.specs.Layers.{Layer, AreSame, HasFew}
+use Rattle.layer_map.specs.Layers.{node_of, Layer, AreSame, HasFew}
 use Rattle.tree_law.specs.Words.{LayerWord, LayerWords, word_in, IsMix, Keeps, LeafPart}
 use Rattle.tree_law.specs.Stages.{Marks}
 use Rattle.tree_row.specs.Rows.{layer_words}

@@ -11,7 +11,7 @@ use Rattle.radix_nodes.specs.declared.fill_leaf.FillLeaf.{FillLeaf}
 use Rattle.radix_nodes.specs.declared.fill_cell.FillCell.{FillCell}
 use Rattle.radix_nodes.specs.Cells.{words_of}
 use Rattle.radix_nodes.specs.Fills.{IsFillLeaf, fill_leaf_asks, fill_leaf_turned, IsFillCell, fill_cell_asks, fill_cell_turned, lines_of}
-use Rattle.search_layer.specs.Layers.{Layer}
+use Rattle.layer_map.specs.Layers.{Layer}
 use Rattle.tree_law.specs.Words.{LayerWords, LeafPart, part_reference}
 use Rattle.tree_law.specs.Stages.{Marks}
 use Rattle.tree_law.specs.Marking.{IsMarkSet}

@@ -19,7 +19,7 @@ use Rattle.radix_nodes.specs.Cells.{children, entry_of, words_of}
 use Rattle.radix_nodes.specs.Making.{larger_of}
 use Rattle.radix_nodes.specs.Fills.{fill_leaf_start, fill_leaf_asks, fill_leaf_turned, fill_cell_start, fill_cell_asks, fill_cell_turned, filling_next, lines_of}
 use Rattle.radix_nodes.specs.Fills as fills
-use Rattle.search_layer.specs.Layers.{Layer, AreSame, HasFew}
+use Rattle.layer_map.specs.Layers.{Layer, AreSame, HasFew}
 use Rattle.tree_law.specs.Trees.{Leaf, Cell, IsReached, byte_at, low}
 use Rattle.tree_law.specs.Switches.{Place, Root, Entry}
 use Rattle.tree_law.specs.Words.{LayerWord, LayerWords, word_in, kind_of, number_of, reference_of, cell_in, tree_of, layer_of, room_of, LeafPart, CellPart, part_reference}

@@ -1,7 +1,7 @@
 -- A change of the tree with nobody else at the row.
 use Rattle.std.specs.Prelude.{ℕ, Option, List}
 use Rattle.pm_words.specs.declared.layout.Layout.{Layout}
-use Rattle.search_layer.specs.Layers.{AreSame, changed_at}
+use Rattle.layer_map.specs.Layers.{AreSame, changed_at}
 use Rattle.tree_update.specs.Kinds.{KeepsOthers}
 use Rattle.tree_update.specs.Runs.{layer_in, IsAtRest}
 

@@ -6,7 +6,7 @@ use Rattle.radix_nodes.specs.declared.cell.Cell as cells
 use Rattle.radix_nodes.specs.Keys.{key_bytes}
 use Rattle.radix_nodes.specs.Cells.{IsCell, IsReference}
 use Rattle.radix_nodes.specs.Making.{larger_of}
-use Rattle.search_layer.specs.Layers.{Layer}
+use Rattle.layer_map.specs.Layers.{Layer}
 use Rattle.tree_law.specs.Trees.{Leaf, byte_at}
 use Rattle.tree_law.specs.Words.{LayerWords, LeafPart}
 use Rattle.tree_law.specs.Changes.{IsFilledLeaf}

@@ -4,7 +4,7 @@ use Rattle.pm_words.specs.declared.layout.Layout.{Layout}
 use Rattle.pm_words.specs.declared.machine.Turn.TheVariants.{Go, Done}
 use Rattle.pm_words.specs.Locations.{Cached, Durable, leaf_count, image_words}
 use Rattle.pm_words.specs.Rows.{IsRow, CanAct, acted, got, evicted}
-use Rattle.search_layer.specs.Layers.{Layer, AreSame, HasFew}
+use Rattle.layer_map.specs.Layers.{Layer, AreSame, HasFew}
 use Rattle.tree_law.specs.Words.{LayerWords, layer_of, IsLawful, AreEven, IsMix, Keeps}
 use Rattle.tree_law.specs.Stages.{Marks, MarksTell}
 use Rattle.tree_row.specs.Rows.{layer_words}

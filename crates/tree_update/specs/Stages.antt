@@ -11,8 +11,7 @@ use Rattle.radix_nodes.specs.declared.fill_cell.FillCell.{FillCell}
 use Rattle.radix_nodes.specs.Cells.{children, words_of}
 use Rattle.radix_nodes.specs.Changes.{HasTwoMore}
 use Rattle.radix_nodes.specs.Fills.{lines_of}
-use Rattle.search_layer.specs.Layers.{Layer, HasFew, changed_at}
-use Rattle.search_layer.specs.Leaves.{node_of}
+use Rattle.layer_map.specs.Layers.{Layer, HasFew, changed_at, node_of}
 use Rattle.tree_law.specs.Trees.{Leaf, byte_at}
 use Rattle.tree_law.specs.Words.{LayerWords, Stored, tree_of, kind_of, cell_in, reference_of, LeafPart, part_reference}
 use Rattle.tree_law.specs.Words.{Keeps}

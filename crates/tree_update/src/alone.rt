@@ -1,7 +1,6 @@
 //! Sets and unsets run to their ends, with nobody else at the memory.
 ghost use Rattle.std.specs.Prelude.{◌≡◌, ◌≢◌, ◌<◌, ◌≤◌, ◌+◌, Some, None};
-ghost use Rattle.search_layer.specs.Layers.{HasFew};
-ghost use Rattle.search_layer.specs.Leaves.{node_of};
+ghost use Rattle.layer_map.specs.Layers.{HasFew, node_of};
 ghost use Rattle.tree_floor.specs.Keys.{number_in};
 ghost use Rattle.tree_update.specs.Changes.{IsChange, change_starts, change_most};
 ghost use Rattle.tree_update.specs.Stages.{aim_of, IsRooted};

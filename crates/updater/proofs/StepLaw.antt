@@ -8,7 +8,7 @@ use Rattle.pm_words.specs.declared.action.Action.{Action}
 use Rattle.pm_words.specs.declared.action.Action.TheVariants.{Load, Store}
 use Rattle.pm_words.specs.declared.machine.Turn.{Turn}
 use Rattle.pm_words.specs.declared.machine.Turn.TheVariants.{Go, Done}
-use Rattle.pm_words.specs.Locations.{Leaf, Cached, address_of, row_words}
+use Rattle.pm_words.specs.Locations.{Cached, address_of, row_words}
 use Rattle.pm_words.proofs.Apart.{addresses_within}
 use Rattle.version_lock.specs.Versions.{is_worn_word, IsFree}
 use Rattle.version_lock.proofs.WordTests.{free_is}
@@ -27,10 +27,10 @@ use Rattle.pm_alloc.specs.Gone.{stamp_address, release_at_asks, release_at_turne
 use Rattle.search_layer.specs.declared.change.Change.{Change}
 use Rattle.search_layer.specs.declared.floor.Floor.{Floor}
 use Rattle.search_layer.specs.ChangeSteps.{change_asks, change_turned}
-use Rattle.search_layer.specs.ChangeStages.{Aim, Looks, ChangeStep}
+use Rattle.search_layer.specs.ChangeStages.{Aim, ChangeStep}
 use Rattle.search_layer.specs.FloorSteps.{floor_asks, floor_turned}
 use Rattle.search_layer.specs.SetSteps.{set_of, unset_of, set_starts, unset_starts}
-use Rattle.search_layer.specs.Laws.{aim_of, stage_of, stage_after as change_after, SoundAfter}
+use Rattle.search_layer.specs.Laws.{aim_of, stage_of, stage_after as change_after, SoundAfter, start_stage}
 use Rattle.search_layer.proofs.FloorTold.{floor_only_loads}
 use Rattle.search_layer.proofs.ChangeTurns.{changes_are_steps}
 use Rattle.search_layer.proofs.ChangeSound.{changes_stay_sound}
@@ -150,8 +150,8 @@ module _ (work : Work) where
         | false ↦ λ e. to_line s a x line (steps.loses (eqb-false x found.version e))
       ] refl
     where
-      decided : (line : ℕ) (entry : Entry) (found : Found) → Changes (line_of line entry) (rows.word_at entry.anchor (target_of found)) (Looks rows.start_sight) ≡ work_at_stage t (changes t line entry found)
-      decided line entry found = elim (are_same found.low entry.anchor) as (λ b. Changes (line_of line entry) (cond b (found.node + 1) 0) (Looks rows.start_sight)
+      decided : (line : ℕ) (entry : Entry) (found : Found) → Changes (line_of line entry) (rows.word_at entry.anchor (target_of found)) (start_stage l (rows.aim_of (line_of line entry) (rows.word_at entry.anchor (target_of found)))) ≡ work_at_stage t (changes t line entry found)
+      decided line entry found = elim (are_same found.low entry.anchor) as (λ b. Changes (line_of line entry) (cond b (found.node + 1) 0) (start_stage l (rows.aim_of (line_of line entry) (cond b (found.node + 1) 0)))
           ≡ work_at_stage t (cond b (at.Setting line entry (set_starts l entry.anchor found.node)) (at.Unsetting line entry (unset_starts l entry.anchor)))) [ true ↦ refl | false ↦ refl ]
 
   -- a step of the change of the layer
@@ -230,8 +230,8 @@ module _ (work : Work) where
   steps_at (at.Landing line entry floor) x here told =
       let asked = floor_only_loads floor here.2 in
       at_landing line entry floor x (floor_turned floor x) (subst (λ (k : Layout). LoadsWithin k (floor_asks floor)) here.3 (record {
-        address = address_of floor.layout (Cached (Leaf asked.leaf asked.offset));
-        within = addresses_within floor.layout (Cached (Leaf asked.leaf asked.offset)) (asked.within, asked.small);
+        address = address_of floor.layout (Cached asked.word);
+        within = addresses_within floor.layout (Cached asked.word) asked.place.there;
         loads = asked.loads;
       }))
   steps_at (at.Walking line entry walk) x here told =

@@ -24,14 +24,13 @@ use Rattle.pm_alloc.specs.Gone.{IsRelease, release_from, release_at_turned}
 use Rattle.search_layer.specs.declared.floor.Floor.{Floor}
 use Rattle.search_layer.specs.declared.set.Set.{Set}
 use Rattle.search_layer.specs.declared.set.Unset.{Unset}
-use Rattle.search_layer.specs.Keys.{key_of}
+use Rattle.layer_map.specs.Keys.{key_of}
 use Rattle.search_layer.specs.ChangeStages.{Aim}
-use Rattle.search_layer.specs.Reading.{IsReader, reads_leaf}
-use Rattle.search_layer.specs.FloorSteps.{floor_turned}
+use Rattle.search_layer.specs.FloorSteps.{floor_turned, floor_left}
 use Rattle.search_layer.specs.SetSteps.{set_starts, set_turned, unset_starts, unset_turned}
 use Rattle.search_layer.specs.Laws.{FloorAfter, SetAfter, UnsetAfter, aim_of}
 use Rattle.search_layer.proofs.FloorTold.{floor_stays, floor_starts_sound}
-use Rattle.search_layer.proofs.ChangeSound.{sets_stay_sound, unsets_stay_sound}
+use Rattle.search_layer.proofs.ChangeSound.{sets_stay_sound, unsets_stay_sound, sets_begin_sound, unsets_begin_sound}
 use Rattle.smo_log.specs.declared.line.Entry.{Entry}
 use Rattle.smo_log.specs.declared.read.ReadLine.{ReadLine}
 use Rattle.smo_log.specs.LogLines.{numbered_address}
@@ -194,7 +193,7 @@ module _ (work : Work) (terms : IsTerms work.terms) where
               stays_on (lands t read.line (seen_in words).entry) (here, entry_known (omega arith), floor_starts_sound l (seen_in words).entry.anchor terms.layout, refl)
         ] refl
 
-  at_landing : (line : ℕ) (entry : Entry) (floor : Floor) (turn : Turn Floor ℕ) → IsOnLine t work.tally line → IsEntry l entry → FloorAfter l turn → Stays (has_landed work line entry turn)
+  at_landing : (line : ℕ) (entry : Entry) (floor : Floor) (turn : Turn Floor ℕ) → IsOnLine t work.tally line → IsEntry l entry → FloorAfter l floor.key (floor_left floor) turn → Stays (has_landed work line entry turn)
   at_landing line entry floor (Go next) here known after = stays_on (at.Landing line entry next) (here, known, after.0, after.1)
   at_landing line entry floor (Done hint) here known after =
       let nodes : 1 ≤ l.nodes = terms.layout.nodes.0 in
@@ -221,9 +220,6 @@ module _ (work : Work) (terms : IsTerms work.terms) where
   at_walking line entry walk x (Done (walked.Target target)) here known is after =
       stays_on (at.Seeing line entry (found_at target)) (here, known, subst (λ (k : Layout). target.node < k.nodes) is.layout after.1.here)
 
-  first_reader : IsReader l (reads_leaf 0)
-  first_reader = record { leaf = omega arith; here = tt }
-
   at_seeing : (line : ℕ) (entry : Entry) (found : Found) (x : ℕ) → IsOnLine t work.tally line → IsEntry l entry → found.node < l.nodes → Stays (saw_again work line entry found x)
   at_seeing line entry found x here known within =
       elim (x == found.version) as (λ b. Stays (cond b (on work (changes t line entry found)) (leaves work line))) [
@@ -231,14 +227,14 @@ module _ (work : Work) (terms : IsTerms work.terms) where
           | true ↦ stays_on (at.Setting line entry (set_starts l entry.anchor found.node)) (
             here,
             known,
-            record { change = record { layout = terms.layout; key = known.key; word = omega arith; here = (first_reader, tt) }; word = λ e. absurd (omega arith) },
+            sets_begin_sound l entry.anchor found.node terms.layout known.key within,
             refl,
             refl,
           )
           | false ↦ stays_on (at.Unsetting line entry (unset_starts l entry.anchor)) (
             here,
             known,
-            record { change = record { layout = terms.layout; key = known.key; word = omega arith; here = (first_reader, tt) }; word = refl; key = known.named },
+            unsets_begin_sound l entry.anchor terms.layout known.key known.named,
             refl,
             refl,
           )
@@ -299,7 +295,7 @@ module _ (work : Work) (terms : IsTerms work.terms) where
   stays_at (at.State line) x here told line_told = at_state line x here told.fits
   stays_at (at.Reading read) x here told line_told = at_reading read x here.1 told.fits line_told here.0
   stays_at (at.Landing line entry floor) x here told line_told =
-      at_landing line entry floor (floor_turned floor x) here.0 here.1 (subst (λ (k : Layout). FloorAfter k (floor_turned floor x)) here.3 (floor_stays floor x here.2))
+      at_landing line entry floor (floor_turned floor x) here.0 here.1 (subst (λ (k : Layout). FloorAfter k floor.key (floor_left floor) (floor_turned floor x)) here.3 (floor_stays floor x here.2))
   stays_at (at.Walking line entry walk) x here told line_told =
       at_walking line entry walk x (walk_turned walk x) here.0 here.1 here.2
       (walks_are_looks walk x here.2.sound (walk_told t entry walk (walk_asks walk) x here.2 told))

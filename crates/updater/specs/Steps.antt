@@ -7,7 +7,8 @@ use Rattle.pm_alloc.specs.declared.gone.ReleaseAt.TheVariants as release_at
 use Rattle.search_layer.specs.Laws.{stage_of}
 use Rattle.smo_log.specs.declared.line.Entry.{Entry}
 use Rattle.updater_row_law.specs.Columns.{RowTerms}
-use Rattle.updater_row_law.specs.RowStages.{RowLine, RowTarget, RowStage, Resting, Between, Reads, Lands, HasTarget, Changes}
+use Rattle.updater_row_law.specs.RowStages.{RowLine, RowTarget, RowStage, Resting, Between, Reads, Lands, HasTarget}
+use Rattle.updater_row_law.specs.RowStages.{Changes}
 use Rattle.updater_row_law.specs.RowStages.{Stamps, Clears, Sweeps, Gone, HasStamp, IsUnworn, Frees, Counts}
 use Rattle.updater_row_law.specs.RowSteps.{RowStep}
 use Rattle.updater.specs.declared.taking.TakeTurn.{TakeTurn}

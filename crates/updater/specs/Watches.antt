@@ -10,7 +10,7 @@ use Rattle.data_list.specs.Keys.{key_words}
 use Rattle.data_list.specs.Keys.{key_number as walk_number}
 use Rattle.data_list.specs.Walks.{walk_asks}
 use Rattle.data_list.specs.WalkStages.{walk_watching}
-use Rattle.search_layer.specs.Keys.{key_number}
+use Rattle.layer_map.specs.Keys.{key_number}
 use Rattle.smo_log.specs.declared.line.Entry.{Entry}
 use Rattle.updater_row_law.specs.Columns.{RowTerms}
 use Rattle.updater_row_law.specs.RowStages.{RowLine, RowTarget, RowStage, Resting, HasTarget}

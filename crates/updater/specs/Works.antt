@@ -22,7 +22,7 @@ use Rattle.pm_alloc.specs.Gone.{release_left}
 use Rattle.search_layer.specs.declared.floor.Floor.{Floor}
 use Rattle.search_layer.specs.declared.set.Set.{Set}
 use Rattle.search_layer.specs.declared.set.Unset.{Unset}
-use Rattle.search_layer.specs.Keys.{IsKey, key_number}
+use Rattle.layer_map.specs.Keys.{IsKey, key_number}
 use Rattle.search_layer.specs.FloorSteps.{IsFloor, floor_starts, floor_asks, floor_turned, floor_left}
 use Rattle.search_layer.specs.SetSteps.{IsSet, set_starts, set_asks, set_turned, set_left, IsUnset, unset_starts}
 use Rattle.search_layer.specs.SetSteps.{unset_asks, unset_turned, unset_left}

@@ -28,9 +28,9 @@ pub fn works_heed()
 
 ghost use Rattle.updater.specs.Doings.{WorksDo};
 
-/// What a turn stores follows from what it was told: it leads the anchor of a READY line whose target stands to the node
-/// that has it, or to none, stamps the node of a merge, and empties that line; it makes a GONE node FREE whose stamp the
-/// release allows; it gives back the updater lock. It stores nothing else.
+/// What a turn stores follows from what it was told: it leads the anchor of a READY line whose target stands to the
+/// node that has it, or to none, stamps the node of a merge, and empties that line; it makes a GONE node FREE whose
+/// stamp the release allows; it gives back the updater lock. It stores nothing else.
 pub fn works_do()
     ensures { WorksDo }
 {}
@@ -38,7 +38,8 @@ pub fn works_do()
 ghost use Rattle.updater.specs.Steps.{TakingsAreSteps, WorksStart, WorksAreSteps};
 
 /// Each turn is a step of a turn on rows of words, whatever number it is told of those that its action may give. That
-/// these steps keep what is lawful is `updater_row_law`'s, which rests on the walk's promise where a walk ends at a target.
+/// these steps keep what is lawful is `updater_row_law`'s, which rests on the walk's promise where a walk ends at a
+/// target.
 pub fn turns_are_steps()
     ensures takings { TakingsAreSteps }
     ensures starts { WorksStart }
@@ -68,8 +69,8 @@ pub fn turns_are_feet()
 
 ghost use Rattle.updater.specs.Makings.{MakingsStaySound, MakingsAreFeet};
 
-/// A whole turn takes the lock and works under it; it is the same, at each of its turns, and goes on as one whose fields
-/// keep the same.
+/// A whole turn takes the lock and works under it; it is the same, at each of its turns, and goes on as one whose
+/// fields keep the same.
 pub fn whole_turns_are_feet()
     ensures sound { MakingsStaySound }
     ensures feet { MakingsAreFeet }

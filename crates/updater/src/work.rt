@@ -257,7 +257,7 @@ impl Work {
 impl Work {
     ghost use Rattle.std.specs.Prelude.{◌≡◌, ◌+◌, ◌*◌, ◌<◌};
     ghost use Rattle.pm_words.specs.Layouts.{IsLayout};
-    ghost use Rattle.search_layer.specs.Keys.{key_number};
+    ghost use Rattle.layer_map.specs.Keys.{key_number};
     ghost use Rattle.updater.specs.Works.{IsTerms, IsEntry, walk_ended, saw_again, leaves};
 
     /// It leaves this line as it is.

@@ -1,7 +1,7 @@
 -- A step of the turn keeps the law.
 use Rattle.std.proofs.Common.{◌≡◌, ◌≢◌, ℕ, suc, ◌<◌, ◌==◌, ◌⊎◌, true, false, cond, Option, Some, None, inl, inr, refl, sym, subst, ap, ◌∙◌, arith}
 use Rattle.std.proofs.lemmas.Bool.{cases_eq, eqb-true}
-use Rattle.search_layer.specs.Layers.{AreSame}
+use Rattle.layer_map.specs.Layers.{AreSame}
 use Rattle.updater_law.specs.Covers.{set_at, Lines, IsCover, HasCover}
 use Rattle.updater_law.specs.Covered.{IsCovered, IsTarget}
 use Rattle.updater_law.specs.Facts.{TurnTerms, TurnFacts, IsListed}

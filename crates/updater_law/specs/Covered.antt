@@ -1,6 +1,6 @@
 -- When a search layer is covered: it leads each key but those that are exempt exactly as the list has it.
 use Rattle.std.specs.Prelude.{◌≡◌, ◌≢◌, ℕ, ◌≤◌, ◌↔◌, Option, Some, None}
-use Rattle.search_layer.specs.Layers.{Layer}
+use Rattle.layer_map.specs.Layers.{Layer}
 
 -- A key that isn't exempt leads to a node exactly where the node is listed and the key is its anchor.
 abbrev pub IsCovered : (ℕ → Type 0) → (ℕ → ℕ) → Layer → (ℕ → Type 0) → Type 0

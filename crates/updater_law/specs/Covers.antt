@@ -39,8 +39,8 @@ pub record HasOtherCover (now safe : Lines) (key mine : ℕ) : Type 0 where
   pub covers : IsCover now safe key line
 
 -- Words of the lines become durable, and the durable lines are then these: each word is that of the one row or of the
--- other, but that a state which a turn has emptied since may be made durable. So a line is EMPTY then only where one row
--- had it EMPTY. An anchor has several words, so it may be torn; but where both rows have one anchor, it stays that.
+-- other, but that a state which a turn has emptied since may be made durable. So a line is EMPTY then only where one
+-- row had it EMPTY. An anchor has several words, so it may be torn; but where both rows have one anchor, it stays that.
 pub record LinesEvict (now safe lines : Lines) : Type 0 where
   pub state : (j : ℕ) → now.state j ≢ empty_state → safe.state j ≢ empty_state → lines.state j ≢ empty_state
   pub anchor : (j : ℕ) → safe.anchor j ≡ now.anchor j → lines.anchor j ≡ now.anchor j

@@ -2,7 +2,7 @@
 -- a row of words whatever keeps the layer there.
 use Rattle.std.specs.Prelude.{◌≡◌, ℕ, Bool, true}
 use Rattle.pm_words.specs.Codes.{ready_state, merge_kind}
-use Rattle.search_layer.specs.Layers.{Layer}
+use Rattle.layer_map.specs.Layers.{Layer}
 use Rattle.updater_law.specs.Covers.{Lines}
 
 -- How many log lines and nodes there are, the stamp that the turn gives, and the greatest stamp that it releases.

@@ -1,7 +1,7 @@
 -- What holds of the facts and of a turn between any two steps.
 use Rattle.std.specs.Prelude.{◌≡◌, ◌≢◌, ℕ, ◌<◌, ◌≤◌, ◌⊎◌, true, false, Option, Some}
 use Rattle.pm_words.specs.Codes.{free_status, live_status, gone_status, empty_state, ready_state, merge_kind}
-use Rattle.search_layer.specs.Layers.{Layer, AreSame}
+use Rattle.layer_map.specs.Layers.{Layer, AreSame}
 use Rattle.updater_law.specs.Covers.{HasCover, HasOtherCover}
 use Rattle.updater_law.specs.Covered.{IsCovered, ListHas, AreApart, IsTarget}
 use Rattle.updater_law.specs.Facts.{TurnTerms, TurnFacts, IsListed, HasReadyMerge}

@@ -1,7 +1,7 @@
 -- The laws of single steps, of crashes, and of nodes that become free.
 use Rattle.std.specs.Prelude.{◌≡◌, ◌≢◌, ℕ, ◌⊎◌, Bool, true}
 use Rattle.pm_words.specs.Codes.{free_status}
-use Rattle.search_layer.specs.Layers.{Layer, LeadsApart}
+use Rattle.layer_map.specs.Layers.{Layer, LeadsApart}
 use Rattle.updater_law.specs.Covers.{IsOpenFor}
 use Rattle.updater_law.specs.Covered.{IsCovered}
 use Rattle.updater_law.specs.Facts.{TurnTerms, TurnFacts, IsListed}

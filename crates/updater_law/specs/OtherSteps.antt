@@ -1,7 +1,8 @@
 -- The kinds of step of other parties that touch what a turn, or the cover of the layer, rests on. Each asks for what
 -- the party that takes it must know: premises that the laws of splits and merges have to give.
 use Rattle.std.specs.Prelude.{◌≡◌, ◌≢◌, ℕ, ◌<◌, ◌≤◌, Bool, true, false}
-use Rattle.pm_words.specs.Codes.{free_status, live_status, gone_status, empty_state, open_state, ready_state, merge_kind}
+use Rattle.pm_words.specs.Codes.{free_status, live_status, gone_status, empty_state, open_state, ready_state}
+use Rattle.pm_words.specs.Codes.{merge_kind}
 use Rattle.updater_law.specs.Covers.{set_at, Lines, IsCover, LinesEvict}
 use Rattle.updater_law.specs.Covered.{IsTarget}
 use Rattle.updater_law.specs.Facts.{TurnFacts, IsListed, HasReadyMerge}

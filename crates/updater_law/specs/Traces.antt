@@ -1,6 +1,6 @@
 -- Steps of a turn and of other parties, one after another.
 use Rattle.std.specs.Prelude.{ℕ}
-use Rattle.search_layer.specs.Layers.{Layer}
+use Rattle.layer_map.specs.Layers.{Layer}
 use Rattle.updater_law.specs.Facts.{TurnTerms, TurnFacts}
 use Rattle.updater_law.specs.TurnStages.{TurnStage, Resting, IsUnworn, Frees}
 use Rattle.updater_law.specs.TurnSteps.{TurnStep}

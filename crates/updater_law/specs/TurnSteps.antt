@@ -2,7 +2,7 @@
 use Rattle.std.specs.Prelude.{◌≡◌, ◌≢◌, ℕ, suc, ◌==◌, ◌<◌, ◌≤◌, ◌⊎◌, Bool, true, false, if◌then◌else◌}
 use Rattle.std.specs.Prelude.{Option, Some, None}
 use Rattle.pm_words.specs.Codes.{free_status, gone_status, empty_state, ready_state, merge_kind}
-use Rattle.search_layer.specs.Layers.{Layer, AreSame}
+use Rattle.layer_map.specs.Layers.{Layer, AreSame}
 use Rattle.updater_law.specs.Covers.{set_at}
 use Rattle.updater_law.specs.Covered.{IsTarget}
 use Rattle.updater_law.specs.Facts.{TurnTerms, TurnFacts, IsListed}

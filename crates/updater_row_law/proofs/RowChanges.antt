@@ -3,14 +3,16 @@ use Rattle.std.proofs.Common.{◌≡◌, ◌≢◌, ℕ, ◌-◌, ◌≤◌, ◌
 use Rattle.std.proofs.lemmas.Bool.{cases_eq, eq-eqb, ne_eqb}
 use Rattle.pm_words.specs.declared.layout.Layout.{Layout}
 use Rattle.pm_words.specs.declared.action.Action.{Action}
-use Rattle.pm_words.specs.Locations.{Cached, Durable, leaf_count}
+use Rattle.pm_words.specs.Locations.{Cached, Durable}
 use Rattle.pm_words.specs.Rows.{acted}
-use Rattle.search_layer.specs.Layers.{Layer, AreSame, changed_at}
-use Rattle.search_layer.specs.Keys.{key_number}
-use Rattle.search_layer.specs.Leaves.{LayerWords, leaves_in, layer_in, layer_of, node_of}
-use Rattle.search_layer.specs.ChangeStages.{Aim, Changing, Looks, Fills, CanSwitch, Switched, Changed, made_of, LayerAt, MixAt, LayerAfter}
+use Rattle.layer_map.specs.Layers.{Layer, changed_at, node_of}
+use Rattle.layer_map.specs.Keys.{key_number}
+use Rattle.search_layer.specs.Rows.{LayerWords, layer_words}
+use Rattle.search_layer.specs.Kept.{layer_of, kept}
+use Rattle.search_layer.specs.ChangeStages.{Aim, Changing, LayerAt, MixAt, LayerAfter}
 use Rattle.search_layer.specs.Laws.{ChangeKeeps}
-use Rattle.search_layer.proofs.ChangeLaw.{change_is_backed}
+use Rattle.search_layer.proofs.ChangeLaw.{change_is_backed, layer_is_either, mix_is_either, step_is_either}
+use Rattle.search_layer.proofs.RowLemmas.{mix_of_durable}
 use Rattle.updater_law.specs.TurnSteps.{AreSameBut}
 use Rattle.updater_law.specs.Lawful.{IsDecided}
 use Rattle.updater_row_law.specs.Columns.{RowTerms, Ghosts, terms_of, facts_in}
@@ -29,32 +31,25 @@ pub record Differs (key : ℕ) (found : Option ℕ) (layer after : Layer) : Type
   pub others : AreSameBut key after layer
   pub at_key : (after key ≡ layer key) ⊎ (after key ≡ found)
 
-same_differs : (key : ℕ) (found : Option ℕ) (layer after : Layer) → AreSame after layer → Differs key found layer after
-same_differs key found layer after same = record { others = λ k ne. same k; at_key = inl (same key) }
-
+-- what a step makes of the layer
 pub differs : (aim : Aim) (s : Changing) (layer after : Layer) → LayerAfter aim s layer after → Differs (key_number aim.key) (node_of aim.word) layer after
-differs aim (Looks sight) layer after same = same_differs (key_number aim.key) (node_of aim.word) layer after same
-differs aim (Fills leaf stored drained hand) layer after same = same_differs (key_number aim.key) (node_of aim.word) layer after same
-differs aim (CanSwitch leaf) layer after made = record {
-  others = λ k ne. made k ∙ made_other layer (key_number aim.key) (node_of aim.word) k ne;
-  at_key = inr (made (key_number aim.key) ∙ made_here layer (key_number aim.key) (node_of aim.word));
-}
-differs aim (Switched leaf drained hand) layer after same = same_differs (key_number aim.key) (node_of aim.word) layer after same
-differs aim Changed layer after same = same_differs (key_number aim.key) (node_of aim.word) layer after same
-
--- of each mix the layer is the cached one, but at the key
-made_but : (aim : Aim) (before layer mix : Layer) → AreSame layer (made_of aim before) → AreSame mix (made_of aim before) ⊎ AreSame mix before → AreSameBut (key_number aim.key) mix layer
-made_but aim before layer mix made either k ne = elim either [
-  | inl new ↦ new k ∙ sym (made k)
-  | inr old ↦ old k ∙ sym (made k ∙ made_other before (key_number aim.key) (node_of aim.word) k ne)
+differs aim s layer after is = elim (step_is_either aim s layer after is) [
+  | inl same ↦ record { others = λ k ne. same k; at_key = inl (same (key_number aim.key)) }
+  | inr made ↦ record {
+    others = λ k ne. made k ∙ made_other layer (key_number aim.key) (node_of aim.word) k ne;
+    at_key = inr (made (key_number aim.key) ∙ made_here layer (key_number aim.key) (node_of aim.word));
+  }
 ]
 
+-- of each mix the layer is the cached one, but at the key
 pub mix_but : (aim : Aim) (before : Layer) (s : Changing) (layer mix : Layer) → LayerAt aim before s layer → MixAt aim before s mix → AreSameBut (key_number aim.key) mix layer
-mix_but aim before (Looks sight) layer mix at_layer at_mix k ne = at_mix k ∙ sym (at_layer k)
-mix_but aim before (Fills leaf stored drained hand) layer mix at_layer at_mix k ne = at_mix k ∙ sym (at_layer k)
-mix_but aim before (CanSwitch leaf) layer mix at_layer at_mix k ne = at_mix k ∙ sym (at_layer k)
-mix_but aim before (Switched leaf drained hand) layer mix at_layer at_mix k ne = made_but aim before layer mix at_layer (elim at_mix [ inl new ↦ inl new | inr old ↦ inr old.1 ]) k ne
-mix_but aim before Changed layer mix at_layer at_mix k ne = made_but aim before layer mix at_layer (inl at_mix) k ne
+mix_but aim before s layer mix at_layer at_mix k ne = elim (mix_is_either aim before s layer mix at_layer at_mix) [
+  | inl now ↦ now k
+  | inr old ↦ elim (layer_is_either aim before s layer at_layer) [
+    | inl same ↦ old k ∙ sym (same k)
+    | inr made ↦ old k ∙ sym (made k ∙ made_other before (key_number aim.key) (node_of aim.word) k ne)
+  ]
+]
 
 -- the node word is in range
 pub word_within : (r : RowTerms) (ghosts : Ghosts) (words : List ℕ) (e : RowLine) (word : ℕ) → IsDecided (terms_of r) (facts_in r ghosts words) (entry_of e) (node_of word) → word ≤ r.layout.nodes
@@ -69,7 +64,7 @@ word_within r ghosts words e word is = elim (cases_eq word 0) [
 pub record ChangedRow (r : RowTerms) (words : List ℕ) (e : RowLine) (word : ℕ) (a : Action) (t : Changing) : Type 0 where
   pub changing : IsChanging r (acted r.layout words a) e word t
   pub differs : Differs (key_number e.anchor) (node_of word) (layer_of r.layout words) (layer_of r.layout (acted r.layout words a))
-  pub durable : AreSameBut (key_number e.anchor) (layer_in (leaves_in r.layout (acted r.layout words a) Durable) (leaf_count r.layout)) (layer_of r.layout (acted r.layout words a))
+  pub durable : AreSameBut (key_number e.anchor) (kept r.layout (layer_words r.layout (acted r.layout words a) Durable)) (layer_of r.layout (acted r.layout words a))
 
 module _ (r : RowTerms) (words : List ℕ) (e : RowLine) (word : ℕ) (s t : Changing) (a : Action) (is : IsChanging r words e word s) (fits : word ≤ r.layout.nodes) where
   abbrev l : Layout
@@ -78,11 +73,11 @@ module _ (r : RowTerms) (words : List ℕ) (e : RowLine) (word : ℕ) (s t : Cha
   pub changed_row : ChangeKeeps l (aim_of e word) is.before words s a t → ChangedRow r words e word a t
   changed_row keeps =
       let after : List ℕ = acted l words a in
-      let w : LayerWords = leaves_in l after Cached in
-      let d : LayerWords = leaves_in l after Durable in
-      let backs = change_is_backed (leaf_count l) l.nodes (aim_of e word) is.before t w d keeps.row fits keeps.sure keeps.layer in
+      let w : LayerWords = layer_words l after Cached in
+      let d : LayerWords = layer_words l after Durable in
+      let backs = change_is_backed l (aim_of e word) is.before t w d keeps.row fits keeps.sure keeps.layer in
       record {
         changing = record { before = is.before; few = is.few; sure = keeps.sure; layer = keeps.layer };
         differs = differs (aim_of e word) s (layer_of l words) (layer_of l after) keeps.changes;
-        durable = mix_but (aim_of e word) is.before t (layer_of l after) (layer_in d (leaf_count l)) keeps.layer (backs.layer d (λ i o. inr refl));
+        durable = mix_but (aim_of e word) is.before t (layer_of l after) (kept l d) keeps.layer (backs.layer d (mix_of_durable w d));
       }

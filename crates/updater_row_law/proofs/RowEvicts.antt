@@ -3,18 +3,19 @@ use Rattle.std.proofs.Common.{◌≡◌, ℕ, zero, suc, ◌+◌, ◌^◌, ◌<�
 use Rattle.std.proofs.lemmas.Bool.{cases_eq, cases_lt}
 use Rattle.std.proofs.lemmas.List.{get_or-set_same, get_or-set_other}
 use Rattle.pm_words.specs.declared.layout.Layout.{Layout}
-use Rattle.pm_words.specs.Locations.{Word, Location, Node, Cached, Durable, Volatile, HasWord, word_number, address_of, leaf_count, row_words, image_words, cached_address, durable_address, at}
+use Rattle.pm_words.specs.Locations.{Word, Location, Node, Cached, Durable, Volatile, HasWord, word_number, address_of, row_words, image_words, cached_address, durable_address, at}
 use Rattle.pm_words.specs.Rows.{evicted}
 use Rattle.pm_words.proofs.Apart.{words_within}
 use Rattle.version_lock.specs.Versions.{is_free_word, is_worn_word}
-use Rattle.search_layer.specs.Layers.{Layer, AreSame}
-use Rattle.search_layer.specs.Keys.{key_of, key_number}
-use Rattle.search_layer.specs.Leaves.{LayerWords, leaves_in, layer_in, IsLayerRow, AreEven}
-use Rattle.search_layer.specs.ChangeStages.{Changing, SureChanging, LayerAt}
-use Rattle.search_layer.specs.Laws.{EvictsLeaves}
-use Rattle.search_layer.proofs.LeafRows.{eviction_mixes}
+use Rattle.layer_map.specs.Layers.{Layer, AreSame}
+use Rattle.layer_map.specs.Keys.{key_of, key_number}
+use Rattle.search_layer.specs.Rows.{LayerWords, layer_words, AreEven, EvictsLayer}
+use Rattle.search_layer.specs.ChangeStages.{Changing, LayerAt}
+use Rattle.search_layer.proofs.RowLemmas.{eviction_mixes, even_are_same, mixes_are_even}
 use Rattle.search_layer.proofs.ChangeLaw.{change_is_backed, change_evicts}
-use Rattle.search_layer.proofs.KeyLemmas.{words_told}
+use Rattle.search_layer.specs.Kept.{kept, IsKept}
+use Rattle.search_layer.specs.Laws.{SureOn}
+use Rattle.layer_map.proofs.KeyLemmas.{words_told}
 use Rattle.updater_law.specs.Covers.{Lines, LinesEvict}
 use Rattle.updater_law.specs.Covered.{IsTarget}
 use Rattle.updater_law.specs.Facts.{TurnFacts, IsListed}
@@ -106,19 +107,19 @@ module _ (r : RowTerms) (ghosts : Ghosts) (words : List ℕ) (word : ℕ) (whole
       let n5 = node_same l words word whole within 5 (omega arith) in
       λ i n. key_of (n3 i n) (n4 i n) (n5 i n)
 
-  evicts : EvictsLeaves l words after
+  evicts : EvictsLayer l words after
   evicts = eviction_mixes l words word whole within
 
   abbrev w : LayerWords
-  w = leaves_in l words Cached
+  w = layer_words l words Cached
 
   abbrev d : LayerWords
-  d = leaves_in l words Durable
+  d = layer_words l words Durable
 
   abbrev d' : LayerWords
-  d' = leaves_in l after Durable
+  d' = layer_words l after Durable
 
-  evicted_facts : facts_in r ghosts after ≡ record f { safe_line = lines; safe_layer = layer_in d' (leaf_count l) }
+  evicted_facts : facts_in r ghosts after ≡ record f { safe_line = lines; safe_layer = kept l d' }
   evicted_facts =
       let n0 = node_same l words word whole within 0 (omega arith) in
       let l0 = line_same l words word whole within 0 (omega arith) in
@@ -129,7 +130,7 @@ module _ (r : RowTerms) (ghosts : Ghosts) (words : List ℕ) (word : ℕ) (whole
       let l5 = line_same l words word whole within 5 (omega arith) in
       let v0 = volatile_same l words word whole within 0 (omega arith) in
       let v2 = volatile_same l words word whole within 2 (omega arith) in
-      let leaves = evicts.cached in
+      let same = evicts.cached in
       λ i. record {
         listed = ghosts.listed;
         anchor = anchor_path i;
@@ -140,20 +141,18 @@ module _ (r : RowTerms) (ghosts : Ghosts) (words : List ℕ) (word : ℕ) (whole
         worn = λ n. is_worn_word (n0 i n) r.generation;
         line = record { state = l0 i; kind = l1 i; node = l2 i; anchor = λ j. key_of (l3 i j) (l4 i j) (l5 i j) };
         safe_line = lines;
-        layer = layer_in (leaves i) (leaf_count l);
-        safe_layer = layer_in d' (leaf_count l);
+        layer = kept l (same i);
+        safe_layer = kept l d';
       }
 
   even_after : AreEven w d → AreEven w d'
-  even_after even i o = elim (evicts.durable i o) [ inl new ↦ new | inr old ↦ old ∙ even i o ]
+  even_after even = mixes_are_even w d d' even evicts.durable
 
   even_cached : AreEven w d → AreDurable r after
   even_cached even = subst (λ (v : LayerWords). AreEven v d') (sym evicts.cached) (even_after even)
 
-  even_layer : AreEven w d → AreSame (layer_in d' (leaf_count l)) f.layer
-  even_layer even k =
-      let equal : w ≡ d' = λ j i o. sym (even_after even i o) j in
-      ap (λ (v : LayerWords). layer_in v (leaf_count l) k) (sym equal)
+  even_layer : AreEven w d → AreSame (kept l d') f.layer
+  even_layer even k = ap (λ (v : LayerWords). kept l v k) (even_are_same w d' (even_after even))
 
   loaded_after : (j offset : ℕ) (seen : List ℕ) → HasLoaded r words j offset seen → HasLoaded r after j offset seen
   loaded_after j offset seen is = record {
@@ -170,7 +169,7 @@ module _ (r : RowTerms) (ghosts : Ghosts) (words : List ℕ) (word : ℕ) (whole
         low = λ stands k lt. ap (λ (g : ℕ → ℕ). g target.node) (node_same l words word whole within (3 + k) (omega arith)) ∙ is.low (sym version ∙ stands) k lt;
       }
 
-  reading_after : (j offset : ℕ) (seen : List ℕ) → AreEven w d → IsDurableBut f.layer (layer_in d' (leaf_count l)) (reading_stage j offset seen)
+  reading_after : (j offset : ℕ) (seen : List ℕ) → AreEven w d → IsDurableBut f.layer (kept l d') (reading_stage j offset seen)
   reading_after j zero seen even = even_layer even
   reading_after j (suc zero) seen even = even_layer even
   reading_after j (suc (suc zero)) seen even = even_layer even
@@ -178,23 +177,22 @@ module _ (r : RowTerms) (ghosts : Ghosts) (words : List ℕ) (word : ℕ) (whole
 
   record After (s : RowStage) : Type 0 where
     pub sure : SureRow r ghosts after s
-    pub durable : IsDurableBut f.layer (layer_in d' (leaf_count l)) (turn_stage s)
+    pub durable : IsDurableBut f.layer (kept l d') (turn_stage s)
 
   changing_after : (e : RowLine) (node : ℕ) (s : Changing) → RowLawful r ghosts words (Changes e node s) → After (Changes e node s)
   changing_after e node s is =
-      let count : ℕ = leaf_count l in
       let before : Layer = is.sure.before in
       let sure = is.sure.sure in
       record {
         sure = record {
           before = before;
           few = is.sure.few;
-          sure = subst (λ (v : LayerWords). SureChanging count l.nodes (aim_of e node) before s v d') (sym evicts.cached)
-              (change_evicts count l.nodes (aim_of e node) before s w d d' evicts.durable sure);
-          layer = subst (λ (v : LayerWords). LayerAt (aim_of e node) before s (layer_in v count)) (sym evicts.cached) is.sure.layer;
+          sure = subst (λ (v : LayerWords). SureOn l before (aim_of e node) s v d') (sym evicts.cached)
+              (change_evicts l (aim_of e node) before s w d d' evicts.durable sure);
+          layer = subst (λ (v : LayerWords). LayerAt (aim_of e node) before s (kept l v)) (sym evicts.cached) is.sure.layer;
         };
-        durable = mix_but (aim_of e node) before s f.layer (layer_in d' count) is.sure.layer
-            ((change_is_backed count l.nodes (aim_of e node) before s w d is.leaves (word_within r ghosts words e node is.law.sure) sure is.sure.layer).layer d' evicts.durable);
+        durable = mix_but (aim_of e node) before s f.layer (kept l d') is.sure.layer
+            ((change_is_backed l (aim_of e node) before s w d is.order (word_within r ghosts words e node is.law.sure) sure is.sure.layer).layer d' evicts.durable);
       }
 
   stage_after : (s : RowStage) → RowLawful r ghosts words s → After s
@@ -219,12 +217,12 @@ eviction_keeps_turn r ghosts words s word row within is =
     let f : TurnFacts = facts_in r ghosts words in
     let after : List ℕ = evicted l words word in
     let lines : Lines = lines_in l after Durable in
-    let safe : Layer = layer_in (leaves_in l after Durable) (leaf_count l) in
+    let safe : Layer = kept l (layer_words l after Durable) in
     let next = stage_after r ghosts words word row.whole within row.fits s is in
     let drained = other_keeps (terms_of r) f (record f { safe_line = lines }) (turn_stage s) is.law (drains_lines lines (lines_evict r ghosts words word row.whole within row.fits)) in
     let law = layer_evicts (terms_of r) (record f { safe_line = lines }) (turn_stage s) safe drained next.durable in
     record {
-      leaves = subst (λ (v : LayerWords). IsLayerRow (leaf_count l) l.nodes v) (sym (evicts r ghosts words word row.whole within row.fits).cached) is.leaves;
+      order = subst (λ (v : LayerWords). IsKept l v) (sym (evicts r ghosts words word row.whole within row.fits).cached) is.order;
       sure = next.sure;
       law = subst (λ (g : TurnFacts). TurnLawful (terms_of r) g (turn_stage s)) (sym (evicted_facts r ghosts words word row.whole within row.fits)) law;
     }

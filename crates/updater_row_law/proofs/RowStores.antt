@@ -1,19 +1,20 @@
 -- What the stores of a turn make of the facts.
 use Rattle.std.proofs.Common.{◌≡◌, ◌≢◌, ℕ, ◌/◌, ◌%◌, ◌<◌, not, List, length, slice_set, refl, ap, ◌∙◌, arith}
 use Rattle.pm_words.specs.declared.layout.Layout.{Layout}
-use Rattle.pm_words.specs.Locations.{Word, Location, Node, Line, Leaf, Cached, Durable, Volatile, Updater, HasLocation, address_of, leaf_count, row_words}
+use Rattle.pm_words.specs.Locations.{Location, Node, Line, Cached, Durable, Volatile, Updater, HasLocation, address_of, row_words}
 use Rattle.pm_words.proofs.Apart.{at-set_other}
 use Rattle.version_lock.specs.Versions.{is_free_word, is_worn_word}
-use Rattle.search_layer.specs.Keys.{key_of}
-use Rattle.search_layer.specs.Leaves.{leaves_in, layer_in, KeepsOthers}
-use Rattle.search_layer.proofs.LeafRows.{leaves_in-alike}
+use Rattle.layer_map.specs.Keys.{key_of}
+use Rattle.search_layer.specs.Rows.{layer_words, KeepsOthers, HasSameLayer}
+use Rattle.search_layer.specs.Kept.{kept}
+use Rattle.search_layer.proofs.RowLemmas.{layer_words_stay}
 use Rattle.updater_law.specs.Covers.{set_at}
 use Rattle.updater_law.specs.Facts.{TurnFacts}
 use Rattle.updater_law.specs.TurnSteps.{emptied}
 use Rattle.updater_row_law.specs.Columns.{RowTerms, Ghosts, line_count, line_word, line_field, node_field, volatile_field, facts_in}
 use Rattle.updater_row_law.proofs.RowColumns.{column-same, column-set}
 
--- the words of the row but for statuses, stamps, states of lines, and the leaves
+-- the words of the row but for statuses, stamps, states of lines, and those of the layer
 pub record SameRest (l : Layout) (words words' : List ℕ) : Type 0 where
   pub node : (o : ℕ) → o < 16 → node_field l words' o ≡ node_field l words o
   pub line : (o : ℕ) → 0 < o → o < 8 → line_field l words' Cached o ≡ line_field l words Cached o
@@ -26,8 +27,8 @@ pub facts_path : (r : RowTerms) (ghosts : Ghosts) (words words' : List ℕ) (sta
       status = status;
       stamp = stamp;
       line = record ((facts_in r ghosts words).line) { state = state };
-      layer = layer_in (leaves_in r.layout words' Cached) (leaf_count r.layout);
-      safe_layer = layer_in (leaves_in r.layout words' Durable) (leaf_count r.layout);
+      layer = kept r.layout (layer_words r.layout words' Cached);
+      safe_layer = kept r.layout (layer_words r.layout words' Durable);
     }
 facts_path r ghosts words words' status stamp state rest is_status is_stamp is_state =
     let n0 = rest.node 0 (omega arith) in
@@ -55,33 +56,33 @@ facts_path r ghosts words words' status stamp state rest is_status is_stamp is_s
       worn = λ n. is_worn_word (n0 i n) r.generation;
       line = record { state = is_state i; kind = l1 i; node = l2 i; anchor = λ j. key_of (l3 i j) (l4 i j) (l5 i j) };
       safe_line = record { state = s0 i; kind = s1 i; node = s2 i; anchor = λ j. key_of (s3 i j) (s4 i j) (s5 i j) };
-      layer = layer_in (leaves_in r.layout words' Cached) (leaf_count r.layout);
-      safe_layer = layer_in (leaves_in r.layout words' Durable) (leaf_count r.layout);
+      layer = kept r.layout (layer_words r.layout words' Cached);
+      safe_layer = kept r.layout (layer_words r.layout words' Durable);
     }
 
--- no word but the leaves' is another
+-- no word but the layer's is another
 module _ (l : Layout) (words words' : List ℕ) (same : KeepsOthers l words words') where
   node_stays : (o : ℕ) → o < 16 → node_field l words' o ≡ node_field l words o
-  node_stays o small = column-same l words words' l.nodes (λ n. Cached (Node n o)) (λ n lt. same (Cached (Node n o)) (lt, omega arith) (λ leaf offset. (λ e. cc, λ e. cc)))
+  node_stays o small = column-same l words words' l.nodes (λ n. Cached (Node n o)) (λ n lt. same (Cached (Node n o)) (lt, omega arith) refl)
 
   pub volatile_stays : (o : ℕ) → o < 16 → volatile_field l words' o ≡ volatile_field l words o
-  volatile_stays o small = column-same l words words' l.nodes (λ n. Volatile n o) (λ n lt. same (Volatile n o) (lt, small) (λ leaf offset. (λ e. cc, λ e. cc)))
+  volatile_stays o small = column-same l words words' l.nodes (λ n. Volatile n o) (λ n lt. same (Volatile n o) (lt, small) refl)
 
   pub line_stays : (o : ℕ) → o < 8 → line_field l words' Cached o ≡ line_field l words Cached o
-  line_stays o small = column-same l words words' (line_count l) (λ j. Cached (line_word o j)) (λ j lt. same (Cached (line_word o j)) (omega arith, omega arith, small) (λ leaf offset. (λ e. cc, λ e. cc)))
+  line_stays o small = column-same l words words' (line_count l) (λ j. Cached (line_word o j)) (λ j lt. same (Cached (line_word o j)) (omega arith, omega arith, small) refl)
 
   safe_stays : (o : ℕ) → o < 8 → line_field l words' Durable o ≡ line_field l words Durable o
-  safe_stays o small = column-same l words words' (line_count l) (λ j. Durable (line_word o j)) (λ j lt. same (Durable (line_word o j)) (omega arith, omega arith, small) (λ leaf offset. (λ e. cc, λ e. cc)))
+  safe_stays o small = column-same l words words' (line_count l) (λ j. Durable (line_word o j)) (λ j lt. same (Durable (line_word o j)) (omega arith, omega arith, small) refl)
 
   pub rest_stays : SameRest l words words'
   rest_stays = record { node = node_stays; line = λ o some. line_stays o; safe = safe_stays }
 
-pub leaf_facts : (r : RowTerms) (ghosts : Ghosts) (words words' : List ℕ) → KeepsOthers r.layout words words'
+pub layer_facts : (r : RowTerms) (ghosts : Ghosts) (words words' : List ℕ) → KeepsOthers r.layout words words'
     → facts_in r ghosts words' ≡ record (facts_in r ghosts words) {
-      layer = layer_in (leaves_in r.layout words' Cached) (leaf_count r.layout);
-      safe_layer = layer_in (leaves_in r.layout words' Durable) (leaf_count r.layout);
+      layer = kept r.layout (layer_words r.layout words' Cached);
+      safe_layer = kept r.layout (layer_words r.layout words' Durable);
     }
-leaf_facts r ghosts words words' same =
+layer_facts r ghosts words words' same =
     let l : Layout = r.layout in
     facts_path r ghosts words words' (volatile_field l words 0) (volatile_field l words 2) (line_field l words Cached 0) (rest_stays l words words' same)
     (volatile_stays l words words' same 0 (omega arith)) (volatile_stays l words words' same 2 (omega arith)) (line_stays l words words' same 0 (omega arith))
@@ -108,22 +109,10 @@ abbrev offset_at : Location → ℕ
 offset_at (Cached (Line c j o)) = o
 offset_at _ = 0
 
--- One store beside the leaves, at a location p.
+-- One store beside the layer, at a location p.
 module _ (l : Layout) (words : List ℕ) (p : Location) (y : ℕ) (has : HasLocation l p) where
   abbrev written : List ℕ
   written = slice_set words (address_of l p) y
-
-  leaves_stay : (twin : Word → Location) → ((leaf o : ℕ) → leaf < leaf_count l → o < 8 → HasLocation l (twin (Leaf leaf o))) → ((leaf o : ℕ) → twin (Leaf leaf o) ≢ p) → leaves_in l written twin ≡ leaves_in l words twin
-  leaves_stay twin there apart =
-      let same : (leaf o : ℕ) → leaves_in l written twin leaf o ≡ leaves_in l words twin leaf o =
-      λ leaf o. leaves_in-alike l words written twin leaf o (λ lt small. at-set_other l words p (twin (Leaf leaf o)) y has (there leaf o lt small) (apart leaf o)) in
-      λ k leaf o. same leaf o k
-
-  pub cached_leaves : ((leaf o : ℕ) → Cached (Leaf leaf o) ≢ p) → leaves_in l written Cached ≡ leaves_in l words Cached
-  cached_leaves apart = leaves_stay (λ w. Cached w) (λ leaf o lt small. (lt, small)) apart
-
-  pub durable_leaves : ((leaf o : ℕ) → Durable (Leaf leaf o) ≢ p) → leaves_in l written Durable ≡ leaves_in l words Durable
-  durable_leaves apart = leaves_stay (λ w. Durable w) (λ leaf o lt small. (lt, small)) apart
 
   pub volatile_kept : (o : ℕ) → o < 16 → ((n : ℕ) → Volatile n o ≢ p) → volatile_field l written o ≡ volatile_field l words o
   volatile_kept o small apart = column-same l words written l.nodes (λ n. Volatile n o) (λ n lt. at-set_other l words p (Volatile n o) y has (lt, small) (apart n))
@@ -138,23 +127,23 @@ module _ (l : Layout) (words : List ℕ) (p : Location) (y : ℕ) (has : HasLoca
     safe = λ o small. column-same l words written (line_count l) (λ j. Durable (line_word o j)) (λ j lt. at-set_other l words p (Durable (line_word o j)) y has (omega arith, omega arith, small) (no_safe j o));
   }
 
--- a store that leaves the leaves, and the facts afterwards but for the layer, which they keep
+-- a store that leaves the words of the layer, and the facts afterwards
 pub record Beside (r : RowTerms) (ghosts : Ghosts) (words words' : List ℕ) (after : TurnFacts) : Type 0 where
-  pub cached : leaves_in r.layout words' Cached ≡ leaves_in r.layout words Cached
-  pub durable : leaves_in r.layout words' Durable ≡ leaves_in r.layout words Durable
+  pub same : HasSameLayer r.layout words words'
   pub facts : facts_in r ghosts words' ≡ after
 
 -- the layers are those of before
-beside : (r : RowTerms) (ghosts : Ghosts) (words words' : List ℕ) (status stamp state : ℕ → ℕ) → leaves_in r.layout words' Cached ≡ leaves_in r.layout words Cached → leaves_in r.layout words' Durable ≡ leaves_in r.layout words Durable
+beside : (r : RowTerms) (ghosts : Ghosts) (words words' : List ℕ) (status stamp state : ℕ → ℕ) → HasSameLayer r.layout words words'
     → SameRest r.layout words words' → volatile_field r.layout words' 0 ≡ status → volatile_field r.layout words' 2 ≡ stamp → line_field r.layout words' Cached 0 ≡ state
     → Beside r ghosts words words' (record (facts_in r ghosts words) { status = status; stamp = stamp; line = record ((facts_in r ghosts words).line) { state = state } })
-beside r ghosts words words' status stamp state cached durable rest is_status is_stamp is_state =
+beside r ghosts words words' status stamp state same rest is_status is_stamp is_state =
     let f : TurnFacts = facts_in r ghosts words in
-    let count : ℕ = leaf_count r.layout in
-    let layers : record f { status = status; stamp = stamp; line = record (f.line) { state = state }; layer = layer_in (leaves_in r.layout words' Cached) count; safe_layer = layer_in (leaves_in r.layout words' Durable) count }
+    let cached = same.cached in
+    let durable = same.durable in
+    let layers : record f { status = status; stamp = stamp; line = record (f.line) { state = state }; layer = kept r.layout (layer_words r.layout words' Cached); safe_layer = kept r.layout (layer_words r.layout words' Durable) }
     ≡ record f { status = status; stamp = stamp; line = record (f.line) { state = state } } =
-    λ i. record f { status = status; stamp = stamp; line = record (f.line) { state = state }; layer = layer_in (cached i) count; safe_layer = layer_in (durable i) count } in
-    record { cached = cached; durable = durable; facts = facts_path r ghosts words words' status stamp state rest is_status is_stamp is_state ∙ layers }
+    λ i. record f { status = status; stamp = stamp; line = record (f.line) { state = state }; layer = kept r.layout (cached i); safe_layer = kept r.layout (durable i) } in
+    record { same = same; facts = facts_path r ghosts words words' status stamp state rest is_status is_stamp is_state ∙ layers }
 
 module _ (r : RowTerms) (ghosts : Ghosts) (words : List ℕ) where
   abbrev l : Layout
@@ -168,7 +157,7 @@ module _ (r : RowTerms) (ghosts : Ghosts) (words : List ℕ) where
 
   pub lock_stored : (y : ℕ) → Beside r ghosts words (stored Updater y) f
   lock_stored y = beside r ghosts words (stored Updater y) f.status f.stamp f.line.state
-      (cached_leaves l words Updater y tt (λ leaf o e. cc)) (durable_leaves l words Updater y tt (λ leaf o e. cc))
+      (layer_words_stay l words Updater y tt refl)
       (rest_kept l words Updater y tt (λ n o e. cc) (λ j o some e. cc) (λ j o e. cc))
       (volatile_kept l words Updater y tt 0 (omega arith) (λ n e. cc)) (volatile_kept l words Updater y tt 2 (omega arith) (λ n e. cc)) (state_kept l words Updater y tt (λ j e. cc))
 
@@ -177,7 +166,7 @@ module _ (r : RowTerms) (ghosts : Ghosts) (words : List ℕ) where
       let p : Location = Volatile n 2 in
       let has : HasLocation l p = (lt, omega arith) in
       beside r ghosts words (stored p y) f.status (set_at f.stamp n y) f.line.state
-      (cached_leaves l words p y has (λ leaf o e. cc)) (durable_leaves l words p y has (λ leaf o e. cc))
+      (layer_words_stay l words p y has refl)
       (rest_kept l words p y has (λ m o e. cc) (λ j o some e. cc) (λ j o e. cc))
       (volatile_kept l words p y has 0 (omega arith) (λ m e. let no_way = ap volatile_at e in omega arith))
       (column-set l words p y has l.nodes (λ m. Volatile m 2) n whole lt refl (λ m lt. (lt, omega arith)) (λ m lt e. ap node_at e))
@@ -188,7 +177,7 @@ module _ (r : RowTerms) (ghosts : Ghosts) (words : List ℕ) where
       let p : Location = Volatile n 0 in
       let has : HasLocation l p = (lt, omega arith) in
       beside r ghosts words (stored p y) (set_at f.status n y) f.stamp f.line.state
-      (cached_leaves l words p y has (λ leaf o e. cc)) (durable_leaves l words p y has (λ leaf o e. cc))
+      (layer_words_stay l words p y has refl)
       (rest_kept l words p y has (λ m o e. cc) (λ j o some e. cc) (λ j o e. cc))
       (column-set l words p y has l.nodes (λ m. Volatile m 0) n whole lt refl (λ m lt. (lt, omega arith)) (λ m lt e. ap node_at e))
       (volatile_kept l words p y has 2 (omega arith) (λ m e. let no_way = ap volatile_at e in omega arith))
@@ -199,7 +188,7 @@ module _ (r : RowTerms) (ghosts : Ghosts) (words : List ℕ) where
       let p : Location = Cached (line_word 0 j) in
       let has : HasLocation l p = (omega arith, omega arith, omega arith) in
       beside r ghosts words (stored p 0) f.status f.stamp (set_at f.line.state j 0)
-      (cached_leaves l words p 0 has (λ leaf o e. cc)) (durable_leaves l words p 0 has (λ leaf o e. cc))
+      (layer_words_stay l words p 0 has refl)
       (rest_kept l words p 0 has (λ m o e. cc) (λ i o some e. let same : o ≡ 0 = ap offset_at e in omega arith) (λ i o e. cc))
       (volatile_kept l words p 0 has 0 (omega arith) (λ m e. cc)) (volatile_kept l words p 0 has 2 (omega arith) (λ m e. cc))
       (column-set l words p 0 has (line_count l) (λ i. Cached (line_word 0 i)) j whole lt refl (λ i lt'. (omega arith, omega arith, omega arith))

@@ -8,16 +8,21 @@ use Rattle.pm_words.specs.Codes.{merge_kind}
 use Rattle.pm_words.specs.declared.layout.Layout.{Layout}
 use Rattle.pm_words.specs.declared.action.Action.{Action}
 use Rattle.pm_words.specs.declared.action.Action.TheVariants.{Load}
-use Rattle.pm_words.specs.Locations.{Location, Node, Cached, Durable, Volatile, Updater, address_of, leaf_count}
+use Rattle.pm_words.specs.Locations.{Location, Node, Cached, Durable, Volatile, Updater, address_of}
 use Rattle.pm_words.specs.Rows.{IsRow, acted, got}
 use Rattle.version_lock.specs.Versions.{is_free_word, is_worn_word}
-use Rattle.search_layer.specs.Layers.{Layer, AreSame}
-use Rattle.search_layer.specs.Keys.{IsKey, key_of, key_number}
-use Rattle.search_layer.specs.Leaves.{LayerWords, leaves_in, layer_in, layer_of, node_of, IsLayerRow, IsInOrder, AreEven}
-use Rattle.search_layer.specs.ChangeStages.{Changing, Looks, Changed, ChangeStep}
+use Rattle.layer_map.specs.Layers.{Layer, AreSame, node_of}
+use Rattle.layer_map.specs.Keys.{IsKey, key_of, key_number}
+use Rattle.search_layer.specs.Rows.{LayerWords, layer_words, AreEven}
+use Rattle.search_layer.specs.Kept.{layer_of, IsInOrder, kept, IsKept}
+use Rattle.search_layer.specs.ChangeStages.{Changing, Changed, ChangeStep}
 use Rattle.search_layer.proofs.ChangeSteps.{change_step_keeps}
-use Rattle.search_layer.proofs.CountLemmas.{few_apart, layer_leads_to_nodes}
-use Rattle.search_layer.proofs.KeyLemmas.{words_told}
+use Rattle.search_layer.proofs.CountLemmas.{kept_leads_below}
+use Rattle.search_layer.specs.Laws.{start_stage}
+use Rattle.search_layer.proofs.RowLemmas.{even_are_same}
+use Rattle.search_layer.proofs.ChangeLaw.{change_begins, change_ends}
+use Rattle.layer_map.proofs.FewLemmas.{few_apart}
+use Rattle.layer_map.proofs.KeyLemmas.{words_told}
 use Rattle.updater_law.specs.Covers.{set_at}
 use Rattle.updater_law.specs.Facts.{TurnTerms, TurnFacts}
 use Rattle.updater_law.specs.TurnStages.{TurnStage}
@@ -28,11 +33,11 @@ use Rattle.updater_law.specs.Lawful.{TurnLawful}
 use Rattle.updater_law.proofs.TurnLaw.{turn_keeps}
 use Rattle.updater_law.proofs.Crash.{keys_lead_apart}
 use Rattle.updater_row_law.specs.Columns.{RowTerms, Ghosts, line_count, line_word, line_field, node_field, volatile_field, terms_of, facts_in}
-use Rattle.updater_row_law.specs.RowStages.{RowLine, RowTarget, line_read, entry_of, are_same, word_at, aim_of, start_sight, RowStage, Resting, Between, Reads, Lands, HasTarget, Changes, Stamps, Clears, Sweeps, Gone, HasStamp, IsUnworn, Frees, Counts, after_line, after_node, after_change, turn_stage}
+use Rattle.updater_row_law.specs.RowStages.{RowLine, RowTarget, line_read, entry_of, are_same, word_at, aim_of, RowStage, Resting, Between, Reads, Lands, HasTarget, Changes, Stamps, Clears, Sweeps, Gone, HasStamp, IsUnworn, Frees, Counts, after_line, after_node, after_change, turn_stage}
 use Rattle.updater_row_law.specs.RowSteps.{lock_at, line_at, volatile_at, version_at, RowStep, takes_lock, finds_held, passes, sees, reads, has_read, walks, is_turned_back, finds, loses, decides, changes, has_changed, stamps, empties, passes_node, sees_gone, passes_stamp, sees_stamp, passes_worn, sees_unworn, unstamps, frees, counts, leaves_lock}
 use Rattle.updater_row_law.specs.RowLaw.{AreDurable, HasLoaded, IsTargetFor, SureRow, RowLawful, RowStepKeeps}
 use Rattle.updater_row_law.proofs.RowColumns.{column-here, column_fits}
-use Rattle.updater_row_law.proofs.RowStores.{Beside, lock_stored, stamp_stored, status_stored, line_emptied, leaf_facts}
+use Rattle.updater_row_law.proofs.RowStores.{Beside, lock_stored, stamp_stored, status_stored, line_emptied, layer_facts}
 use Rattle.updater_row_law.proofs.RowChanges.{changed_row, word_within, made_here}
 
 -- with other facts
@@ -104,11 +109,11 @@ module _ (r : RowTerms) (ghosts : Ghosts) (words : List ℕ) where
 
   -- a step that changes no fact
   look : (s t : RowStage) → RowLawful r ghosts words s → SureRow r ghosts words t → TurnStep c f (turn_stage s) f (turn_stage t) → RowLawful r ghosts words t
-  look s t is sure step = record { leaves = is.leaves; sure = sure; law = turn_keeps c f f (turn_stage s) (turn_stage t) is.law step }
+  look s t is sure step = record { order = is.order; sure = sure; law = turn_keeps c f f (turn_stage s) (turn_stage t) is.law step }
 
   -- one of which the law of turns sees nothing
   still : (s t : RowStage) → RowLawful r ghosts words s → SureRow r ghosts words t → turn_stage s ≡ turn_stage t → RowLawful r ghosts words t
-  still s t is sure same = record { leaves = is.leaves; sure = sure; law = subst (λ (g : TurnStage). TurnLawful c f g) same is.law }
+  still s t is sure same = record { order = is.order; sure = sure; law = subst (λ (g : TurnStage). TurnLawful c f g) same is.law }
 
   line_told : (j o x : ℕ) → j < line_count l → x ≡ got l words (Load (line_at l j o)) → line_field l words Cached o j ≡ x
   line_told j o x lt told = column-here l words (line_count l) (λ i. Cached (line_word o i)) j lt ∙ sym told
@@ -132,13 +137,13 @@ node_done r ghosts words n is = elim (nat_lt (n + 1) r.layout.nodes) as (λ b. n
   | false ↦ λ e. let past = ltb-false (n + 1) r.layout.nodes e in look r ghosts words (Sweeps (suc n)) (Counts 0 true) is is.sure (steps.starts_count (suc n) (omega arith))
 ] refl
 
--- a store beside the leaves
+-- a store beside the layer
 by_store : (r : RowTerms) (ghosts : Ghosts) (words words' : List ℕ) (after : TurnFacts) → Beside r ghosts words words' after → (s t : RowStage) → IsInOrder r.layout words → AreDurable r words
     → (AreDurable r words' → SureRow r ghosts words' t) → TurnLawful (terms_of r) after (turn_stage t) → RowLawful r ghosts words' t
-by_store r ghosts words words' after same s t leaves even sure law = record {
-  leaves = subst (λ (w : LayerWords). IsLayerRow (leaf_count r.layout) r.layout.nodes w) (sym same.cached) leaves;
-  sure = sure (subst (λ (w : LayerWords). AreEven w (leaves_in r.layout words' Durable)) (sym same.cached)
-      (subst (λ (d : LayerWords). AreEven (leaves_in r.layout words Cached) d) (sym same.durable) even));
+by_store r ghosts words words' after same s t order even sure law = record {
+  order = subst (λ (w : LayerWords). IsKept r.layout w) (sym same.same.cached) order;
+  sure = sure (subst (λ (w : LayerWords). AreEven w (layer_words r.layout words' Durable)) (sym same.same.cached)
+      (subst (λ (d : LayerWords). AreEven (layer_words r.layout words Cached) d) (sym same.same.durable) even));
   law = moved_facts (terms_of r) after (facts_in r ghosts words') (turn_stage t) same.facts law;
 }
 
@@ -198,7 +203,7 @@ all_read r ghosts words row j x seen told is =
 
 -- at the second load of the version, what the list has at the anchor is known
 known : (r : RowTerms) (ghosts : Ghosts) (words : List ℕ) (row : IsRow r.layout words) (e : RowLine) (target : RowTarget) → RowLawful r ghosts words (HasTarget e target) → node_field r.layout words 0 target.node ≡ target.version
-    → RowLawful r ghosts words (Changes e (word_at e.anchor target) (Looks start_sight))
+    → RowLawful r ghosts words (Changes e (word_at e.anchor target) (start_stage r.layout (aim_of e (word_at e.anchor target))))
 known r ghosts words row e target is version =
     let l : Layout = r.layout in
     let f : TurnFacts = facts_in r ghosts words in
@@ -219,11 +224,12 @@ known r ghosts words row e target is version =
     ap (λ b. cond b (Some target.node) None) (sym tests) ∙ sym (word_leads (are_same target.low e.anchor) target.node) in
     let step = subst (λ k. TurnStep (terms_of r) f (turns.Lands (entry_of e)) f (turns.Changes (entry_of e) k)) found (steps.decides (entry_of e) target.node (promise.stands version) held sighted.within) in
     let layer : Layer = layer_of l words in
-    look r ghosts words (HasTarget e target) (Changes e word (Looks start_sight)) is (record {
+    let begun = change_begins l layer (aim_of e word) (layer_words l words Cached) (layer_words l words Durable) is.order even (λ k. refl) in
+    look r ghosts words (HasTarget e target) (Changes e word (start_stage l (aim_of e word))) is (record {
       before = layer;
-      few = few_apart l.nodes layer (layer_leads_to_nodes (leaf_count l) l.nodes (leaves_in l words Cached) is.leaves) (keys_lead_apart (terms_of r) f (turns.Lands (entry_of e)) is.law);
-      sure = (record { none_below = λ i lt. absurd (omega arith); unused = tt; used = λ none i lt. absurd (omega arith); seen = tt }, even);
-      layer = λ k. refl;
+      few = few_apart l.nodes layer (kept_leads_below l (layer_words l words Cached) is.order) (keys_lead_apart (terms_of r) f (turns.Lands (entry_of e)) is.law);
+      sure = begun.0;
+      layer = begun.1;
     }) step
 
 -- a step of the change of the layer, and its last
@@ -236,19 +242,19 @@ module _ (r : RowTerms) (ghosts : Ghosts) (words : List ℕ) (row : IsRow r.layo
   layer' = layer_of r.layout after
 
   abbrev safe' : Layer
-  safe' = layer_in (leaves_in r.layout after Durable) (leaf_count r.layout)
+  safe' = kept r.layout (layer_words r.layout after Durable)
 
   change_goes : RowLawful r ghosts after (Changes e word t)
   change_goes =
       let f : TurnFacts = facts_in r ghosts words in
       let fits = word_within r ghosts words e word is.law.sure in
-      let keeps = change_step_keeps r.layout (aim_of e word) is.sure.before words s a t row.whole is.leaves fits (λ some_word. is.sure.few) is.sure.sure is.sure.layer step in
+      let keeps = change_step_keeps r.layout (aim_of e word) is.sure.before words s a t row.whole is.order fits (λ some_word. is.sure.few) is.sure.sure is.sure.layer step in
       let changed = changed_row r words e word s t a is.sure fits keeps in
       record {
-        leaves = keeps.row;
+        order = keeps.row;
         sure = changed.changing;
         law = moved_facts (terms_of r) (record f { layer = layer'; safe_layer = safe' }) (facts_in r ghosts after) (turns.Changes (entry_of e) (node_of word))
-            (leaf_facts r ghosts words after keeps.others)
+            (layer_facts r ghosts words after keeps.others)
             (turn_keeps (terms_of r) f (record f { layer = layer'; safe_layer = safe' }) (turns.Changes (entry_of e) (node_of word)) (turns.Changes (entry_of e) (node_of word)) is.law
             (steps.changes (entry_of e) (node_of word) layer' safe' changed.differs.others changed.differs.at_key changed.durable));
       }
@@ -258,29 +264,29 @@ module _ (r : RowTerms) (ghosts : Ghosts) (words : List ℕ) (row : IsRow r.layo
   abbrev ended : List ℕ
   ended = acted r.layout words a
 
-  change_ends : RowLawful r ghosts ended (after_change e)
-  change_ends =
+  change_done : RowLawful r ghosts ended (after_change e)
+  change_done =
       let f : TurnFacts = facts_in r ghosts words in
       let layer : Layer = layer_of r.layout ended in
-      let safe : Layer = layer_in (leaves_in r.layout ended Durable) (leaf_count r.layout) in
+      let safe : Layer = kept r.layout (layer_words r.layout ended Durable) in
       let fits = word_within r ghosts words e word is.law.sure in
-      let keeps = change_step_keeps r.layout (aim_of e word) is.sure.before words s a Changed row.whole is.leaves fits (λ some_word. is.sure.few) is.sure.sure is.sure.layer step in
+      let keeps = change_step_keeps r.layout (aim_of e word) is.sure.before words s a Changed row.whole is.order fits (λ some_word. is.sure.few) is.sure.sure is.sure.layer step in
       let changed = changed_row r words e word s Changed a is.sure fits keeps in
-      let leads : layer (key_number e.anchor) ≡ node_of word = keeps.layer (key_number e.anchor) ∙ made_here is.sure.before (key_number e.anchor) (node_of word) in
-      let equal : leaves_in r.layout ended Cached ≡ leaves_in r.layout ended Durable = λ k i o. sym (keeps.sure i o) k in
-      let durable : AreSame safe layer = λ k. ap (λ (w : LayerWords). layer_in w (leaf_count r.layout) k) (sym equal) in
-      let path = leaf_facts r ghosts words ended keeps.others in
+      let ends = change_ends r.layout is.sure.before (aim_of e word) (layer_words r.layout ended Cached) (layer_words r.layout ended Durable) keeps.sure keeps.layer in
+      let leads : layer (key_number e.anchor) ≡ node_of word = ends.1 (key_number e.anchor) ∙ made_here is.sure.before (key_number e.anchor) (node_of word) in
+      let durable : AreSame safe layer = λ k. ap (λ (w : LayerWords). kept r.layout w k) (even_are_same (layer_words r.layout ended Cached) (layer_words r.layout ended Durable) ends.0) in
+      let path = layer_facts r ghosts words ended keeps.others in
       elim (e.kind == merge_kind) as (λ b. (e.kind == merge_kind) ≡ b → RowLawful r ghosts ended (cond b (Stamps e) (Clears e.line))) [
         | true ↦ λ merge. record {
-          leaves = keeps.row;
-          sure = keeps.sure;
+          order = keeps.row;
+          sure = ends.0;
           law = moved_facts (terms_of r) (record f { layer = layer; safe_layer = safe }) (facts_in r ghosts ended) (turns.Stamps (entry_of e)) path
               (turn_keeps (terms_of r) f (record f { layer = layer; safe_layer = safe }) (turns.Changes (entry_of e) (node_of word)) (turns.Stamps (entry_of e)) is.law
               (steps.has_changed_merge (entry_of e) (node_of word) layer safe changed.differs.others leads durable (eqb-true e.kind merge_kind merge)));
         }
         | false ↦ λ split. record {
-          leaves = keeps.row;
-          sure = keeps.sure;
+          order = keeps.row;
+          sure = ends.0;
           law = moved_facts (terms_of r) (record f { layer = layer; safe_layer = safe }) (facts_in r ghosts ended) (turns.Clears e.line) path
               (turn_keeps (terms_of r) f (record f { layer = layer; safe_layer = safe }) (turns.Changes (entry_of e) (node_of word)) (turns.Clears e.line) is.law
               (steps.has_changed_split (entry_of e) (node_of word) layer safe changed.differs.others leads durable (eqb-false e.kind merge_kind split)));
@@ -314,22 +320,22 @@ module _ (r : RowTerms) (ghosts : Ghosts) (words : List ℕ) (row : IsRow r.layo
   put_at p y = slice_set words (address_of r.layout p) y
 
   lock_keeps : (y : ℕ) (s t : RowStage) → RowLawful r ghosts words s → AreDurable r words → (AreDurable r (put_at Updater y) → SureRow r ghosts (put_at Updater y) t) → TurnLawful k g (turn_stage t) → RowLawful r ghosts (put_at Updater y) t
-  lock_keeps y s t is even sure law = by_store r ghosts words (put_at Updater y) g (lock_stored r ghosts words y) s t is.leaves even sure law
+  lock_keeps y s t is even sure law = by_store r ghosts words (put_at Updater y) g (lock_stored r ghosts words y) s t is.order even sure law
 
   stamp_keeps : (e : RowLine) → e.node < r.layout.nodes → RowLawful r ghosts words (Stamps e) → RowLawful r ghosts (put_at (Volatile e.node 2) r.stamp) (Clears e.line)
-  stamp_keeps e lt is = by_store r ghosts words (put_at (Volatile e.node 2) r.stamp) (record g { stamp = set_at g.stamp e.node r.stamp }) (stamp_stored r ghosts words e.node r.stamp row.whole lt) (Stamps e) (Clears e.line) is.leaves is.sure (λ even. even)
+  stamp_keeps e lt is = by_store r ghosts words (put_at (Volatile e.node 2) r.stamp) (record g { stamp = set_at g.stamp e.node r.stamp }) (stamp_stored r ghosts words e.node r.stamp row.whole lt) (Stamps e) (Clears e.line) is.order is.sure (λ even. even)
       (turn_keeps k g (record g { stamp = set_at g.stamp e.node r.stamp }) (turns.Stamps (entry_of e)) (turns.Clears e.line) is.law (steps.stamps (entry_of e)))
 
   empty_keeps : (j : ℕ) → j < line_count r.layout → RowLawful r ghosts words (Clears j) → RowLawful r ghosts (put_at (Cached (line_word 0 j)) 0) (Between (suc j))
-  empty_keeps j lt is = by_store r ghosts words (put_at (Cached (line_word 0 j)) 0) (emptied g j) (line_emptied r ghosts words j row.whole lt) (Clears j) (Between (suc j)) is.leaves is.sure (λ even. even)
+  empty_keeps j lt is = by_store r ghosts words (put_at (Cached (line_word 0 j)) 0) (emptied g j) (line_emptied r ghosts words j row.whole lt) (Clears j) (Between (suc j)) is.order is.sure (λ even. even)
       (turn_keeps k g (emptied g j) (turns.Clears j) (turns.Between (suc j)) is.law (steps.empties j))
 
   unstamp_keeps : (n : ℕ) → n < r.layout.nodes → RowLawful r ghosts words (IsUnworn n) → RowLawful r ghosts (put_at (Volatile n 2) 0) (Frees n)
-  unstamp_keeps n lt is = by_store r ghosts words (put_at (Volatile n 2) 0) (record g { stamp = set_at g.stamp n 0 }) (stamp_stored r ghosts words n 0 row.whole lt) (IsUnworn n) (Frees n) is.leaves is.sure (λ even. even)
+  unstamp_keeps n lt is = by_store r ghosts words (put_at (Volatile n 2) 0) (record g { stamp = set_at g.stamp n 0 }) (stamp_stored r ghosts words n 0 row.whole lt) (IsUnworn n) (Frees n) is.order is.sure (λ even. even)
       (turn_keeps k g (record g { stamp = set_at g.stamp n 0 }) (turns.IsUnworn n) (turns.Frees n) is.law (steps.unstamps n))
 
   free_keeps : (n : ℕ) → n < r.layout.nodes → RowLawful r ghosts words (Frees n) → RowLawful r ghosts (put_at (Volatile n 0) 0) (Sweeps (suc n))
-  free_keeps n lt is = by_store r ghosts words (put_at (Volatile n 0) 0) (record g { status = set_at g.status n 0 }) (status_stored r ghosts words n 0 row.whole lt) (Frees n) (Sweeps (suc n)) is.leaves is.sure (λ even. even)
+  free_keeps n lt is = by_store r ghosts words (put_at (Volatile n 0) 0) (record g { status = set_at g.status n 0 }) (status_stored r ghosts words n 0 row.whole lt) (Frees n) (Sweeps (suc n)) is.order is.sure (λ even. even)
       (turn_keeps k g (record g { status = set_at g.status n 0 }) (turns.Frees n) (turns.Sweeps (suc n)) is.law (steps.frees n))
 
 kind_keeps : (r : RowTerms) (ghosts : Ghosts) (words : List ℕ) (row : IsRow r.layout words) {s : RowStage} {a : Action} {x : ℕ} {t : RowStage} → RowStep r s a x t → x ≡ got r.layout words a → RowLawful r ghosts words s
@@ -369,12 +375,12 @@ kind_keeps r ghosts words row (loses {e = e} {target = target} moved) told is wa
     by_load r ghosts words (version_at r.layout target.node) (after_line r e.line)
     (line_done r ghosts words e.line (look r ghosts words (HasTarget e target) (Between (suc e.line)) is is.sure.3 (steps.leaves_line (entry_of e))))
 kind_keeps r ghosts words row (decides {e = e} {target = target} {x = x} same) told is walked =
-    by_load r ghosts words (version_at r.layout target.node) (Changes e (word_at e.anchor target) (Looks start_sight))
+    by_load r ghosts words (version_at r.layout target.node) (Changes e (word_at e.anchor target) (start_stage r.layout (aim_of e (word_at e.anchor target))))
     (known r ghosts words row e target is (version_told r ghosts words target.node x is.sure.1.within told ∙ same))
 kind_keeps r ghosts words row (changes {e = e} {word = word} {x = x} {s = s} {t = t} {a = a} step) told is walked =
     change_goes r ghosts words row e word s t a is (subst (λ y. ChangeStep r.layout (aim_of e word) s a y t) told step)
 kind_keeps r ghosts words row (has_changed {e = e} {word = word} {x = x} {s = s} {a = a} step) told is walked =
-    change_ends r ghosts words row e word s a is (subst (λ y. ChangeStep r.layout (aim_of e word) s a y Changed) told step)
+    change_done r ghosts words row e word s a is (subst (λ y. ChangeStep r.layout (aim_of e word) s a y Changed) told step)
 kind_keeps r ghosts words row (stamps {e = e} here) told is walked = stamp_keeps r ghosts words row e here is
 kind_keeps r ghosts words row (empties {j = j} here) told is walked =
     line_done r ghosts (slice_set words (line_at r.layout j 0) 0) j (empty_keeps r ghosts words row j here is)

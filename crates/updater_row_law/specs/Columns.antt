@@ -1,10 +1,11 @@
 -- What a turn and the cover of the layer rest on, read off a row of words.
 use Rattle.std.specs.Prelude.{ℕ, ◌*◌, ◌/◌, ◌%◌, not, nat_lt, Bool, if◌then◌else◌, List}
 use Rattle.pm_words.specs.declared.layout.Layout.{Layout}
-use Rattle.pm_words.specs.Locations.{Word, Location, Node, Line, Cached, Durable, Volatile, leaf_count, at}
+use Rattle.pm_words.specs.Locations.{Word, Location, Node, Line, Cached, Durable, Volatile, at}
 use Rattle.version_lock.specs.Versions.{is_free_word, is_worn_word}
-use Rattle.search_layer.specs.Keys.{key_of}
-use Rattle.search_layer.specs.Leaves.{leaves_in, layer_in}
+use Rattle.layer_map.specs.Keys.{key_of}
+use Rattle.search_layer.specs.Rows.{layer_words}
+use Rattle.search_layer.specs.Kept.{kept}
 use Rattle.updater_law.specs.Covers.{Lines}
 use Rattle.updater_law.specs.Facts.{TurnTerms, TurnFacts}
 
@@ -70,6 +71,6 @@ facts_in r ghosts words = record {
   worn = λ n. is_worn_word (node_field r.layout words 0 n) r.generation;
   line = lines_in r.layout words Cached;
   safe_line = lines_in r.layout words Durable;
-  layer = layer_in (leaves_in r.layout words Cached) (leaf_count r.layout);
-  safe_layer = layer_in (leaves_in r.layout words Durable) (leaf_count r.layout);
+  layer = kept r.layout (layer_words r.layout words Cached);
+  safe_layer = kept r.layout (layer_words r.layout words Durable);
 }

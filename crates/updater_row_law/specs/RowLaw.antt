@@ -1,13 +1,15 @@
 -- What holds of a row of words and of a turn between its steps, and that its steps keep it.
 use Rattle.std.specs.Prelude.{◌≡◌, ℕ, ◌+◌, ◌^◌, ◌<◌, true, List, length, slice_index}
 use Rattle.pm_words.specs.declared.action.Action.{Action}
-use Rattle.pm_words.specs.Locations.{Cached, Durable, leaf_count, image_words}
+use Rattle.pm_words.specs.Locations.{Cached, Durable, image_words}
 use Rattle.pm_words.specs.Rows.{IsRow, CanAct, acted, got, evicted}
 use Rattle.version_lock.specs.Versions.{is_free_word}
-use Rattle.search_layer.specs.Layers.{Layer, HasFew}
-use Rattle.search_layer.specs.Keys.{IsKey, key_number}
-use Rattle.search_layer.specs.Leaves.{leaves_in, layer_in, layer_of, IsLayerRow, IsInOrder, AreEven}
-use Rattle.search_layer.specs.ChangeStages.{Changing, SureChanging, LayerAt}
+use Rattle.layer_map.specs.Layers.{Layer, HasFew}
+use Rattle.layer_map.specs.Keys.{IsKey, key_number}
+use Rattle.search_layer.specs.Rows.{layer_words, AreEven}
+use Rattle.search_layer.specs.Kept.{layer_of, IsInOrder, kept, IsKept}
+use Rattle.search_layer.specs.ChangeStages.{Changing, LayerAt}
+use Rattle.search_layer.specs.Laws.{SureIn}
 use Rattle.updater_law.specs.Covered.{IsTarget}
 use Rattle.updater_law.specs.Facts.{IsListed}
 use Rattle.updater_law.specs.Lawful.{TurnLawful}
@@ -15,9 +17,9 @@ use Rattle.updater_row_law.specs.Columns.{RowTerms, Ghosts, line_field, node_fie
 use Rattle.updater_row_law.specs.RowStages.{RowLine, RowTarget, aim_of, RowStage, Reads, Lands, HasTarget, Changes, turn_stage}
 use Rattle.updater_row_law.specs.RowSteps.{RowStep}
 
--- all leaves are durable
+-- all words of the layer are durable
 abbrev pub AreDurable : RowTerms → List ℕ → Type 0
-AreDurable r words = AreEven (leaves_in r.layout words Cached) (leaves_in r.layout words Durable)
+AreDurable r words = AreEven (layer_words r.layout words Cached) (layer_words r.layout words Durable)
 
 -- the first so many words of the line are these
 pub record HasLoaded (r : RowTerms) (words : List ℕ) (j offset : ℕ) (seen : List ℕ) : Type 0 where
@@ -43,8 +45,7 @@ pub record IsSighted (r : RowTerms) (target : RowTarget) : Type 0 where
 pub record IsChanging (r : RowTerms) (words : List ℕ) (e : RowLine) (word : ℕ) (s : Changing) : Type 0 where
   pub before : Layer
   pub few : HasFew r.layout.nodes before
-  pub sure : SureChanging (leaf_count r.layout) r.layout.nodes (aim_of e word) before s
-      (leaves_in r.layout words Cached) (leaves_in r.layout words Durable)
+  pub sure : SureIn r.layout before (aim_of e word) s words
   pub layer : LayerAt (aim_of e word) before s (layer_of r.layout words)
 
 -- what a stage knows of the row, beyond what the law of turns says
@@ -56,9 +57,9 @@ SureRow r ghosts words (HasTarget e target) =
 SureRow r ghosts words (Changes e word s) = IsChanging r words e word s
 SureRow r ghosts words _ = AreDurable r words
 
--- the leaves are in order, the stage is right, and what is read off the row is lawful
+-- the layer is in order, the stage is right, and what is read off the row is lawful
 pub record RowLawful (r : RowTerms) (ghosts : Ghosts) (words : List ℕ) (s : RowStage) : Type 0 where
-  pub leaves : IsInOrder r.layout words
+  pub order : IsInOrder r.layout words
   pub sure : SureRow r ghosts words s
   pub law : TurnLawful (terms_of r) (facts_in r ghosts words) (turn_stage s)
 
@@ -82,12 +83,12 @@ EvictionKeepsTurn = (r : RowTerms) (ghosts : Ghosts) (words : List ℕ) (s : Row
     IsRow r.layout words → word < image_words r.layout → RowLawful r ghosts words s →
     RowLawful r ghosts (evicted r.layout words word) s
 
--- The durable leaves are in order, and their keys are at most as many as there are nodes.
-pub record AreSafeLeaves (r : RowTerms) (words : List ℕ) : Type 0 where
-  pub order : IsLayerRow (leaf_count r.layout) r.layout.nodes (leaves_in r.layout words Durable)
-  pub few : HasFew r.layout.nodes (layer_in (leaves_in r.layout words Durable) (leaf_count r.layout))
+-- The durable words of the layer are in order, and it has at most as many keys as there are nodes.
+pub record IsSafeLayer (r : RowTerms) (words : List ℕ) : Type 0 where
+  pub order : IsKept r.layout (layer_words r.layout words Durable)
+  pub few : HasFew r.layout.nodes (kept r.layout (layer_words r.layout words Durable))
 
 -- So they are at every moment of a turn.
-abbrev pub LeavesAreSafe : Type 0
-LeavesAreSafe = (r : RowTerms) (ghosts : Ghosts) (words : List ℕ) (s : RowStage) → RowLawful r ghosts words s →
-    AreSafeLeaves r words
+abbrev pub LayerIsSafe : Type 0
+LayerIsSafe = (r : RowTerms) (ghosts : Ghosts) (words : List ℕ) (s : RowStage) → RowLawful r ghosts words s →
+    IsSafeLayer r words

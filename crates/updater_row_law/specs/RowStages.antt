@@ -1,10 +1,10 @@
 -- Where a turn on a row of words is, and the words that it has loaded.
 use Rattle.std.specs.Prelude.{ℕ, zero, suc, ◌+◌, ◌==◌, ◌&&◌, nat_lt, Bool, true, if◌then◌else◌, List, [], ◌∷◌}
-use Rattle.std.specs.Prelude.{slice_index, None}
+use Rattle.std.specs.Prelude.{slice_index}
 use Rattle.pm_words.specs.Codes.{merge_kind}
-use Rattle.search_layer.specs.Keys.{key_number}
-use Rattle.search_layer.specs.Leaves.{node_of}
-use Rattle.search_layer.specs.ChangeStages.{Sight, Aim, Changing}
+use Rattle.layer_map.specs.Keys.{key_number}
+use Rattle.layer_map.specs.Layers.{node_of}
+use Rattle.search_layer.specs.ChangeStages.{Aim, Changing}
 use Rattle.updater_law.specs.TurnStages.{ReadyLine, TurnStage}
 use Rattle.updater_law.specs.TurnStages as turns
 use Rattle.updater_row_law.specs.Columns.{RowTerms, line_count}
@@ -46,9 +46,6 @@ word_at anchor target = if are_same target.low anchor then target.node + 1 else 
 
 abbrev pub aim_of : RowLine → ℕ → Aim
 aim_of e word = record { key = e.anchor; word = word }
-
-abbrev pub start_sight : Sight
-start_sight = record { leaf = 0; unused = None; seen = [] }
 
 pub data RowStage : Type 0 where
   -- it hasn't the updater lock

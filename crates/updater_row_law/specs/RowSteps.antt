@@ -8,9 +8,10 @@ use Rattle.pm_words.specs.declared.layout.Layout.{Layout}
 use Rattle.pm_words.specs.Locations.{Cached, Volatile, Updater, Node, address_of, row_words}
 use Rattle.pm_words.specs.Offsets.{version_offset}
 use Rattle.version_lock.specs.Versions.{is_free_word, is_worn_word}
-use Rattle.search_layer.specs.ChangeStages.{Changing, Looks, Changed, ChangeStep}
+use Rattle.search_layer.specs.ChangeStages.{Changing, Changed, ChangeStep}
+use Rattle.search_layer.specs.Laws.{start_stage}
 use Rattle.updater_row_law.specs.Columns.{RowTerms, line_count, line_word}
-use Rattle.updater_row_law.specs.RowStages.{RowLine, RowTarget, line_read, word_at, aim_of, start_sight, RowStage, Resting}
+use Rattle.updater_row_law.specs.RowStages.{RowLine, RowTarget, line_read, word_at, aim_of, RowStage, Resting}
 use Rattle.updater_row_law.specs.RowStages.{Between, Reads, Lands, HasTarget, Changes, Stamps, Clears, Sweeps, Gone, HasStamp}
 use Rattle.updater_row_law.specs.RowStages.{IsUnworn, Frees, Counts, after_line, after_node, after_change}
 
@@ -56,7 +57,7 @@ pub data RowStep (r : RowTerms) : RowStage → Action → ℕ → RowStage → T
       RowStep r (HasTarget e target) (Load (version_at r.layout target.node)) x (after_line r e.line)
   decides : {e : RowLine} {target : RowTarget} {x : ℕ} → x ≡ target.version →
       RowStep r (HasTarget e target) (Load (version_at r.layout target.node)) x
-      (Changes e (word_at e.anchor target) (Looks start_sight))
+      (Changes e (word_at e.anchor target) (start_stage r.layout (aim_of e (word_at e.anchor target))))
   -- a step of the change of the layer, and its last
   changes : {e : RowLine} {word x : ℕ} {s t : Changing} {a : Action} → ChangeStep r.layout (aim_of e word) s a x t →
       RowStep r (Changes e word s) a x (Changes e word t)

@@ -3,7 +3,7 @@ use Rattle.std.specs.Prelude.{◌≡◌, ℕ}
 use Rattle.pm_words.specs.declared.action.Action.{Action}
 use Rattle.call_stages.specs.Stages.{Sight}
 use Rattle.call_stages.specs.Watches.{Watching, Watches, Watch, IsSeenAs}
-use Rattle.search_layer.specs.Keys.{key_number}
+use Rattle.layer_map.specs.Keys.{key_number}
 use Rattle.updater_row_law.specs.Columns.{RowTerms}
 use Rattle.updater_row_law.specs.RowStages.{RowLine, RowTarget, RowStage, HasTarget}
 use Rattle.updater_row_law.specs.RowSteps.{RowStep}

@@ -1,6 +1,7 @@
 -- What a node's version word says: bit 0 is its lock, bits 1 to 39 count the times that it was freed,
 -- and bits 40 to 63 are the generation, the run of the index that wrote it.
-use Rattle.std.specs.Prelude.{◌≡◌, ℕ, ◌+◌, ◌*◌, ◌/◌, ◌%◌, ◌<◌, ◌≤◌, ◌⊎◌, ◌==◌, ◌&&◌, ◌||◌, ◌↔◌, ◌^◌, if◌then◌else◌, nat_lt}
+use Rattle.std.specs.Prelude.{◌≡◌, ℕ, ◌+◌, ◌*◌, ◌/◌, ◌%◌, ◌<◌, ◌≤◌, ◌⊎◌, ◌==◌, ◌&&◌, ◌||◌, ◌↔◌, ◌^◌, if◌then◌else◌}
+use Rattle.std.specs.Prelude.{nat_lt}
 use Rattle.std.specs.Prelude.{Bool, IsTrue}
 use Rattle.version_lock.specs.declared.TheConstants.{GENERATION_UNIT, GENERATION_LIMIT, LAST_COUNT}
 

@@ -1,11 +1,11 @@
-use Rattle.image_layer_rules.proofs.LeafLemmas.{crash_keeps_leaves, start_caches_leaves, crash_keeps_lines, start_caches_lines}
+use Rattle.image_layer_rules.proofs.LeafLemmas.{crash_keeps_layer, start_caches_layer, crash_keeps_lines, start_caches_lines}
 use Rattle.image_layer_rules.proofs.laws.words_law.Goals as goal
 
-pub returns-clause-crash_leaves : goal.returns-clause-crash_leaves
-returns-clause-crash_leaves c = crash_keeps_leaves
+pub returns-clause-crash_layer : goal.returns-clause-crash_layer
+returns-clause-crash_layer c = crash_keeps_layer
 
-pub returns-clause-start_leaves : goal.returns-clause-start_leaves
-returns-clause-start_leaves c = start_caches_leaves
+pub returns-clause-start_layer : goal.returns-clause-start_layer
+returns-clause-start_layer c = start_caches_layer
 
 pub returns-clause-crash_lines : goal.returns-clause-crash_lines
 returns-clause-crash_lines c = crash_keeps_lines

@@ -1,5 +1,5 @@
 use Rattle.std.proofs.Common.{◌≡◌, ◌≢◌}
-use Rattle.search_layer.specs.Keys.{key_of, key_number}
+use Rattle.layer_map.specs.Keys.{key_of, key_number}
 use Rattle.image_rules.specs.Rules.{line_spot}
 use Rattle.image_rules.proofs.LowestLemmas.{NoneBelow}
 use Rattle.image_layer_rules.proofs.line.is_open_for.Given as goal

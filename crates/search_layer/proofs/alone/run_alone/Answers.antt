@@ -4,8 +4,9 @@ use Rattle.pm_words.specs.declared.machine.Turn.TheVariants.{Go, Done}
 use Rattle.pm_words.specs.Locations.{leaf_count}
 use Rattle.pm_words.specs.Rows.{got, acted}
 use Rattle.search_layer.specs.declared.change.Change.{Change}
-use Rattle.search_layer.specs.Keys.{key_number}
-use Rattle.search_layer.specs.Leaves.{node_of, KeepsOthers}
+use Rattle.layer_map.specs.Keys.{key_number}
+use Rattle.search_layer.specs.Rows.{KeepsOthers}
+use Rattle.layer_map.specs.Layers.{node_of}
 use Rattle.search_layer.specs.ChangeSteps.{IsChange, change_starts, change_asks, change_turned, change_left}
 use Rattle.search_layer.specs.ChangeStages.{Aim}
 use Rattle.search_layer.specs.Laws.{IsChanged}

@@ -1,6 +1,6 @@
 use Rattle.std.proofs.Common.{◌≡◌, ◌≤◌, ◌+◌, ◌*◌}
 use Rattle.pm_words.specs.Locations.{leaf_count}
-use Rattle.search_layer.specs.Leaves.{KeepsOthers}
+use Rattle.search_layer.specs.Rows.{KeepsOthers}
 use Rattle.search_layer.specs.ChangeSteps.{change_left}
 use Rattle.search_layer.proofs.ChangeAlone.{Lone}
 use Rattle.search_layer.proofs.alone.run_alone.Given as goal

@@ -1,5 +1,5 @@
 use Rattle.std.proofs.Common.{rules, ◌∙◌}
-use Rattle.search_layer.proofs.KeyLemmas.{key_order}
+use Rattle.layer_map.proofs.KeyLemmas.{key_order}
 use Rattle.search_layer.proofs.key.is_at_most.Goals as goal
 
 pub returns : goal.returns

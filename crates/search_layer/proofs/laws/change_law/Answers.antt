@@ -1,4 +1,3 @@
-use Rattle.search_layer.proofs.LeafRows.{eviction_mixes}
 use Rattle.search_layer.proofs.ChangeActions.{change_can_act}
 use Rattle.search_layer.proofs.ChangeLaw.{change_is_backed, change_evicts, unset_keeps_zero}
 use Rattle.search_layer.proofs.ChangeSteps.{change_step_keeps}
@@ -10,6 +9,5 @@ returns c = record {
   keeps = change_step_keeps;
   backed = change_is_backed;
   evicts = change_evicts;
-  mixes = eviction_mixes;
   zero = unset_keeps_zero;
 }

@@ -3,8 +3,8 @@ use Rattle.pm_words.specs.declared.layout.Layout.{Layout}
 use Rattle.pm_words.specs.Layouts.{IsLayout}
 use Rattle.pm_words.specs.Images.{Row, fresh_words}
 use Rattle.pm_words.specs.Rows.{row_of}
-use Rattle.search_layer.specs.Layers.{HasFew}
-use Rattle.search_layer.specs.Leaves.{layer_of}
+use Rattle.layer_map.specs.Layers.{HasFew}
+use Rattle.search_layer.specs.Kept.{layer_of}
 use Rattle.search_layer.specs.Laws.{IsAtRest}
 use Rattle.search_layer.proofs.Fresh.{fresh_is_at_rest}
 use Rattle.tests_nodes.proofs.layer.floors_of_calls.Goals as goal

@@ -1,5 +1,5 @@
 use Rattle.std.proofs.Common.{ap, sym, ◌∙◌}
-use Rattle.search_layer.specs.Keys.{key_number}
+use Rattle.layer_map.specs.Keys.{key_number}
 use Rattle.tree_law.specs.Words.{reference_of}
 use Rattle.tree_rules.proofs.CountLemmas.{root_right}
 use Rattle.tree_rules.proofs.CoverLemmas.{led_from, node_told, none_told}

@@ -1,5 +1,5 @@
 use Rattle.std.proofs.Common.{◌≡◌, ◌≢◌, ◌+◌, ◌-◌, ◌<◌, ◌≤◌, slice_index, sym, subst, ap, ◌∙◌, arith}
-use Rattle.search_layer.specs.Keys.{key_number}
+use Rattle.layer_map.specs.Keys.{key_number}
 use Rattle.tree_law.specs.Trees.{Cell, depth_of, byte_at}
 use Rattle.tree_law.specs.Words.{reference_of}
 use Rattle.tree_floor.proofs.FloorExact.{reference_some}

@@ -1,6 +1,6 @@
 use Rattle.std.proofs.Common.{◌≡◌, ◌-◌, ap, sym, ◌∙◌}
 use Rattle.std.proofs.lemmas.Bool.{false≢true}
-use Rattle.search_layer.specs.Keys.{key_number}
+use Rattle.layer_map.specs.Keys.{key_number}
 use Rattle.tree_rules.specs.Faults.{image_tree}
 use Rattle.tree_rules.specs.Covers.{IsListedWith}
 use Rattle.tree_rules.proofs.CoverLaw.{leaf_number}

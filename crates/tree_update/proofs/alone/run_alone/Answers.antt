@@ -2,8 +2,8 @@ use Rattle.std.proofs.Common.{◌≡◌, ◌<◌, ◌≤◌, ◌+◌, ℕ, List,
 use Rattle.pm_words.specs.declared.layout.Layout.{Layout}
 use Rattle.pm_words.specs.declared.machine.Turn.TheVariants.{Go, Done}
 use Rattle.pm_words.specs.Rows.{CanAct, got, acted}
-use Rattle.search_layer.specs.Leaves.{node_of}
-use Rattle.search_layer.proofs.Acting.{told_by, words_by, layout_by}
+use Rattle.layer_map.specs.Layers.{node_of}
+use Rattle.tree_update.proofs.Doing.{told_by, words_by, layout_by}
 use Rattle.tree_floor.specs.Keys.{number_in}
 use Rattle.tree_update.specs.Changes.{change_asks, change_turned, change_left, change_most}
 use Rattle.tree_update.specs.Kinds.{KeepsOthers}

@@ -1,6 +1,7 @@
 -- Keys of the layer: three words, which are zero or those of a name, and their number.
-use Rattle.std.specs.Prelude.{◌≡◌, ℕ, ◌+◌, ◌*◌, ◌^◌, ◌<◌, List, length, slice_index}
-use Rattle.std.specs.Ordering.{nat_cmp}
+use Rattle.std.specs.Prelude.{◌≡◌, ℕ, ◌+◌, ◌*◌, ◌^◌, ◌<◌, nat_le, List, length, slice_index}
+use Rattle.std.specs.Ordering.{nat_cmp, partial_le, as_partial_cmp}
+use Rattle.std.specs.Cmp.Lexicographic.{slice_partial_cmp}
 use Rattle.cat_key.specs.Names.{IsName, name_cmp, words_of}
 
 -- the number of three words, the first word first: its order is the order of keys
@@ -28,3 +29,8 @@ ZeroIsLeast = (name : List ℕ) → IsName name → 0 < key_number (words_of nam
 abbrev pub NumbersTellKeys : Type 0
 NumbersTellKeys = (a b : List ℕ) → IsKey a → IsKey b → key_number a ≡ key_number b → (k : ℕ) → k < 3 →
     slice_index a k ≡ slice_index b k
+
+-- keys compare word by word, the first word first, as their numbers do
+abbrev pub WordsKeepOrder : Type 0
+WordsKeepOrder = (low high : List ℕ) → IsKey low → IsKey high →
+    partial_le (slice_partial_cmp (as_partial_cmp nat_cmp)) low high ≡ nat_le (key_number low) (key_number high)

@@ -10,7 +10,7 @@ use Rattle.cat_key.specs.declared.TheConstants.{WORDS}
 use Rattle.cat_key.proofs.Digits.{IsByte, number_nil, word_is_number, nat_cmp-less, nat_cmp-same, nat_cmp-more}
 use Rattle.cat_key.proofs.Packing.{byte_of_name, word_of_below}
 use Rattle.cat_key.proofs.WordOrder.{words_keep_text_order}
-use Rattle.search_layer.specs.Keys.{key_of, key_number, IsKey, NumbersKeepOrder, ZeroIsLeast, NumbersTellKeys}
+use Rattle.layer_map.specs.Keys.{key_of, key_number, NumbersKeepOrder, ZeroIsLeast, NumbersTellKeys, WordsKeepOrder}
 
 pub record SameWords (a b c d e f : ℕ) : Type 0 where
   pub first : a ≡ d
@@ -132,7 +132,7 @@ le_test x y = elim (cases_lt y x) [
   ]
 ]
 
-pub key_order : (low high : List ℕ) → IsKey low → IsKey high → partial_le (slice_partial_cmp (as_partial_cmp nat_cmp)) low high ≡ nat_le (key_number low) (key_number high)
+pub key_order : WordsKeepOrder
 key_order low high is_low is_high =
     ap₂ (λ (v w : List ℕ). partial_le (slice_partial_cmp (as_partial_cmp nat_cmp)) v w) (three low is_low.whole) (three high is_high.whole)
     ∙ ap (is_some_and is_le) (lists_agrees {R = nat_cmp} {C = as_partial_cmp nat_cmp} (λ x y. refl) (slice_index low 0 ∷ slice_index low 1 ∷ slice_index low 2 ∷ []) (slice_index high 0 ∷ slice_index high 1 ∷ slice_index high 2 ∷ []))
