@@ -10,7 +10,6 @@ use Rattle.image_recovery_law.specs.Stages.{Stage, Begins, Trims, nodes_of}
 use Rattle.image_recovery_law.specs.Moves as law
 use Rattle.image_recovery.specs.declared.moves.Move.{Move}
 use Rattle.image_recovery.specs.declared.moves.Move.TheVariants.{Raise, Trim, Unset, Set, Empty}
-use Rattle.search_layer.specs.Kept.{IsKept}
 
 -- What an image says, by its columns, and the list of its nodes.
 abbrev pub columns : Row → Columns

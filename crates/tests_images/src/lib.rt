@@ -7,6 +7,8 @@ mod images;
 #[cfg(test)]
 mod layers;
 #[cfg(test)]
+mod marks;
+#[cfg(test)]
 mod pairs;
 #[cfg(test)]
 mod recoveries;

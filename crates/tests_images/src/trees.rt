@@ -38,18 +38,18 @@ const D: u64 = 0x64 << 56;
 /// Of four nodes: the list goes by node 2, whose anchor is `a`, and then by node 1, whose anchor is `b`; leaf 3 leads
 /// `a` to node 2, and leaf 1 leads `b` to node 1. The root is a cell of 4, at word 272, with these and leaf 0, which
 /// leads zero to node 0.
-const LISTED: [u64; 24] = [
+pub(crate) const LISTED: [u64; 24] = [
     18, 2, 83, A, 82, 1, 51, B, 232, A, 235, 3, 216, B, 219, 2, 8, FORM_4, 276, LEAF, 277, A_3,
     278, B_1,
 ];
 
 /// The same with a cell of 16, at word 336, of 48, at word 528, and of 256, at word 1232.
-const LISTED_16: [u64; 24] = [
+pub(crate) const LISTED_16: [u64; 24] = [
     18, 2, 83, A, 82, 1, 51, B, 232, A, 235, 3, 216, B, 219, 2, 8, FORM_16, 344, LEAF, 345, A_3,
     359, B_1,
 ];
 
-const LISTED_48: [u64; 28] = [
+pub(crate) const LISTED_48: [u64; 28] = [
     18,
     2,
     83,
@@ -80,7 +80,7 @@ const LISTED_48: [u64; 28] = [
     LEAF + 1,
 ];
 
-const LISTED_256: [u64; 24] = [
+pub(crate) const LISTED_256: [u64; 24] = [
     18,
     2,
     83,

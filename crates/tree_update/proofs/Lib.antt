@@ -1,12 +1,12 @@
-mod ChangeStays
+pub mod ChangeStays
 mod Staying
 mod Absent
 mod Ends
-mod Loads
+pub mod Loads
 mod Taking
 mod Finishing
-mod Turning
-mod Acting
+pub mod Turning
+pub mod Acting
 mod Doing
-mod RunLaw
-mod OthersStay
+pub mod RunLaw
+pub mod OthersStay

@@ -1,0 +1,88 @@
+-- The words of the layer in a row, and in an image.
+use Rattle.std.proofs.Common.{◌≡◌, ℕ, ◌<◌, ◌&&◌, true, false, inl, inr, cond, ltb, leb, refl, sym, ◌∙◌, arith}
+use Rattle.std.proofs.lemmas.Bool.{and_parts, ltb-true, leb-true, false≢true}
+use Rattle.pm_words.specs.declared.layout.Layout.{Layout}
+use Rattle.pm_words.specs.Locations.{Word, Header, Root, Node, Line, Leaf, Cell, Location, Clock, Updater, Volatile, Mark, Cached, Durable, leaf_count, kind_words, at, word_at}
+use Rattle.tree_law.specs.Words.{LayerWord, RootWord, LeafWord, CellWord, room_of, tree_of}
+use Rattle.tree_law.proofs.StageLaw.{same_words}
+use Rattle.tree_law.proofs.TreeLaw.{layer_leads_to_nodes}
+use Rattle.tree_row.specs.Rows.{image_word, HasLayerWord, has_layer_word, layer_word, image_layer_word, IsOutsideWord, IsOutsideLayer}
+use Rattle.tree_row.specs.RowMarks.{IsNoMark}
+use Rattle.tree_row.proofs.RowLaw.{outside_leaves, eviction_mixes}
+use Rattle.tree_row.proofs.MarkLaw.{store_leaves_marks, eviction_leaves_marks}
+use Rattle.tree_turn_law.specs.Places.{is_layer_word, is_of_layer}
+use Rattle.tree_turn_law.specs.Rows.{LayerWordsStay, RowsAlike, ImagesAlike, EvenAreSame, MixesAreEven, EvictionMixes}
+use Rattle.tree_turn_law.specs.Kept.{KeptLeadsBelow}
+
+word_outside : (w : Word) → is_layer_word w ≡ false → IsOutsideWord w
+word_outside (Header o) e = tt
+word_outside (Root o) e = absurd (false≢true (sym e))
+word_outside (Node n o) e = tt
+word_outside (Line c j o) e = tt
+word_outside (Leaf k o) e = absurd (false≢true (sym e))
+word_outside (Cell kind k o) e = absurd (false≢true (sym e))
+
+outside_layer : (p : Location) → is_of_layer p ≡ false → IsOutsideLayer p
+outside_layer Clock e = tt
+outside_layer Updater e = tt
+outside_layer (Volatile n o) e = tt
+outside_layer (Mark kind k) e = tt
+outside_layer (Cached w) e = word_outside w e
+outside_layer (Durable w) e = word_outside w e
+
+no_mark : (p : Location) → is_of_layer p ≡ false → IsNoMark p
+no_mark Clock e = tt
+no_mark Updater e = tt
+no_mark (Volatile n o) e = tt
+no_mark (Mark kind k) e = absurd (false≢true (sym e))
+no_mark (Cached w) e = tt
+no_mark (Durable w) e = tt
+
+pub layer_words_stay : LayerWordsStay
+layer_words_stay l words p word has e =
+    let twins = outside_leaves l words p word has (outside_layer p e) in
+    record { cached = twins.0; durable = twins.1; marks = store_leaves_marks l words p word has (no_mark p e) }
+
+has_from : (l : Layout) (p : LayerWord) → has_layer_word l p ≡ true → HasLayerWord l p
+has_from l RootWord e = let first : 0 < 8 = omega arith in first
+has_from l (LeafWord i o) e = let parts = and_parts (ltb i (leaf_count l)) (ltb o 8) e in (ltb-true _ _ parts.0, ltb-true _ _ parts.1)
+has_from l (CellWord kind n o) e =
+    let offset = and_parts (leb 2 kind && leb kind 5 && ltb n (leaf_count l)) (ltb o (kind_words kind)) e in
+    let number = and_parts (leb 2 kind && leb kind 5) (ltb n (leaf_count l)) offset.0 in
+    let kinds = and_parts (leb 2 kind) (leb kind 5) number.0 in
+    (leb-true _ _ kinds.0, leb-true _ _ kinds.1, ltb-true _ _ number.1, ltb-true _ _ offset.1)
+
+pub is_place : (p : LayerWord) → is_layer_word (image_word p) ≡ true
+is_place RootWord = refl
+is_place (LeafWord i o) = refl
+is_place (CellWord kind n o) = refl
+
+-- a number that a row or an image has at each word of the layer
+guarded : (l : Layout) (p : LayerWord) (x y : ℕ) → (HasLayerWord l p → y ≡ x) → cond (has_layer_word l p) y 0 ≡ cond (has_layer_word l p) x 0
+guarded l p x y same = elim (has_layer_word l p) as (λ a. has_layer_word l p ≡ a → cond a y 0 ≡ cond a x 0) [ true ↦ λ e. same (has_from l p e) | false ↦ λ e. refl ] refl
+
+pub rows_alike : RowsAlike
+rows_alike l words after twin other same = λ x. record { root = word RootWord x; leaf = λ i o. word (LeafWord i o) x; cell = λ kind n o. word (CellWord kind n o) x }
+  where
+    word : (p : LayerWord) → layer_word l after other p ≡ layer_word l words twin p
+    word p = guarded l p (at l words (twin (image_word p))) (at l after (other (image_word p))) (λ has. same (image_word p) (record { of_layer = is_place p; there = has }))
+
+pub images_alike : ImagesAlike
+images_alike l words image twin same = λ x. record { root = word RootWord x; leaf = λ i o. word (LeafWord i o) x; cell = λ kind n o. word (CellWord kind n o) x }
+  where
+    word : (p : LayerWord) → image_layer_word l image p ≡ layer_word l words twin p
+    word p = guarded l p (at l words (twin (image_word p))) (word_at l image (image_word p)) (λ has. same (image_word p) (record { of_layer = is_place p; there = has }))
+
+pub even_are_same : EvenAreSame
+even_are_same w s even = same_words w s even
+
+pub mixes_are_even : MixesAreEven
+mixes_are_even w s mix even is p = elim (is p) [ inl cached ↦ cached | inr durable ↦ durable ∙ even p ]
+
+pub row_eviction_mixes : EvictionMixes
+row_eviction_mixes l words word whole within =
+    let mixes = eviction_mixes l words word whole in
+    record { cached = mixes.0; durable = mixes.1; marks = eviction_leaves_marks l words word }
+
+pub kept_leads_below : KeptLeadsBelow
+kept_leads_below l w is = layer_leads_to_nodes (room_of (leaf_count l) l.nodes) (tree_of w) is.tree

@@ -1,0 +1,14 @@
+use Rattle.tree_turn_law.proofs.OnLayer.{changes_stay_on_layer, sets_begin_sound, unsets_begin_sound}
+use Rattle.tree_turn_law.proofs.StepLaw.{changes_are_steps, changes_stay_sound, sets_stay_sound, unsets_stay_sound}
+use Rattle.tree_turn_law.proofs.laws.turn_law.Goals as goal
+
+pub returns : goal.returns
+returns c = record {
+  steps = changes_are_steps;
+  sound = changes_stay_sound;
+  set = sets_stay_sound;
+  unset = unsets_stay_sound;
+  set_begins = sets_begin_sound;
+  unset_begins = unsets_begin_sound;
+  on_layer = changes_stay_on_layer;
+}
