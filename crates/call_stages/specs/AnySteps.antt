@@ -29,8 +29,8 @@ pub data IsOnPermutation (l : Layout) : Action → Type 0 where
   stores : {n offset y : ℕ} → n < l.nodes → IsOfPermutation offset → y < 2 ^ 64 →
       IsOnPermutation l (Store (volatile_address l n offset) y)
 
--- An action on a word of a log line or of a permutation, the store of a prev, or the load of a word of the search layer,
--- which says nothing that a call could rely on.
+-- An action on a word of a log line or of a permutation, the store of a prev, or the load of a word of the search
+-- layer, which says nothing that a call could rely on.
 pub data IsBeside (l : Layout) : Action → Type 0 where
   loads_line : {c j offset : ℕ} → HasLineWord l c j offset → IsBeside l (Load (line_address l c j offset))
   stores_line : {c j offset y : ℕ} → HasLineWord l c j offset → y < 2 ^ 64 →

@@ -1,5 +1,5 @@
--- All that a party has at a moment, and the steps that it makes: on nodes, on its log line, the stores of prevs, the loads
--- of words of the search layer, and the loads and stores of permutations.
+-- All that a party has at a moment, and the steps that it makes: on nodes, on its log line, the stores of prevs, the
+-- loads of words of the search layer, and the loads and stores of permutations.
 use Rattle.std.specs.Prelude.{◌≡◌, ◌≢◌, ℕ, ◌⊎◌, true, false, [], ◌∷◌, Option, Some, None, IfSome}
 use Rattle.pm_words.specs.declared.layout.Layout.{Layout}
 use Rattle.pm_words.specs.declared.action.Action.{Action}

@@ -206,6 +206,8 @@ pub data Look (l : Layout) (g : ℕ) : Stage → Action → ℕ → Stage → Op
       Look l g (Eyes n w h m v u free) (Exchange (version_address l m) v u) x (Holds n w h) None
   misses : {n v w x : ℕ} {k : Sight} → x ≢ v →
       Look l g (Saw n v w k) (Exchange (version_address l n) v w) x Idle (Some (once.Again (again.Moved n v x)))
+  misses_read : {n v w x : ℕ} {k : Sight} → x ≢ v → w < 2 ^ 64 →
+      Look l g (Reads n v k None) (Exchange (version_address l n) v w) x Idle (Some (once.Again (again.Moved n v x)))
   -- it loads the clock, which is below the limit if there is one still
   times : {n w x : ℕ} {h : Held} {limit : Option ℕ} → IsClean h → IfSome limit (λ most. x < most) →
       Look l g (Holds n w h) (Load (clock_address l)) x (Holds n w (record h { time = Some x; limit = limit })) None

@@ -140,7 +140,8 @@ fn play_on_map<M: UpdatedMap>(
     ensures settled { IfOk result (λ _. RoundsEndWithTurn plans.now → M.is_settled map.new) }
     ensures waits { IfOk result (λ reports. HaveNoTurns plans.now → (changes writes puts : ℕ) →
         M.waits map.old changes (writes + writes_asked plans.now) (puts + puts_asked plans.now) →
-        M.waits map.new (changes + changes_made (M.slots map.old) (M.contents map.old) (M.anchors map.old) reports.items)
+        M.waits map.new
+        (changes + changes_made (M.slots map.old) (M.contents map.old) (M.anchors map.old) reports.items)
         writes puts) }
 {
     map.has_shape();

@@ -35,7 +35,8 @@ pub record ShareAKey (l : Layout) (image : List ℕ) (leaf other : ℕ) : Type 0
 pub record IsUncovered (l : Layout) (image : List ℕ) (key node : ℕ) : Type 0 where
   pub is_key : IsKeyNumber key
   pub closed : ¬ IsOpenFor (image_lines l image) key
-  pub differ : ((image_layer l image key ≡ Some node) × ¬ (IsListedNode l image node × (image_anchor l image node ≡ key)))
+  pub differ : ((image_layer l image key ≡ Some node) ×
+      ¬ (IsListedNode l image node × (image_anchor l image node ≡ key)))
       ⊎ ((image_layer l image key ≢ Some node) × IsListedNode l image node × (image_anchor l image node ≡ key))
 
 -- The image breaks the rule of this number.

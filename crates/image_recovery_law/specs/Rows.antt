@@ -70,7 +70,8 @@ GenerationStores = (l : Layout) (words : List ℕ) (generation : ℕ) → length
 
 abbrev pub BitsStore : Type 0
 BitsStore = (l : Layout) (words : List ℕ) (n bits : ℕ) → length words ≡ row_words l → n < l.nodes →
-    StoresOn l words (Store (address_of l (Cached (Node n bitmap_offset))) bits) (with_bits (columns_in l words Cached) n bits)
+    StoresOn l words (Store (address_of l (Cached (Node n bitmap_offset))) bits)
+    (with_bits (columns_in l words Cached) n bits)
 
 abbrev pub EmptyStores : Type 0
 EmptyStores = (l : Layout) (words : List ℕ) (j : ℕ) → length words ≡ row_words l → j < line_count l →

@@ -11,7 +11,8 @@ use Rattle.search_layer.specs.Kept.{kept, IsKept}
 use Rattle.search_layer.specs.Laws.{SureOn, start_stage}
 use Rattle.updater_law.specs.Covers.{set_at}
 use Rattle.updater_row_law.specs.Columns.{line_count}
-use Rattle.image_recovery_law.specs.Columns.{Columns, anchor_of, line_anchor, layer_kept, IsTrim, MendsNodes, MendsLayer}
+use Rattle.image_recovery_law.specs.Columns.{Columns, anchor_of, line_anchor, layer_kept, IsTrim, MendsNodes}
+use Rattle.image_recovery_law.specs.Columns.{MendsLayer}
 use Rattle.image_recovery_law.specs.Columns.{Mends}
 
 -- Columns with another generation, another bitmap of a node, a line EMPTY, another layer.

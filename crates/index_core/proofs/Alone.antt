@@ -804,7 +804,7 @@ module _ (s0 s : Index) (i : ℕ) (low : List ℕ) (count : ℕ) (is0 : IsIndex 
   part_early (once.Done placed) early t each locks = absurd early
 
   -- and one that lists its names takes place
-  pub part_done : (words : PartWords) → TriesAlone s0 i c s (once.Done (words_placed words)) → words.node ≡ node_for s0 low → IsPartAt s.layout (facts (world s)) low count words → RunsAlone s0 i c s (whole.Part words)
+  pub part_done : (words : PartWords) → TriesAlone s0 i c s (once.Done (words_placed words)) → words.node ≡ node_for s0 low → IsPartAt s.layout (facts (world s)) None low count words → RunsAlone s0 i c s (whole.Part words)
   part_done words t node is =
       let kept : HasKeptList (world s0) (world s) = ⊎_elim
       (λ (same : ¬ ⊥ × HasKeptList (world s0) (world s)). same.1)

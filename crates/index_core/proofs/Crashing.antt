@@ -32,11 +32,14 @@ use Rattle.index_core.specs.Weights.{crash_weight}
 use Rattle.index_core.specs.Indexes.{Index, IsIndex, IsOwnWrite, footed, layered, world}
 use Rattle.index_law.proofs.Footed.{evict_footed}
 use Rattle.index_core.proofs.Layering.{evict_layered}
+use Rattle.index_core.proofs.Permuting.{evict_permuted}
 use Rattle.index_core.proofs.Lists.{map_there, map_from}
 
 pub evict_keeps : (s : Index) (word : ℕ) → IsIndex s → word < image_words s.layout → IsIndex (evicted_index s word)
 evict_keeps s word is within =
-    let kept = evict_footed (footed s) word (is.whole, is.tended) within in record {
+    let kept = evict_footed (footed s) word (is.whole, is.tended) within in
+    let permuted = evict_permuted s word (is.permuted, is.relying) within (evict_law (world s) word is.lawful within) in
+    record {
       lawful = evict_law (world s) word is.lawful within;
       whole = kept.0;
       tended = kept.1;
@@ -47,6 +50,8 @@ evict_keeps s word is within =
       bounded = is.bounded;
       named = is.named;
       rechecks = is.rechecks;
+      permuted = permuted.0;
+      relying = permuted.1;
     }
 
 -- the index with this row

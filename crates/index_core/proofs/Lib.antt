@@ -43,6 +43,7 @@ pub mod Fulls
 pub mod Rounds
 pub mod ShortWays
 pub mod Layering
+pub mod Permuting
 pub mod Busy
 pub mod Turning
 pub mod FreedRuns

@@ -31,6 +31,7 @@ use Rattle.index_core.specs.PartyStates.{IsPartyState, IsTurnOf, state_after, st
 use Rattle.updater.specs.declared.making.MakeTurn.{MakeTurn}
 use Rattle.index_core.proofs.Checks.{checks_none, checks_set}
 use Rattle.index_core.proofs.Layering.{one_layered, idle_layered}
+use Rattle.index_core.proofs.Permuting.{idled, one_permuted, same_row}
 use Rattle.index_core.specs.Indexes.{Index, IsIndex, footed, world, told, view_of, stepped_index}
 use Rattle.index_core.specs.Lone.{HasNoCalls}
 use Rattle.index_core.specs.MachineLaws.{IsReady, ReadyAfter, MachineKeeps, BeginKeeps, FirstIsReady, IdleKeep, place_told, place_now, place_next, PlacesFollow}
@@ -169,6 +170,7 @@ module _ (s : Index) (i : ℕ) (e : PartyState) (index : ℕ) (is : IsIndex s) (
       let own = is.states i e there in
       let lawful' = subst (λ (parties : List Party). Lawful (record (world s) { parties = parties })) (sym (map_set party_of s.states i now)) lawful in
       let footed = swap_footed s i e now (is.whole, is.tended) there refl refl lawful' in
+      let permuted = one_permuted s i e now there (is.permuted, is.relying) lawful' refl refl refl (inr refl) in
       record {
         lawful = lawful';
         whole = footed.0;
@@ -193,6 +195,8 @@ module _ (s : Index) (i : ℕ) (e : PartyState) (index : ℕ) (is : IsIndex s) (
         };
         named = is.named;
         rechecks = checks_set s.layout s.generation s.history s.history (omega arith) s.states i e now there refl is.rechecks;
+        permuted = permuted.0;
+        relying = permuted.1;
       }
 
 pub begin_law : BeginKeeps
@@ -249,6 +253,7 @@ with_idle s states is calls rests idle =
       begun = λ i p at. let from = map_from party_of states i p at in let zero_since = sym (ap (λ (q : Party). q.since) from.2) ∙ idle.begun i from.0 from.1 in omega arith;
     } in
     let footed = rest_footed (footed s) w.parties (map line_of states) (map debt_of states) (is.whole, is.tended) (free_states s.states calls (λ i e at. (is.states i e at).caller)) (free_states states idle.idle idle.numbers) (rest_law w at_rest) in
+    let permuted = idled s s.words states s.base s.history (is.permuted, is.relying) calls idle.idle (rest_law w at_rest) (same_row s.layout s.words) in
     record {
       lawful = rest_law w at_rest;
       whole = footed.0;
@@ -264,6 +269,8 @@ with_idle s states is calls rests idle =
       };
       named = is.named;
       rechecks = checks_none s.layout s.generation s.history states idle.unchecked;
+      permuted = permuted.0;
+      relying = permuted.1;
     }
 
 -- a step's place, and that a step which counts had none before

@@ -25,6 +25,7 @@ use Rattle.index_opening_law.specs.Openings.{IsOpening, IsUnlocked}
 use Rattle.index_opening_law.proofs.Opened.{opening_is_at_rest, opening_has_list, opening_is_unlocked}
 use Rattle.index_opening_law.proofs.Footing.{opening_is_footed}
 use Rattle.index_opening_law.proofs.Layering.{opening_is_layered}
+use Rattle.permutation_law.proofs.Columns.{made_at-here}
 use Rattle.lone_call_law.specs.Locks.{fewest_locks}
 use Rattle.lone_updater_law.specs.LoneTurns.{stamp_in}
 use Rattle.index_core.specs.PartyStates.{idle_states, party_of, IsPartyState}
@@ -35,6 +36,7 @@ use Rattle.index_core.proofs.Checks.{checks_none}
 use Rattle.index_core.proofs.Footings.{line_of, debt_of, free_states}
 use Rattle.index_core.proofs.Layering.{turn_of, first_turn, rest_turns, at_rest}
 use Rattle.index_core.proofs.Lists.{map_from, idle-length, idle-each}
+use Rattle.index_core.proofs.Permuting.{resting}
 
 -- idle parties
 module _ (n : ℕ) where
@@ -65,6 +67,7 @@ module _ (l : Layout) (list : List ListNode) (o : Columns) (words : List ℕ) (b
       let rest = opening_is_at_rest l list o words (map_of base) (map party_of (idle_states n)) is (idle_free n).idle (idle_since n) in
       let footed = opening_is_footed l list o words (map_of base) (map party_of (idle_states n)) (map line_of (idle_states n)) (map debt_of (idle_states n)) is (idle_free n) (idle_since n) in
       let first = first_turn (idle_states n) (subst (λ k. 0 < k) (sym (idle-length n)) (omega arith)) in
+      let permuted = resting (opened_index (row_with l words) base []) (rest_law (world (opened_index (row_with l words) base [])) rest) (idle_machine n) (λ k here. made_at-here l words k here ∙ is.orders k here) in
       record {
         lawful = rest_law (world (opened_index (row_with l words) base [])) rest;
         whole = footed.0;
@@ -81,6 +84,8 @@ module _ (l : Layout) (list : List ListNode) (o : Columns) (words : List ℕ) (b
         };
         named = λ place. subst HasNames (ap (after_all (map_of base)) (sym (take_all place [] (omega arith)))) rest.named;
         rechecks = checks_none l (at l words (Cached (Header 5))) [] (idle_states n) (idle_recheck n);
+        permuted = permuted.0;
+        relying = permuted.1;
       }
 
   unlocked : IsUnlocked (world (opened_index (row_with l words) base []))

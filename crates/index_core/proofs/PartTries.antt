@@ -26,7 +26,9 @@ use Rattle.index_core.specs.Indexes.{Index, room_of, told, world, IsIndex, IsInF
 use Rattle.index_core.specs.Listings.{IsPartAt, ListsAt}
 use Rattle.index_core.specs.Lone.{HasListed, HasListing, IsQuiet, IsStill, IsWholeAnswer, LoseAtMost, RunsAlone, locks_left, most_tries, part_whole, node_for}
 use Rattle.index_core.proofs.Alone.{part_early, part_done}
-use Rattle.index_core.proofs.PartsAlone.{listed_node, listed_word}
+use Rattle.node_ops.specs.Parts.{Confirms}
+use Rattle.node_ops.specs.Permuting.{PermutationRead, reading_of}
+use Rattle.index_core.proofs.PartsAlone.{listed_node, listed_word, unread}
 use Rattle.pm_words.specs.declared.layout.Layout.{Layout}
 use Rattle.lone_call_law.specs.LoneCalls.{IsThere}
 use Rattle.index_core.proofs.Told.{done_of, is_early}
@@ -77,8 +79,8 @@ module _ (s0 s s' : Index) (i : ℕ) (low : List ℕ) (count : ℕ) (result : Op
   its_own : (words : PartWords) → HasListed s i words → listed_in m ≡ Some words
   its_own words h = ap listed_in (sym (lone_machine s0 s i c o h.state h.machine h.there h.flies)) ∙ h.listed
 
-  -- it is told its version word again
-  its_word : (words : PartWords) → HasListed s i words → told s m ≡ words.version
+  -- its last action gives its version word
+  its_word : (words : PartWords) → HasListed s i words → Confirms m (told s m) words
   its_word words h = listed_word s.layout s0.words s.words m words (its_own words h) (subst (λ (l : Layout). IsThere l s0.words s.words m) (sym o.call.trying.layout) o.call.stands) o.call.sound.here o.call.sound.layout
 
   -- its last turn
@@ -104,11 +106,11 @@ module _ (s0 s s' : Index) (i : ℕ) (low : List ℕ) (count : ℕ) (result : Op
       let node : words.node ≡ node_for s0 low = listed_node s0.layout s0.words s.words low m words listed o.call.of o.call.stands in
       let op_is : op_in m ≡ op.Get low = op_told (op.Get low) m o.call.of in
       let lists : ListsAt s'.layout (facts (world s')) m (told s m) = subst (λ (q : Running). ListsAt s'.layout (facts (world s')) q (told s q)) (turn_machine s0 s s' i c result o t is' room) t.lists in
-      let of_words : IfSome (count_in m) (λ (n : ℕ). told s m ≡ words.version → IsPartAt s'.layout (facts (world s')) (name_asked (op_in m)) n words) =
-      subst (λ (found : Option PartWords). IfSome found (λ (w : PartWords). IfSome (count_in m) (λ (n : ℕ). told s m ≡ w.version → IsPartAt s'.layout (facts (world s')) (name_asked (op_in m)) n w))) listed lists in
-      let is : IsPartAt s'.layout (facts (world s')) low count words =
-      subst (λ (asked : NameOp). IsPartAt s'.layout (facts (world s')) (name_asked asked) count words) op_is
-      (subst (λ (found : Option ℕ). IfSome found (λ (n : ℕ). told s m ≡ words.version → IsPartAt s'.layout (facts (world s')) (name_asked (op_in m)) n words)) o.count of_words (its_word words h)) in
+      let of_words : IfSome (count_in m) (λ (n : ℕ). Confirms m (told s m) words → IsPartAt s'.layout (facts (world s')) (reading_of m) (name_asked (op_in m)) n words) =
+      subst (λ (found : Option PartWords). IfSome found (λ (w : PartWords). IfSome (count_in m) (λ (n : ℕ). Confirms m (told s m) w → IsPartAt s'.layout (facts (world s')) (reading_of m) (name_asked (op_in m)) n w))) listed lists in
+      let is : IsPartAt s'.layout (facts (world s')) None low count words =
+      subst (λ (q : Option PermutationRead × NameOp). IsPartAt s'.layout (facts (world s')) q.0 (name_asked q.1) count words) (λ k. (unread m k, op_is k))
+      (subst (λ (found : Option ℕ). IfSome found (λ (n : ℕ). Confirms m (told s m) words → IsPartAt s'.layout (facts (world s')) (reading_of m) (name_asked (op_in m)) n words)) o.count of_words (its_word words h)) in
       ends_alone (once.Done (words_placed words)) answered (whole.Part words)
       (part_done s0 s' i low count o.before o.still words (lone_tries s0 s s' i c result o t is' room (once.Done (words_placed words)) answered) node is)
 

@@ -19,7 +19,7 @@ use Rattle.shapes.proofs.NameLists.{all_second, filter-keeps, filter-drops}
 use Rattle.shapes.proofs.Targets.{part, target-is, next-is}
 use Rattle.data_node.specs.Lists.{ListNode, key_of, range_in, target_from}
 use Rattle.index_law.specs.Anchors.{anchors_of, text_of_key}
-use Rattle.index_law.specs.Facts.{Facts, list_in, range_of, version_in}
+use Rattle.index_law.specs.Facts.{Facts, list_in, map_now, range_of, version_in}
 use Rattle.index_law.proofs.Rows.{version_in-here}
 use Rattle.index_law.specs.Laws.{IsAtRest}
 use Rattle.index_law.specs.Lawful.{HasNames, IsList}
@@ -35,13 +35,14 @@ use Rattle.node_ops.specs.declared.part.Part.TheVariants as part_at
 use Rattle.node_ops.specs.declared.running.Running.{Running}
 use Rattle.node_ops.specs.declared.running.Running.TheVariants.{Getting, Putting, Deleting, Parting}
 use Rattle.node_ops.specs.Asked.{IsOf}
-use Rattle.node_ops.specs.PartSteps.{listed_at, part_asks, part_call, part_listed, part_words}
-use Rattle.pm_words.specs.declared.action.Action.TheVariants.{Load}
+use Rattle.node_ops.specs.PartSteps.{listed_at, part_asks, part_call, part_listed, part_words, reading_at_asks}
+use Rattle.node_ops.specs.Permuting.{reading_of}
+use Rattle.pm_words.specs.declared.action.Action.TheVariants.{Load, Store}
 use Rattle.pm_words.specs.Rows.{got}
 use Rattle.call_stages.specs.Kinds.{version_address}
 use Rattle.node_ops.proofs.PartListing.{listed_is_told}
 use Rattle.node_ops.proofs.PartTelling.{parts_hear}
-use Rattle.node_ops.specs.Parts.{EndsAt, pairs_in}
+use Rattle.node_ops.specs.Parts.{Confirms, EndsAt, pairs_in}
 use Rattle.node_ops.specs.RunningSteps.{IsRunning, listed_in, running_asks, running_call}
 use Rattle.lone_call_law.specs.LoneCalls.{IsThere, PartIsThere}
 use Rattle.index_core.specs.Indexes.{Index, world, map_of_index, IsIndex}
@@ -144,16 +145,39 @@ word_stands l words0 words (part_at.Reading reading) listing some there =
           subst (λ (w : PartWords). version_in l words w.node ≡ w.version) same (ap (λ (ws : List ℕ). version_in l ws reading.call.node) there.1 ∙ sym there.2)
     ] some
 
--- which it is told next
-pub listed_word : (l : Layout) (words0 words : List ℕ) (m : Running) (listing : PartWords) → listed_in m ≡ Some listing → IsThere l words0 words m → IsRunning m → (running_call m).view.layout ≡ l → got l words (running_asks m) ≡ listing.version
+-- The action of one that has listed loads the node's version word again, or stores it.
+listed_gives : (p : Part) (listing : PartWords) → part_listed p ≡ Some listing
+    → (part_asks p ≡ Load (version_address (part_call p).view.layout listing.node)) ⊎ (part_asks p ≡ Store (version_address (part_call p).view.layout listing.node) listing.version)
+listed_gives (part_at.Looking lookup count behind) listing none = absurd (cc)
+listed_gives (part_at.Reading reading) listing some =
+    elim reading.at as (λ (a : ReadingAt). listed_at reading a ≡ Some listing → (reading_at_asks reading.call a ≡ Load (version_address reading.call.view.layout listing.node))
+    ⊎ (reading_at_asks reading.call a ≡ Store (version_address reading.call.view.layout listing.node) listing.version)) [
+      | reading_at.Load slot word ↦ λ none. absurd (cc)
+      | reading_at.Check ↦ λ is.
+          let same : part_words reading ≡ listing = cc in
+          inl (ap (λ (w : PartWords). Load (version_address reading.call.view.layout w.node)) same)
+    ] some
+
+-- so it is told that, or stores it
+pub listed_word : (l : Layout) (words0 words : List ℕ) (m : Running) (listing : PartWords) → listed_in m ≡ Some listing → IsThere l words0 words m → IsRunning m → (running_call m).view.layout ≡ l → Confirms m (got l words (running_asks m)) listing
 listed_word l words0 words (Getting get) listing lists there sound layout = absurd (cc)
 listed_word l words0 words (Putting put) listing lists there sound layout = absurd (cc)
 listed_word l words0 words (Deleting del) listing lists there sound layout = absurd (cc)
-listed_word l words0 words (Parting p) listing lists there sound layout =
-    let hears = parts_hear p listing.version listing (listed_is_told p listing lists listing.version refl) in
-    let loads : part_asks p ≡ Load (version_address l listing.node) = hears.asks ∙ ap (λ (m : Layout). Load (version_address m listing.node)) layout in
+listed_word l words0 words (Parting p) listing lists there sound layout = ⊎_elim
+    (λ (loads : part_asks p ≡ Load (version_address (part_call p).view.layout listing.node)).
+    let hears = parts_hear p listing.version listing (listed_is_told p listing lists listing.version (inl (loads, refl))) in
     let here : listing.node < l.nodes = subst (λ (n : ℕ). n < l.nodes) (sym hears.node) (subst (λ (m : Layout). (part_call p).node < m.nodes) layout (sound_call p sound).node) in
-    ap (got l words) loads ∙ sym (version_in-here l words listing.node here) ∙ word_stands l words0 words p listing lists there
+    let loads_here : part_asks p ≡ Load (version_address l listing.node) = loads ∙ ap (λ (m : Layout). Load (version_address m listing.node)) layout in
+    inl (loads, ap (got l words) loads_here ∙ sym (version_in-here l words listing.node here) ∙ word_stands l words0 words p listing lists there))
+    (λ stores. inr stores)
+    (listed_gives p listing lists)
+
+-- and it has read no permutation
+pub unread : (m : Running) → reading_of m ≡ None
+unread (Getting get) = refl
+unread (Putting put) = refl
+unread (Deleting del) = refl
+unread (Parting p) = refl
 
 module _ (s0 s : Index) (low : List ℕ) (count : ℕ) (words : PartWords) (is0 : IsIndex s0) (none : HasNoCalls s0) where
   abbrev l : Layout
@@ -173,10 +197,11 @@ module _ (s0 s : Index) (low : List ℕ) (count : ℕ) (words : PartWords) (is0 
 
   -- where the map and the list are as before
   pub whole_part : s.base ≡ s0.base → s.history ≡ s0.history → (facts (world s)).list ≡ f.list → IsName low → words.node ≡ n → words.place ≡ length s0.history → WalksBy s0.layout s0.words low words.hops → words.old ≡ at (map_of_index s0) low
-      → IsPartAt s.layout (facts (world s)) low count words → IsWholePart s0 low count s words
+      → IsPartAt s.layout (facts (world s)) None low count words → IsWholePart s0 low count s words
   whole_part base history list named node place hops old is =
       let map_is : after (map_of s.base) s.history words.place ≡ map_of_index s0 =
       (λ k. after (map_of (base k)) (history k) (place k)) ∙ ap (after_all (map_of s0.base)) (take_all (length s0.history) s0.history (omega arith)) in
+      let now_is : map_now (facts (world s)) ≡ map_of_index s0 = (λ k. after_all (map_of (base k)) (history k)) in
       let range : range_of s.layout (facts (world s)) words.node ≡ range_of l f n = λ k. range_in (list k) (node k) in
       let ends : EndsAt (range_of l f n) low words.high = subst (λ (r : List ℕ → Bool). EndsAt r low words.high) range is.ends in
       let names : HasNames (after (map_of s.base) s.history words.place) = subst HasNames (sym map_is) rest.named in
@@ -187,9 +212,9 @@ module _ (s0 s : Index) (low : List ℕ) (count : ℕ) (words : PartWords) (is0 
         hops = hops;
         old = old;
         high = ends_once (range_of l f n) low words.high (next_of (anchors_of f.list) low) ends (next_ends l f n low rest.list named inside);
-        lists = subst (λ (m : Map). ListsRange m low count words) map_is (lists_range s.layout (facts (world s)) low count words named names is);
-        compared = is.part.compared
-            ∙ (λ k. length (pairs_in (map_is k) (range k)))
+        lists = subst (λ (m : Map). ListsRange m low count words) map_is (lists_range s.layout (facts (world s)) None low count words named names is);
+        compared = is.compared
+            ∙ (λ k. length (pairs_in (now_is k) (range k)))
             ∙ pairs_are_names (map_of_index s0) (range_of l f n)
             ∙ ap length (range-names l f rest.list rest.named n low named inside);
       }

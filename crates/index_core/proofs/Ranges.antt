@@ -16,6 +16,8 @@ use Rattle.node_ops.specs.declared.running.Running.TheVariants.{Getting, Putting
 use Rattle.node_ops.specs.Calls.{name_in}
 use Rattle.node_ops.specs.CallStages.{stage_of, part_stage}
 use Rattle.node_ops.specs.PartSteps.{part_call, part_count, part_listed}
+use Rattle.node_ops.specs.Parts.{Confirms}
+use Rattle.node_ops.specs.Permuting.{reading_of}
 use Rattle.node_ops.specs.RunningSteps.{Sound}
 use Rattle.index_law.specs.Facts.{Facts}
 use Rattle.index_law.specs.Lawful.{HasNames, Lawful, Sure}
@@ -26,6 +28,7 @@ use Rattle.index_core.specs.Indexes.{Index, IsIndex, world, told, stepped_index}
 use Rattle.index_core.specs.Listings.{IsPartAt, ListsAt}
 use Rattle.index_core.proofs.Lists.{map_there}
 use Rattle.index_core.proofs.Owing.{many, part_counts, written-length}
+use Rattle.index_core.proofs.Permuting.{relies_so_far}
 use Rattle.index_core.proofs.PartFacts.{sound_call, listed_at_end, names_longer}
 
 -- a party's part, before its turn
@@ -48,16 +51,16 @@ module _ (s : Index) (i : ℕ) (state : PartyState) (p : Part) (is : IsIndex s) 
   sure : Sure l s.generation f state.caller state.index state.since (part_stage p)
   sure = subst (Sure l s.generation f state.caller state.index state.since) (ap machine_stage flies) (is.lawful.sure i (party_of state) (map_there party_of s.states i state there))
 
-  lists_here : IfSome (part_listed p) (λ words. told s (Parting p) ≡ words.version → IsPartAt l f' (name_in (part_call p)) (part_count p) words)
+  lists_here : IfSome (part_listed p) (λ words. Confirms (Parting p) (told s (Parting p)) words → IsPartAt l f' (reading_of (Parting p)) (name_in (part_call p)) (part_count p) words)
   lists_here = at (part_listed p) refl
     where
-      at : (o : Option PartWords) → part_listed p ≡ o → IfSome o (λ words. told s (Parting p) ≡ words.version → IsPartAt l f' (name_in (part_call p)) (part_count p) words)
+      at : (o : Option PartWords) → part_listed p ≡ o → IfSome o (λ words. Confirms (Parting p) (told s (Parting p)) words → IsPartAt l f' (reading_of (Parting p)) (name_in (part_call p)) (part_count p) words)
       at None lists = tt
-      at (Some words) lists = λ same.
+      at (Some words) lists = λ confirms.
           let longer : s.history ++ written state.caller state.index (counted (part_stage p)) ≡ s.history = ap (λ (o : Option Change). s.history ++ written state.caller state.index o) (part_counts p) ∙ append-nil s.history in
-          listed_at_end l s.generation s.words (map_of s.base) s.history _ state.caller state.index state.since p words is.lawful.row sound is.lawful.list is.lawful.named sure longer lists (told s (Parting p)) refl same
+          listed_at_end l s.generation s.words (map_of s.base) s.history _ state.caller state.index state.since p words is.lawful.row sound is.lawful.list is.lawful.named sure (relies_so_far s i state (Parting p) there flies (is.permuted, is.relying)) longer lists (told s (Parting p)) refl confirms
 
--- What a part lists that is told its version word with this step.
+-- What a part lists that is done with this step.
 pub lists_at : (s : Index) (i : ℕ) (state : PartyState) (m : Running) → IsIndex s → get_elem? s.states i ≡ some state → state.machine ≡ Some m → ListsAt s.layout (facts (world (stepped_index s i state m 0))) m (told s m)
 lists_at s i state (Getting get) is there flies = tt
 lists_at s i state (Putting put) is there flies = tt

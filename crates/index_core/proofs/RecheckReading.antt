@@ -25,6 +25,7 @@ use Rattle.index_core.proofs.Checks.{beside_bounded, beside_ordered, checks_with
 use Rattle.index_core.proofs.Footings.{line_of, debt_of}
 use Rattle.index_core.proofs.Layering.{turn_of, map_own}
 use Rattle.index_core.proofs.Lists.{read_is}
+use Rattle.index_core.proofs.Permuting.{beside_permuted, same_row}
 use Rattle.index_core.proofs.Rechecks.{goes_same, rechecks_act, rechecks_are_answered, rechecks_go_on}
 use Rattle.index_core.proofs.Stepping.{set_states}
 
@@ -50,6 +51,7 @@ module _ (s : Index) (i : ℕ) (state : PartyState) (recheck : Option Rechecking
   with_recheck is relies =
       let own = is.states i state there in
       let after : IsLayered (layered (record s { states = states })) = subst IsLayered unchecked_layered is.layered in
+      let permuted = beside_permuted s i state now there s.words (is.permuted, is.relying) after.whole.joint.lawful refl refl (same_row s.layout s.words) in
       record {
         lawful = after.whole.joint.lawful;
         whole = after.whole;
@@ -61,6 +63,8 @@ module _ (s : Index) (i : ℕ) (state : PartyState) (recheck : Option Rechecking
         bounded = beside_bounded s i state state.turn recheck there is.bounded;
         named = is.named;
         rechecks = checks_with s.layout s.generation s.history s.history (omega arith) s.states i now relies is.rechecks;
+        permuted = permuted.0;
+        relying = permuted.1;
       }
 
 pub recheck_begins : (s : Index) (i : ℕ) (state : PartyState) (node version : ℕ) → IsIndex s → get_elem? s.states i ≡ some state → IsRecheck (Dating (view_of s i) node version) → IsIndex (recheck_begun s i state node version)

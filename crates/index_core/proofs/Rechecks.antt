@@ -12,7 +12,7 @@ use Rattle.pm_words.specs.declared.action.Action.TheVariants.{Load}
 use Rattle.pm_words.specs.declared.again.Again.TheVariants.{Moved}
 use Rattle.pm_words.specs.declared.machine.Turn.{Turn}
 use Rattle.pm_words.specs.declared.machine.Turn.TheVariants.{Go, Done}
-use Rattle.pm_words.specs.Rows.{acted, got}
+use Rattle.pm_words.specs.Rows.{acted}
 use Rattle.call_stages.specs.declared.once.Once.{Once}
 use Rattle.call_stages.specs.declared.once.Once.TheVariants as once
 use Rattle.call_stages.specs.declared.view.View.{View}
@@ -21,7 +21,6 @@ use Rattle.call_stages.specs.Kinds.{Told, clock_address, version_address}
 use Rattle.call_stages.specs.Stages.{Stage, counted}
 use Rattle.index_law.specs.Facts.{facts_of, version_in}
 use Rattle.index_law.specs.Laws.{Allowed, loads_clock, loads_word, ActionLaw}
-use Rattle.index_law.specs.Lawful.{Sure}
 use Rattle.index_law.specs.Worlds.{facts, written}
 use Rattle.index_law.proofs.Actions.{action_law}
 use Rattle.index_law.proofs.Maps.{after-longer}
@@ -36,9 +35,8 @@ use Rattle.node_ops.specs.PartSteps.{part_asks, part_call, part_count}
 use Rattle.node_ops.specs.Calls.{name_in}
 use Rattle.node_ops.specs.RecheckSteps.{recheck_asks, recheck_node, recheck_turned, recheck_view}
 use Rattle.node_ops.specs.Parts.{pairs_of}
-use Rattle.node_ops.specs.Rechecks.{IsKnown}
+use Rattle.node_ops.specs.Rechecks.{IsKnown, KnownPart}
 use Rattle.node_ops.specs.RunningSteps.{Sound, running_asks, running_turned}
-use Rattle.node_ops.proofs.PartTelling.{parts_hear}
 use Rattle.node_ops.proofs.Rechecks as ops
 use Rattle.index_core.specs.declared.party.PartyState.{PartyState}
 use Rattle.index_core.specs.Indexes.{Index, IsIndex, world, told}
@@ -48,7 +46,8 @@ use Rattle.index_core.specs.Rechecks.{IsRecheckOf, IsSameRecheck}
 use Rattle.index_core.specs.Rechecks.{RechecksGoOn, RechecksAreAnswered, SameTells, SameIsSoon, SameOutlasts}
 use Rattle.index_core.specs.Turns.{turned_index}
 use Rattle.index_core.proofs.Bounds.{bounded_small}
-use Rattle.index_core.proofs.PartFacts.{have_words, sound_call}
+use Rattle.index_core.proofs.PartFacts.{have_words}
+use Rattle.index_core.proofs.Permuting.{relies_so_far}
 use Rattle.index_core.proofs.Stepping.{step_facts}
 use Rattle.index_core.proofs.Lists.{map_there}
 use Rattle.index_core.proofs.Turning.{turns_keep}
@@ -71,20 +70,14 @@ pub parts_become_known : PartsBecomeKnown
 parts_become_known s i state p words is there flies done =
     let l = s.layout in
     let g = s.generation in
-    let f = facts (world s) in
     let m = Parting p in
-    let x = told s m in
+    let a = part_asks p in
+    let k : KnownPart = record { low = name_in (part_call p); count = part_count p; words = words } in
     let stage : machine_stage state.machine ≡ stage_of m = ap machine_stage flies in
-    let there' = map_there party_of s.states i state there in
     let sound : Sound l g m = subst (λ (o : Option Running). IfSome o (Sound l g)) flies (is.states i state there).machine in
-    let sure : Sure l g f state.caller state.index state.since (stage_of m) = subst (Sure l g f state.caller state.index state.since) stage (is.lawful.sure i (party_of state) there') in
-    let hears = parts_hear p x words done in
-    let own : (part_call p).node < l.nodes = subst (λ (n : Layout). (part_call p).node < n.nodes) sound.layout (sound_call p sound.here).node in
-    let here : words.node < l.nodes = subst (λ (n : ℕ). n < l.nodes) (sym hears.node) own in
-    let loads : part_asks p ≡ Load (version_address l words.node) = hears.asks ∙ ap (λ (n : Layout). Load (version_address n words.node)) sound.layout in
-    let version : x ≡ f.version words.node = ap (got l s.words) loads ∙ sym (version_in-here l s.words words.node here) in
-    let known = ops.parts_are_known l g f state.caller state.index state.since p x words sound is.lawful.list (have_words l s.words (map_of s.base) s.history is.lawful.row) is.lawful.named sure (version ∙ ap f.version hears.node) done in
-    steps_keep_known s i state m (record { low = name_in (part_call p); count = part_count p; words = words }) is there flies known
+    let known = ops.parts_are_known (world s) i (party_of state) p (told s m) words is.lawful (have_words l s.words (map_of s.base) s.history is.lawful.row) (map_there party_of s.states i state there) stage sound refl
+    (relies_so_far s i state m there flies (is.permuted, is.relying)) done in
+    subst (λ (u : Stage). IsKnown l g (facts_of l (acted l s.words a) (map_of s.base) (s.history ++ written state.caller state.index (counted u))) k) stage known
 
 -- it loads what every party may load, at whatever stage that is
 may_load : (l : Layout) (u : Stage) (r : Recheck) → (recheck_view r).layout ≡ l → recheck_node r < l.nodes → Allowed l u (recheck_asks r)
@@ -131,15 +124,15 @@ same_tells s since r same k is of sure done known node_is version_is =
     ops.same_tells s.layout s.generation (facts (world s)) since r (recheck_told s r) same k sure (ops.rechecks_are_told (world s) r is.lawful of.here of.layout) done known node_is version_is is.named
 
 pub same_is_soon : SameIsSoon
-same_is_soon base seen more k place within is = record {
+same_is_soon slots base seen more k place within is = record {
   lists = λ between late soon. subst (λ (m : Map). pairs_of k.words ≡ take k.count (range m k.low k.words.high)) (after-longer base seen more between (omega (arith, soon, within))) (is.lists between late soon);
-  whole = λ few between late soon. subst (λ (m : Map). pairs_of k.words ≡ range m k.low k.words.high) (after-longer base seen more between (omega (arith, soon, within))) (is.whole few between late soon);
+  whole = λ all between late soon. subst (λ (m : Map). pairs_of k.words ≡ range m k.low k.words.high) (after-longer base seen more between (omega (arith, soon, within))) (is.whole all between late soon);
 }
 
 pub same_outlasts : SameOutlasts
-same_outlasts base seen more k place within is = record {
+same_outlasts slots base seen more k place within is = record {
   lists = λ between late soon. subst (λ (m : Map). pairs_of k.words ≡ take k.count (range m k.low k.words.high)) (sym (after-longer base seen more between (omega (arith, soon, within)))) (is.lists between late soon);
-  whole = λ few between late soon. subst (λ (m : Map). pairs_of k.words ≡ range m k.low k.words.high) (sym (after-longer base seen more between (omega (arith, soon, within)))) (is.whole few between late soon);
+  whole = λ all between late soon. subst (λ (m : Map). pairs_of k.words ≡ range m k.low k.words.high) (sym (after-longer base seen more between (omega (arith, soon, within)))) (is.whole all between late soon);
 }
 
 -- what goes on is the same recheck

@@ -21,6 +21,7 @@ use Rattle.index_law.specs.Laws.{next_round}
 use Rattle.index_law.proofs.Rounds.{round_law}
 use Rattle.index_law.proofs.Rows.{facts-elsewhere}
 use Rattle.index_law.proofs.Starts.{rest_law}
+use Rattle.permutation_law.proofs.Columns.{left_stored}
 use Rattle.lone_call_law.specs.Locks.{fewest_locks}
 use Rattle.index_core.specs.PartyStates.{idle_state, idle_states, party_of, IsPartyState}
 use Rattle.index_core.specs.declared.party.PartyState.{PartyState}
@@ -32,6 +33,7 @@ use Rattle.index_law.proofs.Footed.{round_footed}
 use Rattle.index_core.proofs.Checks.{checks_none}
 use Rattle.index_core.proofs.Footings.{line_of, debt_of, free_states}
 use Rattle.index_core.proofs.Layering.{rest_layered}
+use Rattle.index_core.proofs.Permuting.{IsSameRow, idled, row_by_facts}
 use Rattle.index_core.proofs.Lists.{map_from, idle-length, idle-each}
 use Rattle.index_core.proofs.Quiet.{rests}
 
@@ -70,6 +72,13 @@ module _ (s : Index) (is : IsIndex s) (quiet : IsQuiet s) where
   round_lawful : Lawful round
   round_lawful = rest_law round (round_law (world s) parties (rests s is quiet.calls) (each_idle (λ p. p.stage ≡ Idle) (λ i. refl)) (each_idle (λ p. p.since ≤ 0) (λ i. omega arith)))
 
+  -- the clock stands beside the nodes
+  clock_leaves : IsSameRow s.layout s.words (round_index s 0).words
+  clock_leaves =
+      let same = facts-elsewhere s.layout s.words (map_of s.base) s.history Clock 0 tt (λ m offset e. cc, λ m e. cc) in
+      row_by_facts s.layout s.words (round_index s 0).words (map_of s.base) s.history (ap (λ (f : Facts). f.version) same) (ap (λ (f : Facts). f.now) same) (ap (λ (f : Facts). f.list) same)
+      (λ n here. left_stored s.layout s.words Clock 0 n tt (λ offset least e. cc))
+
   -- with whatever pairs of the same map as its base
   pub round_is : (spare : ℕ) → IsIndex (round_index s spare)
   round_is spare =
@@ -77,6 +86,7 @@ module _ (s : Index) (is : IsIndex s) (quiet : IsQuiet s) where
       let was_free = free_states s.states quiet.calls (λ i e at. (is.states i e at).caller) in
       let whole = round_footed (footed s) parties (map line_of states) (map debt_of states) (is.whole, is.tended) was_free (free_states states no_machine numbers) round_lawful in
       let now = subst (λ (m : Map). Lawful (record round { base = m }) × IsFooted (record { world = record round { base = m }; lines = map line_of states; debts = map debt_of states })) base (round_lawful, whole) in
+      let permuted = idled s (round_index s spare).words states (pairs_of (map_of_index s)) [] (is.permuted, is.relying) quiet.calls no_machine now.0 clock_leaves in
       record {
         lawful = now.0;
         whole = now.1.0;
@@ -92,6 +102,8 @@ module _ (s : Index) (is : IsIndex s) (quiet : IsQuiet s) where
         };
         named = λ place. subst HasNames (ap (after_all (map_of (pairs_of (map_of_index s)))) (sym (take_all place [] (omega arith)))) now.0.named;
         rechecks = checks_none s.layout s.generation [] states no_recheck;
+        permuted = permuted.0;
+        relying = permuted.1;
       }
 
   -- what its nodes' words say stays

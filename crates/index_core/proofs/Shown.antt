@@ -10,7 +10,7 @@ use Rattle.call_stages.specs.declared.once.Placed.{Placed}
 use Rattle.call_stages.specs.Stages.{Held, Stage, Idle, Saw, Wears, Reads, Holds, Eyes, Splits, Leaves, Meets, Joins, IsLoose}
 use Rattle.call_stages.specs.AnySteps.{AnyStep, on_nodes, beside}
 use Rattle.index_law.proofs.Moves.{read_before}
-use Rattle.call_stages.specs.Kinds.{IsClean, Look, turns_back, is_worn, wears, roams, roams_status, sees, misses, times, learns, decides, glances, reads_on, finds_live, watches, watches_next, turns_away, steps_back, wanders, fills, lights, switches, glances_left, glances_fresh, drains_left, drains_fresh, trims, splits, meets, knows_own, knows_right, copies, takes_up, puts_down, parts, gathers, joins, glances_joined, drains_joined, retires, yields, merges, peeks, peeks_status, eyes, eyes_free, passes, loses, claims, publishes, leaves, Answers, writes, reads, is_spent, has_no_room, refuses, Step, looks, locks, locks_read, stores, commits, drains, counts, unlocks}
+use Rattle.call_stages.specs.Kinds.{IsClean, Look, turns_back, is_worn, wears, roams, roams_status, sees, misses, misses_read, times, learns, decides, glances, reads_on, finds_live, watches, watches_next, turns_away, steps_back, wanders, fills, lights, switches, glances_left, glances_fresh, drains_left, drains_fresh, trims, splits, meets, knows_own, knows_right, copies, takes_up, puts_down, parts, gathers, joins, glances_joined, drains_joined, retires, yields, merges, peeks, peeks_status, eyes, eyes_free, passes, loses, claims, publishes, leaves, Answers, writes, reads, is_spent, has_no_room, refuses, Step, looks, locks, locks_read, stores, commits, drains, counts, unlocks}
 use Rattle.index_law.specs.Weights.{AddsName}
 use Rattle.index_core.specs.MachineLaws.{shown_by, shows}
 
@@ -117,6 +117,7 @@ module _ {l : Layout} {g : ℕ} where
   look_shows (passes {h = h} here) = let more = pending_shows h.old h.pending h.placed in omega arith
   look_shows (loses {h = h} here other) = let more = pending_shows h.old h.pending h.placed in omega arith
   look_shows (misses other) = omega arith
+  look_shows (misses_read other small) = omega arith
   look_shows (times {h = h} clean below) = let none = clean_shows h clean in omega arith
   look_shows (learns has positive unready learnt) = omega arith
   look_shows (decides {h = h} has positive clean durable about learnt decided) = let none = clean_shows h clean in omega arith

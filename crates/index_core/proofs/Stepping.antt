@@ -21,10 +21,12 @@ use Rattle.call_stages.specs.Kinds.{Told, LeadsWithin}
 use Rattle.call_stages.specs.AnySteps.{AnyStep, on_nodes, beside}
 use Rattle.call_stages.specs.Footings.{FootStep}
 use Rattle.call_stages.specs.declared.view.View.{View}
+use Rattle.permutation.specs.Sortings.{Unsorted}
 use Rattle.node_ops.specs.declared.running.Running.{Running}
 use Rattle.node_ops.specs.RunningSteps.{wrapped, count_in, running_call, running_asks, running_turned, running_takes, IsRunning, Sound}
 use Rattle.node_ops.specs.CallStages.{stage_of, stage_after, footing_of, footing_after, reply_of, SoundAfter}
 use Rattle.node_ops.proofs.CallLaw.{turns_are_foot_steps, turns_are_steps, leads_are_taken}
+use Rattle.node_ops.proofs.PermutingLaw.{turns_permute, turns_reread}
 use Rattle.node_ops.proofs.LookupSound.{Stays}
 use Rattle.node_ops.proofs.CallSound.{get_stays, put_stays, del_stays, turns_stay_sound}
 use Rattle.node_ops.proofs.OpLaw.{turns_keep_op, op_told}
@@ -62,6 +64,7 @@ use Rattle.index_core.specs.Cores.{IsAdd}
 use Rattle.index_core.specs.PartyStates.{machine_stage, machine_footing, party_of, state_with, state_after, state_counted, machine_owes, owes, owed, IsTurnOf, IsPartyState}
 use Rattle.node_ops.specs.Calls.{IsSame}
 use Rattle.index_core.specs.Listings.{ListsAt}
+use Rattle.index_core.specs.Permuting.{machine_end, machine_reading, machine_sorting}
 use Rattle.index_core.proofs.Ranges.{lists_at, step_named}
 use Rattle.index_core.specs.Indexes.{Index, world, IsIndex, view_of, started_index, told, stepped_index, MakesCall, FreesNone}
 use Rattle.index_core.specs.Heard.{HearsOn}
@@ -70,6 +73,7 @@ use Rattle.index_core.proofs.Checks.{checks_set}
 use Rattle.index_core.proofs.Freeing.{step_frees_none}
 use Rattle.index_core.proofs.Footings.{swap_footed, step_footed}
 use Rattle.index_core.proofs.Layering.{step_layered, one_layered}
+use Rattle.index_core.proofs.Permuting.{one_permuted, step_permuted}
 use Rattle.index_core.proofs.Lists.{map_there, map_set, owed-set, set_twice}
 use Rattle.index_core.proofs.Ordering.{OwnsWrites, start_ordered, count_ordered, step_ordered, owns}
 use Rattle.index_core.proofs.Bounds.{bounded_small, step_bounded, start_bounded, count_bounded}
@@ -212,6 +216,7 @@ step_facts s i state machine is there flies =
     let foot : FootStep l g state.caller (footing_of machine) a x (footing_after turn) (reply_of turn) =
     subst (λ (c : ℕ). FootStep l g c (footing_of machine) a x (footing_after turn) (reply_of turn)) caller (turns_are_foot_steps l g machine x sound act.told leads) in
     let footed = step_footed s i state machine (is.whole, is.tended) there flies foot room lawful in
+    let permuted = step_permuted s i state machine there flies (is.permuted, is.relying) sound step (turns_permute l g machine x sound act.told leads) (turns_reread l g machine x sound act.told) room lawful in
     record {
       fits = sound.here;
       can = act.can;
@@ -236,6 +241,8 @@ step_facts s i state machine is there flies =
         named = step_named s i state machine is lawful;
         rechecks = checks_set l g s.history (s.history ++ written state.caller state.index (counted (stage_of machine))) (let longer = length-append s.history (written state.caller state.index (counted (stage_of machine))) in omega arith)
             s.states i state (state_after state turn) there (after_recheck state turn) is.rechecks;
+        permuted = permuted.0;
+        relying = permuted.1;
       };
       lists = lists_at s i state machine is there flies;
       owns = owns s i state machine is.states is.ordered is.lawful.clock there flies;
@@ -304,6 +311,23 @@ begins_free view (call.Part low count) = refl
 begins_free view (call.Recheck node version) = refl
 begins_free view (call.Turn stamp release) = refl
 
+-- nor of a permutation
+begins_unsorted : (view : View) (c : CoreCall) → machine_sorting (Some (machine_of view c)) ≡ Unsorted
+begins_unsorted view (call.Put name value limit) = refl
+begins_unsorted view (call.Get name) = refl
+begins_unsorted view (call.Del name limit) = refl
+begins_unsorted view (call.Part low count) = refl
+begins_unsorted view (call.Recheck node version) = refl
+begins_unsorted view (call.Turn stamp release) = refl
+
+begins_relying_on_nothing : (view : View) (c : CoreCall) → (machine_reading (Some (machine_of view c)) ≡ None) × (machine_end (Some (machine_of view c)) ≡ None)
+begins_relying_on_nothing view (call.Put name value limit) = (refl, refl)
+begins_relying_on_nothing view (call.Get name) = (refl, refl)
+begins_relying_on_nothing view (call.Del name limit) = (refl, refl)
+begins_relying_on_nothing view (call.Part low count) = (refl, refl)
+begins_relying_on_nothing view (call.Recheck node version) = (refl, refl)
+begins_relying_on_nothing view (call.Turn stamp release) = (refl, refl)
+
 pub machine_writes : (s : Index) (party : ℕ) (c : CoreCall) → owes (machine_of (view_of s party) c) ≡ most_writes c
 machine_writes s party (call.Put name value limit) = refl
 machine_writes s party (call.Get name) = refl
@@ -340,6 +364,7 @@ start_keeps s i state c spare is there idle here =
     ap (λ (u : Stage). set (map party_of s.states) i (record { caller = state.caller; index = state.index; since = length s.history; stage = u })) (sym (machine_idle s i c)) ∙ sym (map_set party_of s.states i now) in
     let lawful' = subst (λ (parties : List Party). Lawful (record { layout = s.layout; generation = s.generation; words = s.words; parties = parties; base = map_of s.base; history = s.history })) parties lawful in
     let footed = swap_footed s i state now (is.whole, is.tended) there refl (begins_free (view_of s i) c ∙ sym (ap machine_footing idle)) lawful' in
+    let permuted = one_permuted s i state now there (is.permuted, is.relying) lawful' refl (machine_idle s i c ∙ sym (ap machine_stage idle)) (begins_unsorted (view_of s i) c ∙ sym (ap machine_sorting idle)) (inl (begins_relying_on_nothing (view_of s i) c)) in
     record {
       lawful = lawful';
       whole = footed.0;
@@ -351,6 +376,8 @@ start_keeps s i state c spare is there idle here =
       bounded = start_bounded s i state c is here;
       named = is.named;
       rechecks = checks_set s.layout s.generation s.history s.history (omega arith) s.states i state now there refl is.rechecks;
+      permuted = permuted.0;
+      relying = permuted.1;
     }
 
 pub start_owes : (s : Index) (party : ℕ) (state : PartyState) (c : CoreCall) → get_elem? s.states party ≡ some state → state.machine ≡ None
@@ -372,6 +399,7 @@ count_keeps s i state spare is there idle =
     let lawful = swap_law (world s) i p (party_of now) is.lawful there' (ap machine_stage idle) (ap machine_stage idle) (is.lawful.begun i p there') in
     let lawful' = subst (λ (parties : List Party). Lawful (record (world s) { parties = parties })) (sym (map_set party_of s.states i now)) lawful in
     let footed = swap_footed s i state now (is.whole, is.tended) there refl refl lawful' in
+    let permuted = one_permuted s i state now there (is.permuted, is.relying) lawful' refl refl refl (inr refl) in
     record {
       lawful = lawful';
       whole = footed.0;
@@ -383,6 +411,8 @@ count_keeps s i state spare is there idle =
       bounded = count_bounded s i state is idle;
       named = is.named;
       rechecks = checks_set s.layout s.generation s.history s.history (omega arith) s.states i state now there refl is.rechecks;
+      permuted = permuted.0;
+      relying = permuted.1;
     }
 
 -- and owes what it owed
@@ -391,7 +421,7 @@ count_owes s i state there = let moved = owed-set s.states i state (state_counte
 
 -- how much room is told of an index is none of its laws
 pub respare : (s : Index) (spare : ℕ) → IsIndex s → IsIndex (record s { spare = spare })
-respare s spare is = record { lawful = is.lawful; whole = is.whole; tended = is.tended; layered = is.layered; parties = is.parties; states = is.states; ordered = is.ordered; bounded = is.bounded; named = is.named; rechecks = is.rechecks }
+respare s spare is = record { lawful = is.lawful; whole = is.whole; tended = is.tended; layered = is.layered; parties = is.parties; states = is.states; ordered = is.ordered; bounded = is.bounded; named = is.named; rechecks = is.rechecks; permuted = is.permuted; relying = is.relying }
 
 -- the index that a step leaves, at values that are equal to its own
 pub step_at : (s : Index) (i : ℕ) (e r e' : PartyState) (m m' : Running) (row : Row) (got' : ℕ) (turn : Turn Running (Once Placed)) (history : List Write) (spare : ℕ)

@@ -19,6 +19,8 @@ use Rattle.node_ops.specs.Asked.{op_in, name_asked}
 use Rattle.node_ops.specs.CallStages.{reply_of}
 use Rattle.node_ops.specs.PartSteps.{IsEarly, words_placed}
 use Rattle.node_ops.specs.RunningSteps.{IsRunning, running_turned, count_in, listed_in}
+use Rattle.node_ops.specs.Parts.{Confirms}
+use Rattle.node_ops.specs.Permuting.{reading_of}
 use Rattle.node_ops.proofs.PartListing.{done_is_listed}
 use Rattle.index_law.specs.Facts.{Facts}
 use Rattle.index_law.specs.Lawful.{HasNames}
@@ -47,18 +49,18 @@ done_same is = cc
 
 -- A part that has no listing is answered before its place is.
 pub is_early : (m : Running) (x : ℕ) (answer : Once Placed) → running_turned m x ≡ Done answer → IsSome (count_in m) → listed_in m ≡ None → IsEarly answer
-is_early m x (once.Done placed) is counts none = absurd (subst (λ (o : Option PartWords). IsSomeAnd o (λ w. (x ≡ w.version) × (placed ≡ words_placed w))) none (done_is_listed m x placed counts is))
+is_early m x (once.Done placed) is counts none = absurd (subst (λ (o : Option PartWords). IsSomeAnd o (λ w. Confirms m x w × (placed ≡ words_placed w))) none (done_is_listed m x placed counts is))
 is_early m x (once.Spent clock) is counts none = tt
 is_early m x (once.Worn node word) is counts none = tt
 is_early m x (once.Again why) is counts none = tt
 
--- One that has a listing and is done was told its version word, and its answer is the listing's.
-abbrev IsDoneOf : ℕ → PartWords → Once Placed → Type 0
-IsDoneOf x words (once.Done placed) = (x ≡ words.version) × (placed ≡ words_placed words)
-IsDoneOf x words answer = Unit {0}
+-- The action of one that has a listing and is done gives its version word, and its answer is the listing's.
+abbrev IsDoneOf : Running → ℕ → PartWords → Once Placed → Type 0
+IsDoneOf m x words (once.Done placed) = Confirms m x words × (placed ≡ words_placed words)
+IsDoneOf m x words answer = Unit {0}
 
-is_done : (m : Running) (x : ℕ) (answer : Once Placed) → running_turned m x ≡ Done answer → IsSome (count_in m) → (words : PartWords) → listed_in m ≡ Some words → IsDoneOf x words answer
-is_done m x (once.Done placed) is counts words lists = subst (λ (o : Option PartWords). IsSomeAnd o (λ w. (x ≡ w.version) × (placed ≡ words_placed w))) lists (done_is_listed m x placed counts is)
+is_done : (m : Running) (x : ℕ) (answer : Once Placed) → running_turned m x ≡ Done answer → IsSome (count_in m) → (words : PartWords) → listed_in m ≡ Some words → IsDoneOf m x words answer
+is_done m x (once.Done placed) is counts words lists = subst (λ (o : Option PartWords). IsSomeAnd o (λ w. Confirms m x w × (placed ≡ words_placed w))) lists (done_is_listed m x placed counts is)
 is_done m x (once.Spent clock) is counts words lists = tt
 is_done m x (once.Worn node word) is counts words lists = tt
 is_done m x (once.Again why) is counts words lists = tt
@@ -78,7 +80,7 @@ answer_told m x answer is = at (count_in m) refl (listed_in m) refl
     at (Some count) counts None lists = early_told answer (is_early m x answer is (subst IsSome (sym counts) refl) lists) count
     at (Some count) counts (Some words) lists = with_words answer (is_done m x answer is (subst IsSome (sym counts) refl) words lists)
       where
-        with_words : (a : Once Placed) → IsDoneOf x words a → answer_in (reply_with (Some count) (Some words) a) ≡ a
+        with_words : (a : Once Placed) → IsDoneOf m x words a → answer_in (reply_with (Some count) (Some words) a) ≡ a
         with_words (once.Done placed) same = ap (λ (p : Placed). once.Done p) (sym same.1)
         with_words (once.Spent clock) same = refl
         with_words (once.Worn node word) same = refl
@@ -109,15 +111,15 @@ pub told_lists : (l : Layout) (f : Facts) (m : Running) (x : ℕ) (answer : Once
 told_lists l f m x answer is sound named = at (count_in m) refl (listed_in m) refl
   where
     at : (count : Option ℕ) → count_in m ≡ count → (listed : Option PartWords) → listed_in m ≡ listed
-        → IfSome listed (λ words. IfSome count (λ n. x ≡ words.version → IsPartAt l f (name_asked (op_in m)) n words)) → CallLists f.base f.history (op_in m) count answer (listed_by (reply_with count listed answer))
+        → IfSome listed (λ words. IfSome count (λ n. Confirms m x words → IsPartAt l f (reading_of m) (name_asked (op_in m)) n words)) → CallLists f.base f.history (op_in m) count answer (listed_by (reply_with count listed answer))
     at None counts listed lists here = refl
     at (Some count) counts None lists here = early_lists f.base f.history (name_asked (op_in m)) count answer (is_early m x answer is (subst IsSome (sym counts) refl) lists)
     at (Some count) counts (Some words) lists here = with_words answer (is_done m x answer is (subst IsSome (sym counts) refl) words lists)
       where
-        with_words : (a : Once Placed) → IsDoneOf x words a → PartLists f.base f.history (name_asked (op_in m)) count a (listed_by (reply_with (Some count) (Some words) a))
+        with_words : (a : Once Placed) → IsDoneOf m x words a → PartLists f.base f.history (name_asked (op_in m)) count a (listed_by (reply_with (Some count) (Some words) a))
         with_words (once.Done placed) same =
             let low = low_named m sound (subst IsSome (sym counts) refl) in
-            record { placed_so = sym same.1; lists = lists_range l f (name_asked (op_in m)) count words low (named words.place) (here same.0) }
+            record { placed_so = sym same.1; lists = lists_range l f (reading_of m) (name_asked (op_in m)) count words low (named words.place) (here same.0) }
         with_words (once.Spent clock) same = refl
         with_words (once.Worn node word) same = refl
         with_words (once.Again why) same = refl

@@ -11,6 +11,7 @@ use Rattle.pm_words.specs.declared.machine.Turn.TheVariants.{Go, Done}
 use Rattle.pm_words.specs.Rows.{CanAct, acted}
 use Rattle.pm_words.specs.Locations.{Volatile}
 use Rattle.call_stages.specs.Stages.{Stage, Idle, Saw, Wears, Reads, Holds, Eyes, Splits, Leaves, Meets, Joins}
+use Rattle.cat_history.specs.Maps.{map_of}
 use Rattle.call_stages.specs.Watches.{Nothing}
 use Rattle.index_law.specs.Facts.{Facts}
 use Rattle.index_law.specs.Worlds.{Party, World, facts}
@@ -18,6 +19,7 @@ use Rattle.index_law.specs.InUse.{AreInUse}
 use Rattle.index_law.specs.Weights.{gone_weight, index_weight, lowered_in, lowered_sum, weight_sum}
 use Rattle.index_law.proofs.Weights.{gone_less}
 use Rattle.index_law.proofs.Parties.{set_here}
+use Rattle.permutation_law.proofs.Columns.{IsLeft, left_by, left_same}
 use Rattle.updater_row_law.specs.Columns.{RowTerms, volatile_field}
 use Rattle.updater_row_law.specs.RowStages.{RowStage, Resting, IsUnworn, Frees, Counts}
 use Rattle.updater_row_law.specs.RowLaw.{RowLawful}
@@ -42,6 +44,7 @@ use Rattle.index_layer_law.specs.Turnings.{terms_of, ghosts_of}
 use Rattle.index_layer_law.specs.Layers.{Layered, IsLayered}
 use Rattle.index_layer_law.specs.Laws.{turned, LeavesNodes}
 use Rattle.index_layer_law.proofs.TurnSteps.{turn_step_keeps, turn_step_leaves, others_rest}
+use Rattle.index_layer_law.proofs.TurnVolatile.{turn_step_leaves_volatile}
 use Rattle.index_layer_law.proofs.TurnRests.{turn_start_keeps}
 use Rattle.index_layer_law.proofs.TurnTerms.{terms_may_begin}
 use Rattle.index_core.specs.declared.party.PartyState.{PartyState}
@@ -54,6 +57,7 @@ use Rattle.index_core.proofs.Freeing.{AboutToFree, only_frees, comes_from}
 use Rattle.index_core.proofs.InUse.{ends_counting, counted_none, in_use_weighs}
 use Rattle.index_core.proofs.Layering.{turn_of, map_own}
 use Rattle.index_core.proofs.Lists.{map_there, map_set, set_twice}
+use Rattle.index_core.proofs.Permuting.{beside_permuted, row_by_facts}
 use Rattle.index_core.proofs.Stepping.{set_states}
 
 -- The parties, of which one may have another turn.
@@ -86,11 +90,14 @@ module _ (s : Index) (i : ℕ) (state : PartyState) (turn : Option MakeTurn) (th
 
   -- an index with these words is one with this turn
   pub with_turn : (words : List ℕ) → IsIndex s → IsLayered (record { whole = record (footed s) { world = record (world s) { words = words } }; turns = set (layered s).turns i (turning_of turn) })
-      → LeavesNodes (facts (world s)) (facts (record (world s) { words = words })) → IfSome turn (IsTurnOf s.layout s.generation) → IsIndex (record s { words = words; states = states })
-  with_turn words is law leaves own_turn =
+      → LeavesNodes (facts (world s)) (facts (record (world s) { words = words })) → ((n : ℕ) → n < s.layout.nodes → IsLeft s.layout s.words words n)
+      → IfSome turn (IsTurnOf s.layout s.generation) → IsIndex (record s { words = words; states = states })
+  with_turn words is law leaves left own_turn =
       let own = is.states i state there in
       let after : IsLayered (layered (record s { words = words; states = states })) =
       subst IsLayered (layered_is words) law in
+      let permuted = beside_permuted s i state now there words (is.permuted, is.relying) after.whole.joint.lawful refl refl
+      (row_by_facts s.layout s.words words (map_of s.base) s.history (ap (λ (f : Facts). f.version) leaves.nodes) (ap (λ (f : Facts). f.now) leaves.nodes) (ap (λ (f : Facts). f.list) leaves.nodes) left) in
       record {
         lawful = after.whole.joint.lawful;
         whole = after.whole;
@@ -102,6 +109,8 @@ module _ (s : Index) (i : ℕ) (state : PartyState) (turn : Option MakeTurn) (th
         bounded = beside_bounded s i state turn state.recheck there is.bounded;
         named = is.named;
         rechecks = checks_set s.layout s.generation s.history s.history (omega arith) s.states i state now there refl is.rechecks;
+        permuted = permuted.0;
+        relying = permuted.1;
       }
 
 -- What the calls have lowered the weight by reads no status.
@@ -194,6 +203,11 @@ module _ (s : Index) (i : ℕ) (state : PartyState) (making : MakeTurn) (is : Is
   leaves : LeavesNodes (facts (world s)) (facts (turned (layered s) i action next).whole.world)
   leaves = turn_step_leaves (layered s) i (making_turning making) next action x layer at_turn small foot refl
 
+  -- nor does it touch a permutation
+  left : (n : ℕ) → n < s.layout.nodes → IsLeft s.layout s.words (acted s.layout s.words action) n
+  left n here = left_by s.layout s.words (acted s.layout s.words action) n
+      (λ offset low least most. turn_step_leaves_volatile (layered s) i (making_turning making) next action x n offset layer at_turn foot refl here most (λ e. omega arith) (λ e. omega arith))
+
   -- a turn that is done rests, as one that was never begun
   rests_then : (t : Turn MakeTurn TurnReply) → IsLayered (turned (layered s) i action (turning_made (making_terms making) t))
       → IsLayered (record { whole = (turned (layered s) i action next).whole; turns = set (layered s).turns i (turning_of (turn_after t)) })
@@ -251,7 +265,7 @@ module _ (s : Index) (i : ℕ) (state : PartyState) (making : MakeTurn) (is : Is
   pub turn_law : TurnLaw s i state making
   turn_law =
       let words = acted s.layout s.words action in
-      let kept = with_turn s i state (turn_after turn) there words is (rests_then turn steps.1) leaves (own_after turn (makings_stay_sound making x takes)) in
+      let kept = with_turn s i state (turn_after turn) there words is (rests_then turn steps.1) leaves left (own_after turn (makings_stay_sound making x takes)) in
       let same = parties_same s i state (turn_after turn) there in
       let keeps : LeavesNodes (facts (world s)) (facts (world (turned_index s i state making))) = record { nodes = leaves.nodes; frees = leaves.frees } in
       record {
@@ -275,6 +289,7 @@ turn_begins s i state stamp release is there none some_stamp fits =
     let at_turn : get_elem? (layered s).turns i ≡ some resting = map_there turn_of s.states i state there ∙ ap (λ (o : Option MakeTurn). some (turning_of o)) none in
     turn_start_keeps (layered s) i resting stamp release layer at_turn refl (λ no. omega (arith, no, some_stamp)))
     (record { nodes = refl; frees = λ n. inl refl })
+    (λ n here. left_same s.layout s.words s.words n refl)
     (record { sound = record { layout = is.lawful.row.layout; stamp = some_stamp }; layout = refl; generation = refl; stamp = fits })
 
 pub terms_may_be_set : TermsMayBeSet
@@ -289,6 +304,7 @@ terms_may_be_set s i state a b stamp release is there turns some_stamp fits =
       kept = with_turn s i state (Some making) there s.words is
           (terms_may_begin (layered s) i 0 (making_turning old) stamp release is.layered at_turn refl (λ no. omega (arith, no, some_stamp)))
           (record { nodes = refl; frees = λ n. inl refl })
+          (λ n here. left_same s.layout s.words s.words n refl)
           (record { sound = sound.0; layout = refl; generation = refl; stamp = fits });
       weighs = weight;
     }

@@ -33,11 +33,11 @@ pub record FoundNoNode (l : Layout) (g : ℕ) (told : List ℕ) : Type 0 where
   pub is : told ≡ before ++ (nodes ++ rest)
   pub all : AreInUse g nodes (l.nodes - 1)
 
--- The cause of each answer that says to make the call again. Another party has the node: the call was given this version
--- word, which isn't free. The node has changed: it was given one version word, and another one, by a load or by the
--- exchange that was to take the lock. It made twice as many hops as there are nodes, which is where a walk gives up. None
--- of its caller's log lines was EMPTY; no node was FREE. Its node was full, and is split now. No call is turned back by
--- the updater's lock or by the epoch.
+-- The cause of each answer that says to make the call again. Another party has the node: the call was given this
+-- version word, which isn't free. The node has changed: it was given one version word, and another one, by a load or by
+-- the exchange that was to take the lock. It made twice as many hops as there are nodes, which is where a walk gives
+-- up. None of its caller's log lines was EMPTY; no node was FREE. Its node was full, and is split now. No call is
+-- turned back by the updater's lock or by the epoch.
 abbrev pub HasCause : Layout → ℕ → List ℕ → Again → Type 0
 HasCause l g told (again.Locked node word) = Contains told word × (IsFree word g → ⊥)
 HasCause l g told (again.Moved node first second) = Contains told first × Contains told second × (second ≢ first)

@@ -100,8 +100,8 @@ IfRecheck (call.Part low count) P = Unit {0}
 IfRecheck (call.Recheck node version) P = P node version
 IfRecheck (call.Turn stamp release) P = Unit {0}
 
--- What this party may start: a caller any call on a name and a recheck of any node, and each party, also the updater's, a
--- turn that gives a stamp.
+-- What this party may start: a caller any call on a name and a recheck of any node, and each party, also the updater's,
+-- a turn that gives a stamp.
 abbrev pub MayStart : Layout → ℕ → CoreCall → Type 0
 MayStart l party c = ((party < l.callers) × MayBegin c) ⊎
     (IsTurnAnd c (λ stamp release. (party ≤ l.callers) × (1 ≤ stamp)) ⊎
@@ -109,9 +109,11 @@ MayStart l party c = ((party < l.callers) × MayBegin c) ⊎
 
 -- The machine that makes the call, before its first action.
 abbrev pub machine_of : View → CoreCall → Running
-machine_of view (call.Put name value limit) = Putting (put.Single (single_put.Looking (starts (new_call view name (Some limit))) value))
+machine_of view (call.Put name value limit) =
+    Putting (put.Single (single_put.Looking (starts (new_call view name (Some limit))) value))
 machine_of view (call.Get name) = Getting (get.Looking (starts (new_call view name None)))
-machine_of view (call.Del name limit) = Deleting (del.Single (single_del.Looking (starts (new_call view name (Some limit)))))
+machine_of view (call.Del name limit) =
+    Deleting (del.Single (single_del.Looking (starts (new_call view name (Some limit)))))
 machine_of view (call.Part low count) = Parting (part.Looking (starts (new_call view low None)) count None)
 machine_of view (call.Recheck node version) = Getting (get.Looking (starts (new_call view [] None)))
 machine_of view (call.Turn stamp release) = Getting (get.Looking (starts (new_call view [] None)))

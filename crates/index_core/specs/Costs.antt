@@ -18,8 +18,8 @@ use Rattle.index_core.specs.Lone.{HasShortWays, NeedsNoTurn}
 abbrev pub look_actions : Layout → ℕ → ℕ
 look_actions l hops = 4 * l.nodes + 3 * l.slots + 10 * hops + 40
 
--- Those of a put into its node, and of one that splits its node; those of a delete, which may merge two; and what a part
--- loads of its node.
+-- Those of a put into its node, and of one that splits its node; those of a delete, which may merge two; and what a
+-- part loads of its node.
 abbrev pub fill_actions : ℕ
 fill_actions = 57
 
@@ -59,8 +59,8 @@ room_actions l (call.Part low count) = list_actions l
 room_actions l (call.Recheck node version) = 1
 room_actions l (call.Turn stamp release) = 1
 
--- Those of a whole call that needs no turn of the updater, as so many log lines are READY: a put may split its node, and
--- is made again then.
+-- Those of a whole call that needs no turn of the updater, as so many log lines are READY: a put may split its node,
+-- and is made again then.
 abbrev pub most_actions : Layout → CoreCall → ℕ → ℕ
 most_actions l (call.Put name value limit) lines =
     look_actions l lines + split_actions + (look_actions l (lines + 1) + fill_actions)
@@ -70,8 +70,8 @@ most_actions l (call.Part low count) lines = look_actions l lines + list_actions
 most_actions l (call.Recheck node version) lines = look_actions l lines + 1
 most_actions l (call.Turn stamp release) lines = look_actions l lines + 1
 
--- Those of a turn of the updater: so many for each log line, most of them in the walk to the node of its anchor and in the
--- search layer, and six for each node.
+-- Those of a turn of the updater: so many for each log line, most of them in the walk to the node of its anchor and in
+-- the search layer, and six for each node.
 abbrev pub turn_actions : Layout → ℕ
 turn_actions l = 120000 * (8 * l.callers) + 6 * l.nodes
 

@@ -1,6 +1,7 @@
 -- What evictions do and a crash leaves, over plain data. Whoever keeps the words, in a core or in a table that threads
 -- share, rests on these.
-use Rattle.std.specs.Prelude.{◌≡◌, ℕ, zero, suc, ◌+◌, ◌/◌, ◌%◌, ◌^◌, ◌<◌, ◌==◌, Bool, true, false, if◌then◌else◌, List, Some, IfSome}
+use Rattle.std.specs.Prelude.{◌≡◌, ℕ, zero, suc, ◌+◌, ◌/◌, ◌%◌, ◌^◌, ◌<◌, ◌==◌, Bool, true, false, if◌then◌else◌}
+use Rattle.std.specs.Prelude.{List, Some, IfSome}
 use mathlib.Core.Option.{some}
 use lib.ListN.{get_elem?}
 use Rattle.call_stages.specs.Stages.{placed_in}
@@ -62,8 +63,10 @@ CrashKeepsGeneration = (s : Index) → IsIndex s →
 
 -- A call in flight whose write has its place began below its limit, if it has one.
 abbrev pub TimelyIn : ℕ → Running → Type 0
-TimelyIn since machine = IfSome (placed_in (stage_of machine)) (λ _. IfSome (running_call machine).limit (λ most. since < most))
+TimelyIn since machine = IfSome (placed_in (stage_of machine))
+    (λ _. IfSome (running_call machine).limit (λ most. since < most))
 
 abbrev pub PlacedAreTimely : Type 0
-PlacedAreTimely = (s : Index) (i : ℕ) (state : PartyState) (machine : Running) → IsIndex s → get_elem? s.states i ≡ some state →
+PlacedAreTimely = (s : Index) (i : ℕ) (state : PartyState) (machine : Running) → IsIndex s →
+    get_elem? s.states i ≡ some state →
     state.machine ≡ Some machine → TimelyIn state.since machine

@@ -15,8 +15,8 @@ use Rattle.index_core.specs.Lone.{IsQuiet}
 use Rattle.index_core.specs.Schedules.{BegunCall, AnsweredCall, Runs}
 use Rattle.index_core.specs.Turns.{IsToFree, MayFree, TurnSteps, turn_told}
 
--- At an earlier moment of the schedule the party's turn made the step that led it to where it is. Then the node was GONE,
--- and had a stamp that the turn releases.
+-- At an earlier moment of the schedule the party's turn made the step that led it to where it is. Then the node was
+-- GONE, and had a stamp that the turn releases.
 pub record WasReleased (first : Index) (party : ℕ) (making : MakeTurn) (n : ℕ) : Type 0 where
   pub begun : List BegunCall
   pub calls : List AnsweredCall

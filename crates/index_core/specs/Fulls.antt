@@ -14,8 +14,8 @@ use Rattle.index_core.specs.Lone.{FindsNoRoom, IsQuiet, locks_left}
 abbrev pub HasLowStamps : Index → Type 0
 HasLowStamps s = (n : ℕ) → n < s.layout.nodes → stamp_in (world s) n ≤ 1
 
--- With no call in flight, a lock left of each node, and no stamp above 1, a put finds no room exactly where it is full in
--- the shape, of which as many members may be as there are nodes.
+-- With no call in flight, a lock left of each node, and no stamp above 1, a put finds no room exactly where it is full
+-- in the shape, of which as many members may be as there are nodes.
 abbrev pub NoRoomIsFullPut : Type 0
 NoRoomIsFullPut = (s : Index) (name : List ℕ) (value limit : ℕ) → IsIndex s → IsQuiet s → IsName name →
     0 < locks_left s → HasLowStamps s → FindsNoRoom (call.Put name value limit) s ↔

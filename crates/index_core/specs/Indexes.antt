@@ -34,6 +34,7 @@ use Rattle.index_law.specs.Whole.{Whole, IsWhole}
 use Rattle.index_law.specs.Footings.{AreTended}
 use Rattle.index_law.specs.Weights.{AddsName, RisesBy, weight_sum}
 use Rattle.index_layer_law.specs.Layers.{Layered, IsLayered}
+use Rattle.permutation_law.specs.Permuted.{Permuted, IsPermuted}
 use Rattle.updater.specs.declared.making.MakeTurn.{MakeTurn}
 use Rattle.index_core.specs.declared.party.CoreCall.{CoreCall}
 use Rattle.index_core.specs.declared.party.PartyState.{PartyState}
@@ -43,7 +44,9 @@ use Rattle.index_core.specs.Answers.{SaysOf}
 use Rattle.index_core.specs.Heard.{HearsOn}
 use Rattle.index_core.specs.CoreCalls.{machine_of, op_of}
 use Rattle.index_core.specs.Listings.{ListsAt}
-use Rattle.index_core.specs.PartyStates.{machine_footing, turning_of, party_of, state_with, state_after, stepped_of, owed}
+use Rattle.index_core.specs.Permuting.{AreRelying, sortings_of}
+use Rattle.index_core.specs.PartyStates.{machine_footing, turning_of, party_of, state_with, state_after, stepped_of}
+use Rattle.index_core.specs.PartyStates.{owed}
 use Rattle.index_core.specs.PartyStates.{answered_by, AreRechecksOf, IsPartyState}
 
 pub record Index : Type 0 where
@@ -77,6 +80,10 @@ footed s = record {
 -- With its search layer, and the turns that its parties make.
 abbrev pub layered : Index → Layered
 layered s = record { whole = footed s; turns = map (λ (state : PartyState). turning_of state.turn) s.states }
+
+-- With what each party has made of the permutation of the node that it holds.
+abbrev pub permuted : Index → Permuted
+permuted s = record { world = world s; sortings = sortings_of s.states }
 
 -- The map as it is.
 abbrev pub map_of_index : Index → Map
@@ -125,6 +132,9 @@ pub record IsIndex (s : Index) : Type 0 where
   pub bounded : IsBounded (parties_of s.layout) s.states s.history
   pub named : (place : ℕ) → HasNames (after (map_of s.base) s.history place)  -- the map at each place, too
   pub rechecks : AreRechecksOf s.layout s.generation s.history s.states
+  -- where a permutation's version is its free node's version word, it has the node's live slots in order
+  pub permuted : IsPermuted (permuted s)
+  pub relying : AreRelying s.layout s.generation (facts (world s)) s.words s.states  -- and each party's reading stands
 
 -- The party's call, and the party that makes it.
 pub record IsInFlight (s : Index) (party : ℕ) : Type 0 where

@@ -1,5 +1,6 @@
 pub mod CoreCalls
 pub mod PartyStates
+pub mod Permuting
 pub mod InFlight
 pub mod Answers
 pub mod Causes

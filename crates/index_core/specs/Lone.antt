@@ -65,7 +65,8 @@ pub record IsQuiet (s : Index) : Type 0 where
   pub turns : HasNoTurns s
   pub rechecks : HasNoRechecks s
 
--- What a party may call with nothing else in flight: what it may start, and of rechecks those that find the version word.
+-- What a party may call with nothing else in flight: what it may start, and of rechecks those that find the version
+-- word.
 abbrev pub MayRunAlone : Index → ℕ → CoreCall → Type 0
 MayRunAlone s party c = ((party < s.layout.callers) × MayBegin c) ⊎
     (IsTurnAnd c (λ stamp release. (party ≤ s.layout.callers) × (1 ≤ stamp)) ⊎
@@ -86,8 +87,8 @@ pub record IsStill (party : ℕ) (s : Index) : Type 0 where
       (state.turn ≡ None) ⊎ ((i ≢ party) × HoldsLock state.turn)
   pub rechecks : HasNoRechecks s
 
--- How many more times its nodes can be locked in this run of the index: the fewest of any node. Each try of a call takes
--- one of each node at most.
+-- How many more times its nodes can be locked in this run of the index: the fewest of any node. Each try of a call
+-- takes one of each node at most.
 abbrev pub locks_left : Index → ℕ
 locks_left s = locks_in (world s)
 
@@ -157,8 +158,8 @@ SplitsNothing (call.Put name value limit) s =
     splits s.layout.slots (map_of_index s) (anchors_in (world s)) name ≡ false
 SplitsNothing _ s = Unit {0}
 
--- It is a delete that merges the node of its name with the next one, which can be locked, and leaves the shape that such
--- a delete leaves.
+-- It is a delete that merges the node of its name with the next one, which can be locked, and leaves the shape that
+-- such a delete leaves.
 abbrev pub MergesFor : CoreCall → Index → Index → Type 0
 MergesFor (call.Del name limit) s new =
     ((merges s.layout.slots (map_of_index s) (anchors_in (world s)) name ≡ true) × ¬ NextIsWorn (world s) name) ×
@@ -177,8 +178,8 @@ KeepsStamps s new = (n : ℕ) → n < s.layout.nodes →
     (stamp_in (world new) n ≡ stamp_in (world s) n) ⊎ (stamp_in (world new) n ≤ 1)
 
 -- The node is that of the name, with this version word, from which no lock can be taken any more. So it was before the
--- call; or the call was made again, and its own tries, of which it makes fewer than so many before the last one, took the
--- last locks of some node.
+-- call; or the call was made again, and its own tries, of which it makes fewer than so many before the last one, took
+-- the last locks of some node.
 abbrev pub IsWornNode : ℕ → Index → ℕ → CoreCall → Index → ℕ → ℕ → Type 0
 IsWornNode tries s caller c new node word =
     (FindsWornNode c s × (node ≡ node_for s (name_asked (op_of c))) × (word ≡ version_in s.layout s.words node) ×
@@ -198,8 +199,8 @@ pub record IsWholePart (s : Index) (low : List ℕ) (count : ℕ) (new : Index) 
   pub lists : ListsRange (map_of_index s) low count words
   pub compared : words.compared ≡ length (names_at (map_of_index s) (anchors_in (world s)) low)
 
--- The call needs no turn of the updater: it is a get or a part of a scan, or its caller has a log line that is EMPTY and,
--- for a put, some node is FREE that can be locked.
+-- The call needs no turn of the updater: it is a get or a part of a scan, or its caller has a log line that is EMPTY
+-- and, for a put, some node is FREE that can be locked.
 abbrev pub NeedsNoTurn : ℕ → CoreCall → Index → Type 0
 NeedsNoTurn caller (call.Put name value limit) s =
     HasLine s.layout s.words caller × HasFree s.layout s.generation s.words
@@ -227,9 +228,9 @@ pub record TriesAlone (old : Index) (caller : ℕ) (c : CoreCall) (new : Index) 
   pub ways : LengthenWithin (world old) (world new)
   pub weighs : weight_of new ≤ weight_of old + added_by (op_of c) answer
 
--- From the node to which the search layer leads a name, the way to the name's node is no longer than log lines are READY.
--- So it is of an index that was recovered, or behind a turn of the updater that was made alone, and stays so behind lone
--- calls, where a word becomes durable, and where another round begins.
+-- From the node to which the search layer leads a name, the way to the name's node is no longer than log lines are
+-- READY. So it is of an index that was recovered, or behind a turn of the updater that was made alone, and stays so
+-- behind lone calls, where a word becomes durable, and where another round begins.
 abbrev pub HasShortWays : Index → Type 0
 HasShortWays s = WaysAreShort (world s)
 
@@ -267,7 +268,8 @@ IsWholeAnswer tries s caller c new (whole.Placed placed) =
     × (placed.old ≡ at (map_of_index s) (name_asked (op_of c))) × (placed.place ≡ length s.history) ×
     LandsIn s caller c new placed
 
--- A walk makes no more hops than log lines are READY: as the call ends for a put or a delete, and as it begins for others.
+-- A walk makes no more hops than log lines are READY: as the call ends for a put or a delete, and as it begins for
+-- others.
 abbrev pub HopsAreFew : CoreCall → Index → Index → ℕ → Type 0
 HopsAreFew (call.Put name value limit) s new hops = hops ≤ ready_lines (world new)
 HopsAreFew (call.Del name limit) s new hops = hops ≤ ready_lines (world new)

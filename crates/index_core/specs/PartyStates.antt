@@ -125,8 +125,8 @@ abbrev pub stepped_of : Running → Turn Running (Once Placed) → Stepped
 stepped_of machine (Go next) = Going
 stepped_of machine (Done answer) = Answered (reply_with (count_in machine) (listed_in machine) answer)
 
--- What the try of a call on a name was answered, which of a part is the answer of a get of its low name. No such call is
--- answered as a recheck or a turn of the updater is (`stepped_of`), so what stands for those says nothing.
+-- What the try of a call on a name was answered, which of a part is the answer of a get of its low name. No such call
+-- is answered as a recheck or a turn of the updater is (`stepped_of`), so what stands for those says nothing.
 abbrev pub answer_in : CoreReply → Once Placed
 answer_in (reply.Placed answer) = answer
 answer_in (reply.Part answer) = placed_of answer
@@ -206,8 +206,8 @@ turn_stepped (Some turned) = Answered (reply.Turn turned)
 abbrev pub state_turned : PartyState → Turn MakeTurn TurnReply → PartyState
 state_turned state turn = record state { turn = turn_after turn }
 
--- The recheck in flight after a turn of its machine, which began as the history was so long, and its answer, if that ends
--- it.
+-- The recheck in flight after a turn of its machine, which began as the history was so long, and its answer, if that
+-- ends it.
 abbrev pub recheck_after : ℕ → Turn Recheck (Once Same) → Option Rechecking
 recheck_after since (Go recheck) = Some (record { since = since; machine = recheck })
 recheck_after since (Done answer) = None

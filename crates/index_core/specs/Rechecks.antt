@@ -81,8 +81,8 @@ abbrev pub RechecksGoOn : Type 0
 RechecksGoOn = (s : Index) (since : ℕ) (r next : Recheck) → IsIndex s → IsRecheckOf s r →
     RecheckSure since s.history r → recheck_turned r (recheck_told s r) ≡ Go next → RecheckSure since s.history next
 
--- It is answered exactly by whether it finds the version word that it was handed. If so, each known part that tells this
--- word of this node lists what the map has at each place from the part's on to the recheck's.
+-- It is answered exactly by whether it finds the version word that it was handed. If so, each known part that tells
+-- this word of this node lists what the map has at each place from the part's on to the recheck's.
 abbrev pub RechecksAreAnswered : Type 0
 RechecksAreAnswered = (s : Index) (since : ℕ) (r : Recheck) (answer : Once Same) → IsIndex s → IsRecheckOf s r →
     RecheckSure since s.history r → recheck_turned r (recheck_told s r) ≡ Done answer →
@@ -92,16 +92,16 @@ abbrev pub SameTells : Type 0
 SameTells = (s : Index) (since : ℕ) (r : Recheck) (same : Same) (k : KnownPart) → IsIndex s → IsRecheckOf s r →
     RecheckSure since s.history r → recheck_turned r (recheck_told s r) ≡ Done (once.Done same) → Knows s k →
     k.words.node ≡ recheck_node r → k.words.version ≡ recheck_version r →
-    IsSameAt (map_of s.base) s.history k same.place
+    IsSameAt s.layout.slots (map_of s.base) s.history k same.place
 
 -- Of the history it is enough to have what comes before the place, and what comes behind it changes nothing.
 abbrev pub SameIsSoon : Type 0
-SameIsSoon = (base : Map) (seen more : List Write) (k : KnownPart) (place : ℕ) → place ≤ length seen →
-    IsSameAt base (seen ++ more) k place → IsSameAt base seen k place
+SameIsSoon = (slots : ℕ) (base : Map) (seen more : List Write) (k : KnownPart) (place : ℕ) → place ≤ length seen →
+    IsSameAt slots base (seen ++ more) k place → IsSameAt slots base seen k place
 
 abbrev pub SameOutlasts : Type 0
-SameOutlasts = (base : Map) (seen more : List Write) (k : KnownPart) (place : ℕ) → place ≤ length seen →
-    IsSameAt base seen k place → IsSameAt base (seen ++ more) k place
+SameOutlasts = (slots : ℕ) (base : Map) (seen more : List Write) (k : KnownPart) (place : ℕ) → place ≤ length seen →
+    IsSameAt slots base seen k place → IsSameAt slots base (seen ++ more) k place
 
 -- The index once the party has begun a recheck of this node, with this version word.
 abbrev pub recheck_begun : Index → ℕ → PartyState → ℕ → ℕ → Index
@@ -119,7 +119,8 @@ pub record StartsRecheck (old : Index) (party node version : ℕ) (new : Index) 
 -- The index once the party's recheck has done its action: it has changed no word.
 abbrev pub rechecked_index : Index → ℕ → PartyState → Rechecking → Index
 rechecked_index s party state r = record s {
-  states = slice_set s.states party (state_rechecked state r.since (recheck_turned r.machine (recheck_told s r.machine)));
+  states = slice_set s.states party
+      (state_rechecked state r.since (recheck_turned r.machine (recheck_told s r.machine)));
 }
 
 -- The same recheck.
@@ -133,8 +134,9 @@ abbrev pub GoesOnSame : Recheck → Turn Recheck (Once Same) → Type 0
 GoesOnSame r (Go next) = IsSameRecheck r next
 GoesOnSame r (Done answer) = Unit {0}
 
--- One step of the party's recheck, and its answer, if that ends it: that all is the same exactly where the node's version
--- word, loaded behind the clock, is the one that it was handed, at a place of its time; and else that the node moved.
+-- One step of the party's recheck, and its answer, if that ends it: that all is the same exactly where the node's
+-- version word, loaded behind the clock, is the one that it was handed, at a place of its time; and else that the node
+-- moved.
 pub record RecheckSteps (old : Index) (party : ℕ) (new : Index) (result : Option (Once Same)) : Type 0 where
   pub state : PartyState
   pub rechecking : Rechecking

@@ -97,8 +97,8 @@ AreApart told = (i j : ℕ) (t u : Told) → get_elem? told i ≡ some t → get
     t.what.caller ≡ u.what.caller → (m n p : ℕ) → Contains t.numbers m → Contains u.numbers n →
     Contains t.numbers p → m ≤ n → n ≤ p → ⊥
 
--- Each put and delete that took place is told, and with them as many as one likes of the reads, alone or as the parts of
--- scans, and of the calls that were spent or found no room: a put that goes on trying tells only its end.
+-- Each put and delete that took place is told, and with them as many as one likes of the reads, alone or as the parts
+-- of scans, and of the calls that were spent or found no room: a put that goes on trying tells only its end.
 pub record AreTold (calls : List AnsweredCall) (told : List Told) : Type 0 where
   pub each : (i : ℕ) (t : Told) → get_elem? told i ≡ some t → IsToldCall calls t ⊎ IsToldScan calls t
   pub apart : AreApart told

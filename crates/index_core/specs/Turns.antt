@@ -122,7 +122,8 @@ TurnBegins = (s : Index) (party : ℕ) (state : PartyState) (stamp release : ℕ
     get_elem? s.states party ≡ some state → state.turn ≡ None → 1 ≤ stamp → stamp < 2 ^ 64 →
     IsIndex (turn_begun s party state stamp release)
 
--- The index once the party's turn, which has the updater lock and has done nothing under it, has this stamp and release.
+-- The index once the party's turn, which has the updater lock and has done nothing under it, has this stamp and
+-- release.
 abbrev pub with_terms : Index → ℕ → PartyState → ℕ → ℕ → Index
 with_terms s party state stamp release = record s {
   states = slice_set s.states party (record state {

@@ -139,7 +139,8 @@ TriesInTime s c result budget before after = HasShortWays s →
     (¬ FindsFull (world s) (op_of c) → ComesInTime result budget before after
     (look_actions s.layout (ready_lines (world s)) + room_actions s.layout c))
 
--- A crash behind a call that was cut off may find that call's own change, where it has no place yet, and behind a turn none.
+-- A crash behind a call that was cut off may find that call's own change, where it has no place yet, and behind a turn
+-- none.
 abbrev pub CutLeavesOne : Type 0
 CutLeavesOne = (old new : Index) (i : ℕ) (c : CoreCall) → IsStill i old → (t : CutsOff old i c new) →
     cut_changes new.states ≡ cut_change t.cut.machine

@@ -10,8 +10,8 @@ use std::marker::Model;
 /// The machine of a party's call in flight, if it has one.
 ///
 /// The room of a machine is some 2 KB, for the words of a node that it splits, merges or lists. So it is kept as a call
-/// ends, one for each kind of call, and the next call of that kind begins in its place: nothing is cleared or copied then
-/// but the few words of a look-up.
+/// ends, one for each kind of call, and the next call of that kind begins in its place: nothing is cleared or copied
+/// then but the few words of a look-up.
 #[derive(Drop)]
 pub struct Flight {
     /// The machine of the last call of each kind.

@@ -14,8 +14,8 @@ use pm_words::{Image, NoMemory};
 use std::alloc::Global;
 
 impl Core {
-    /// The image of the words as they are, whichever of them are durable, with no call and no turn in flight. It is sound
-    /// by all rules, and keeps the map, the anchors and the log lines of the index. The index stays as it is.
+    /// The image of the words as they are, whichever of them are durable, with no call and no turn in flight. It is
+    /// sound by all rules, and keeps the map, the anchors and the log lines of the index. The index stays as it is.
     pub fn image(&self, alloc: Global) -> Result<Image, NoMemory>
         requires quiet { IsQuiet self.now }
         ensures words { IfOk result (λ image.

@@ -110,8 +110,8 @@ impl Core {
     }
 
     /// An index of these words, in the run that their header tells, with this base and this history. No call is in
-    /// flight, and each party's calls are counted from 0: `states` has the parties, as `idle_states` makes them. `spare`
-    /// is what room the history has.
+    /// flight, and each party's calls are counted from 0: `states` has the parties, as `idle_states` makes them.
+    /// `spare` is what room the history has.
     pub fn opened(
         memory: Memory,
         base: Items<Pair>,
@@ -162,9 +162,9 @@ impl Core {
     /// Returns whether the call goes on or is answered. A call that took place is answered with the number of its name
     /// in the map at its place, which lies in the call's time, and its write stands in the history there. A part of a
     /// scan that took place lists the names that the map at its place has up to where its node ends. A turn of the
-    /// updater leaves the map, the history and the list. A recheck changes nothing, and is answered `Same` exactly where
-    /// the node's version word, loaded after the clock, is the one that was handed in. Any other call is told its cause,
-    /// and a put or delete gives the room for its write back to `spare`.
+    /// updater leaves the map, the history and the list. A recheck changes nothing, and is answered `Same` exactly
+    /// where the node's version word, loaded after the clock, is the one that was handed in. Any other call is told its
+    /// cause, and a put or delete gives the room for its write back to `spare`.
     pub fn step<L: Ledger>(&mut self, party: u64, steps: &mut Steps<L>) -> Stepped
         requires flies { IsBusy self.old party }
         ensures stepped { IsInFlight self.old party → StepsTo self.old party self.new result }
@@ -259,8 +259,8 @@ impl Core {
         }
     }
 
-    /// Takes one step of the party's call on a name, which is in flight, and returns its answer, if it is answered. What
-    /// a part lists its machine tells before this.
+    /// Takes one step of the party's call on a name, which is in flight, and returns its answer, if it is answered.
+    /// What a part lists its machine tells before this.
     pub(crate) fn turn<L: Ledger>(
         &mut self,
         party: u64,
@@ -296,8 +296,8 @@ impl Core {
         self.memory.evict(word);
     }
 
-    /// Power fails now. Returns the durable words, which are an image that is sound by all rules, and the calls that were
-    /// cut off. Its map is that of the whole history and of the unplaced writes that the image shows.
+    /// Power fails now. Returns the durable words, which are an image that is sound by all rules, and the calls that
+    /// were cut off. Its map is that of the whole history and of the unplaced writes that the image shows.
     pub fn crash(self) -> Crashed
         ensures { IsCrash self result.image result.cuts }
     {

@@ -118,7 +118,8 @@ pub fn turn_law()
 
 ghost use Rattle.index_core.specs.Opened.{OpeningIsIndex, OpeningIsUnused};
 
-/// The words of a recovered image, whose volatile ones tell its list, are an index, in whose run no node was locked yet.
+/// The words of a recovered image, whose volatile ones tell its list, are an index, in whose run no node was locked
+/// yet.
 pub fn opening_law()
     ensures index { OpeningIsIndex }
     ensures unused { OpeningIsUnused }
@@ -126,10 +127,10 @@ pub fn opening_law()
 
 ghost use Rattle.index_core.specs.Logs.{LogIsCounted, QuietHasNoneOpen, RoomNeedsNoTurn};
 
-/// With nothing in flight each log line is EMPTY or READY. A lone call that needs no turn of the updater leaves one line
-/// more READY, and one of its caller's fewer EMPTY, where it splits or merges by the shape, and else as many as there
-/// were. It needs none where its caller has an EMPTY line, a lock is left of each node, and some node is neither listed
-/// nor GONE.
+/// With nothing in flight each log line is EMPTY or READY. A lone call that needs no turn of the updater leaves one
+/// line more READY, and one of its caller's fewer EMPTY, where it splits or merges by the shape, and else as many as
+/// there were. It needs none where its caller has an EMPTY line, a lock is left of each node, and some node is neither
+/// listed nor GONE.
 pub fn log_law()
     ensures none_open { QuietHasNoneOpen }
     ensures counted { LogIsCounted }
@@ -140,8 +141,8 @@ ghost use Rattle.index_core.specs.Rechecks.{PartsBecomeKnown, StepsKeepKnown, Tu
 ghost use Rattle.index_core.specs.Rechecks.{RechecksAct, RechecksGoOn, RechecksAreAnswered, SameTells};
 ghost use Rattle.index_core.specs.Rechecks.{SameIsSoon, SameOutlasts};
 
-/// A part that is done is known: while its node's version word is the one that it tells, the map is the same on its node's
-/// range. Each step of a call and each step of a turn keeps that.
+/// A part that is done is known: while its node's version word is the one that it tells, the map is the same on its
+/// node's range. Each step of a call and each step of a turn keeps that.
 pub fn known_law()
     ensures begins { PartsBecomeKnown }
     ensures steps { StepsKeepKnown }
@@ -168,8 +169,8 @@ pub fn evict_law()
 {}
 
 /// The durable words of an index, whatever is in flight, are an image that is sound by all rules, in the generation of
-/// its run. Its map is the one after the whole history and after those of the unplaced writes in flight that are found in
-/// it, and it weighs no more than the index.
+/// its run. Its map is the one after the whole history and after those of the unplaced writes in flight that are found
+/// in it, and it weighs no more than the index.
 pub fn crash_image_law()
     ensures leaves { CrashLeaves }
     ensures generation { CrashKeepsGeneration }
@@ -180,8 +181,8 @@ pub fn timely_law()
     ensures { PlacedAreTimely }
 {}
 
-/// A crash behind a call that was cut off with no other in flight may find that call's own change, where it has no place
-/// yet, and behind a turn of the updater none.
+/// A crash behind a call that was cut off with no other in flight may find that call's own change, where it has no
+/// place yet, and behind a turn of the updater none.
 pub fn cut_law()
     ensures call { CutLeavesOne }
     ensures turn { CutTurnLeavesNone }
@@ -192,8 +193,8 @@ ghost use Rattle.index_core.specs.Freeing.{FreedWereReleased, StepsFreeReleased}
 /// The node of a merge becomes FREE again by its stamp.
 ///
 /// A schedule begins with an index in which no call and no turn is in flight. A step of a call makes no node FREE
-/// (`IsTurn`). One of a turn of the updater makes at most that node FREE whose stamp the turn has taken away in its step
-/// before. The node is GONE in both, and its stamp was other than 0 and at most the turn's release.
+/// (`IsTurn`). One of a turn of the updater makes at most that node FREE whose stamp the turn has taken away in its
+/// step before. The node is GONE in both, and its stamp was other than 0 and at most the turn's release.
 pub fn freed_law()
     ensures released { FreedWereReleased }
     ensures steps { StepsFreeReleased }

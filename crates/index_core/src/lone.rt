@@ -1,7 +1,7 @@
 //! Calls that are made with no other in flight.
 //!
-//! A call on one name answers little, and what a part of a scan lists takes some 2 KB. So each has a function of its own,
-//! as a turn of the updater has, and a call on a name clears no such room.
+//! A call on one name answers little, and what a part of a scan lists takes some 2 KB. So each has a function of its
+//! own, as a turn of the updater has, and a call on a name clears no such room.
 
 ghost use Rattle.std.specs.Prelude.{◌≡◌, ◌+◌, ◌<◌, ◌≤◌, length, None};
 ghost use Rattle.index_core.specs.declared.party.CoreCall.TheVariants as CoreCall;
@@ -22,26 +22,26 @@ use node_ops::{Part, PartWords};
 use pm_words::Steps;
 use std::sync::ledger::Ledger;
 
-/// The stamp that the updater's turns of a party that is alone give to merged nodes, and the greatest that they release:
-/// what is merged by then is FREE at once, since nobody else is about.
+/// The stamp that the updater's turns of a party that is alone give to merged nodes, and the greatest that they
+/// release: what is merged by then is FREE at once, since nobody else is about.
 pub const LONE_STAMP: u64 = 1;
 
 impl Core {
     /// A whole call of a party, with no other in flight. A turn of the updater is answered `Turned`, and leaves what
-    /// `turn_alone` says. A recheck, which is of a node with this very version word, is answered `Same` at the length of
-    /// the history, and changes nothing. Of a caller's call on a name the answer is told by its cause: the locks of the node are
-    /// used up, else the clock has reached the limit, else there is no room for a new name, else it takes place. A put
-    /// that finds its node full splits it, and is made again. A delete merges the node of its name with the next one
-    /// where both together are left with at most half as many names as a node has slots. A part of a scan lists the
-    /// names of its low name's node from that one on. Of `spare` a call takes one for a write that it places, and none
-    /// otherwise.
+    /// `turn_alone` says. A recheck, which is of a node with this very version word, is answered `Same` at the length
+    /// of the history, and changes nothing. Of a caller's call on a name the answer is told by its cause: the locks of
+    /// the node are used up, else the clock has reached the limit, else there is no room for a new name, else it takes
+    /// place. A put that finds its node full splits it, and is made again. A delete merges the node of its name with
+    /// the next one where both together are left with at most half as many names as a node has slots. A part of a scan
+    /// lists the names of its low name's node from that one on. Of `spare` a call takes one for a write that it places,
+    /// and none otherwise.
     ///
     /// Where the caller has no EMPTY log line, or no node is FREE, the updater's party makes a turn, which empties the
     /// log and frees merged nodes, and the call is made again. So it finds no room only where no turn could help.
     ///
-    /// A call that needs no turn (`NeedsNoTurn`) keeps the search layer. It leaves one log line of its caller READY that
-    /// was EMPTY, if it splits or merges, also where its node is worn when it is made again; and no other line's state
-    /// changes.
+    /// A call that needs no turn (`NeedsNoTurn`) keeps the search layer. It leaves one log line of its caller READY
+    /// that was EMPTY, if it splits or merges, also where its node is worn when it is made again; and no other line's
+    /// state changes.
     ///
     /// It makes at least one step, which `steps` counts, as do the calls below. On an index whose ways are short a call
     /// that needs no turn, and isn't answered that a node is worn, makes no more than `most_actions`: on the largest

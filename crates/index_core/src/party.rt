@@ -22,7 +22,8 @@ pub enum CoreCall {
     Part { low: Name, count: u64 },
     /// Tells whether the node's version word is still this one, which a part of a scan has told.
     Recheck { node: u64, version: u64 },
-    /// A turn of the updater, which gives merged nodes the stamp, and makes those FREE whose stamp is at most `release`.
+    /// A turn of the updater, which gives merged nodes the stamp, and makes those FREE whose stamp is at most
+    /// `release`.
     Turn { stamp: u64, release: u64 },
 }
 
@@ -82,8 +83,8 @@ pub enum Whole {
     Same { place: u64 },
     /// What a turn of the updater has done: alone it is never held back.
     Turned(Turned),
-    /// A put found no room: the map lacks the name, its node has as many names as slots, no FREE node can be locked, and
-    /// no turn of the updater would make one FREE.
+    /// A put found no room: the map lacks the name, its node has as many names as slots, no FREE node can be locked,
+    /// and no turn of the updater would make one FREE.
     Full,
     /// The clock had reached the call's limit.
     Spent { clock: u64 },
@@ -166,7 +167,8 @@ impl PartyState {
     ghost use Rattle.node_ops.specs.CallStages.{reply_of};
     ghost use Rattle.node_ops.specs.RunningSteps.{IsRunning, running_left, running_takes, running_turned};
     ghost use Rattle.index_core.specs.CoreCalls.{MayBegin, machine_of, op_of};
-    ghost use Rattle.index_core.specs.PartyStates.{idle_state, is_busy, state_with, state_after, state_counted, index_after};
+    ghost use Rattle.index_core.specs.PartyStates.{idle_state, is_busy, state_with, state_after, state_counted};
+    ghost use Rattle.index_core.specs.PartyStates.{index_after};
 
     /// A party that has made no call.
     pub(crate) fn idle(caller: u64) -> PartyState

@@ -1,7 +1,7 @@
 //! Rechecks: whether what a part of a scan was told of its node is so still.
 //!
-//! A recheck loads two words and changes none. It is a call among others: it may be begun and stepped beside them, or be
-//! made whole.
+//! A recheck loads two words and changes none. It is a call among others: it may be begun and stepped beside them, or
+//! be made whole.
 
 ghost use Rattle.std.specs.Prelude.{◌≡◌, ◌≢◌, ℕ, ◌+◌, ◌<◌, ◌↔◌, length, IsErr, None, OnErr, OnOk};
 ghost use Rattle.index_core.specs.Indexes.{IsBusy, IsIndex, IsRechecking};

@@ -6,7 +6,8 @@ ghost use Rattle.index_core.specs.CrashLaws.{evicted_by, is_chosen};
 
 use pm_words::Memory;
 
-/// Whether the seed chooses this word of an image: seed 0 none, seed 1 each, and another seed those that have a bit of 1.
+/// Whether the seed chooses this word of an image: seed 0 none, seed 1 each, and another seed those that have a bit of
+/// 1.
 pub fn is_chosen(seed: u64, word: u64) -> bool
     requires { word < 2 ^ 62 }
     ensures { result ≡ is_chosen seed word }

@@ -37,10 +37,11 @@ impl Core {
         Ok(())
     }
 
-    /// A whole turn of the updater by the party, with nothing else in flight. It leaves every log line EMPTY, the search
-    /// layer with the anchors of the listed nodes alone, and each GONE node FREE that isn't worn and whose stamp is at most
-    /// `release`, where one that had no stamp has got this one. The map, the list and the history stay. From where the search
-    /// layer leads then no walk makes a hop. It makes at least one step and at most `turn_actions`, which `steps` counts.
+    /// A whole turn of the updater by the party, with nothing else in flight. It leaves every log line EMPTY, the
+    /// search layer with the anchors of the listed nodes alone, and each GONE node FREE that isn't worn and whose stamp
+    /// is at most `release`, where one that had no stamp has got this one. The map, the list and the history stay. From
+    /// where the search layer leads then no walk makes a hop. It makes at least one step and at most `turn_actions`,
+    /// which `steps` counts.
     pub fn turn_alone<L: Ledger>(
         &mut self,
         party: u64,

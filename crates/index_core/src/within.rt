@@ -43,8 +43,8 @@ impl Core {
     ///
     /// On an index whose ways are short a call that needs no turn makes no more than `most_actions`, whatever it is
     /// answered, and is cut off only with a budget below that; so is a turn of the updater with one below
-    /// `turn_actions`, where no other turn is in flight. A recheck is made again as long as it finds another version word
-    /// than the one that was handed in; nothing changes that word meanwhile, so then it is cut off.
+    /// `turn_actions`, where no other turn is in flight. A recheck is made again as long as it finds another version
+    /// word than the one that was handed in; nothing changes that word meanwhile, so then it is cut off.
     pub fn run_within<L: Ledger>(
         &mut self,
         caller: u64,
@@ -69,7 +69,8 @@ impl Core {
             (λ whole. RechecksAlone self.old node version self.new whole)
             (CutsRecheckOff self.old caller node version self.new)
             (self.new ≡ self.old)) }
-        ensures budget { EndsWithin result (λ whole. 0 < budget.old) ((0 < budget.old) × (budget.new ≡ 0)) (budget.old ≡ 0) }
+        ensures budget { EndsWithin result (λ whole. 0 < budget.old) ((0 < budget.old) ×
+            (budget.new ≡ 0)) (budget.old ≡ 0) }
         ensures events { steps.new + budget.new ≡ steps.old + budget.old }
         ensures in_time { MayBegin call →
             WithMost self.old caller call (EndsInTime result budget.old steps.old steps.new) }

@@ -17,7 +17,7 @@ use Rattle.data_node.specs.Spots.{bitmap_offset}
 use Rattle.data_node.specs.Lists.{next_offset}
 use Rattle.call_stages.specs.Stages.{Knows, KnowsDurable, IsAmong, Held, Grip, Phase, Filling, Linked, Parted, Pace, Gathered, Joined, Gone, Stage, Idle, Saw, Wears, Reads, Holds, Eyes, Splits, Leaves, Meets, Joins, just_held, merged_held, pended}
 use Rattle.call_stages.specs.Kinds.{IsContent, Cleans, finds_live, watches, watches_next, turns_away, steps_back, wanders, Split, fills, lights, switches, glances_left, glances_fresh, drains_left, drains_fresh, trims, splits, Merge, meets, knows_own, knows_right, copies, takes_up, puts_down, parts, gathers, joins, glances_joined, drains_joined, retires, yields, merges, peeks, peeks_status, eyes, eyes_free, passes, loses, claims, publishes, leaves}
-use Rattle.call_stages.specs.Kinds.{Look, turns_back, is_worn, wears, roams, roams_status, sees, misses, times, learns, decides, glances, Step, looks, locks, locks_read, stores, commits, drains, counts, unlocks}
+use Rattle.call_stages.specs.Kinds.{Look, turns_back, is_worn, wears, roams, roams_status, sees, misses, misses_read, times, learns, decides, glances, Step, looks, locks, locks_read, stores, commits, drains, counts, unlocks}
 use Rattle.index_law.specs.Facts.{Facts, map_now, range_of, durable_spot}
 use Rattle.index_law.specs.Lawful.{IsList, Sure}
 use Rattle.call_stages.specs.Stages.{HoldsNode}
@@ -283,6 +283,7 @@ module _ {l : Layout} {g : ℕ} (f : Facts) (words : List ℕ) (caller index sin
   look_backs (passes here) after backed = backed
   look_backs (loses here other) after backed = backed
   look_backs (misses other) after backed = tt
+  look_backs (misses_read other small) after backed = tt
   look_backs (times clean below) after backed = record { clean = backed.clean; fixed = backed.fixed; mixes = backed.mixes }
   look_backs (learns has positive unready learnt) after backed = record { clean = backed.clean; fixed = backed.fixed; mixes = backed.mixes }
   look_backs (decides {n = n} {h = h} {k = k} {old = old} {pending = pending} {ready = ready} has positive clean durable about learnt decided) after backed =

@@ -18,7 +18,7 @@ use Rattle.version_lock.specs.Versions.{IsFree}
 use Rattle.call_stages.specs.declared.once.Once.{Once}
 use Rattle.call_stages.specs.declared.once.Placed.{Placed}
 use Rattle.call_stages.specs.Stages.{Held, Stage, Idle, Saw, Wears, Reads, Holds, Eyes, Splits, Leaves, Meets, Joins, counted}
-use Rattle.call_stages.specs.Kinds.{clock_address, Look, turns_back, is_worn, wears, roams, roams_status, sees, misses, times, learns, decides, glances, finds_live, watches, watches_next, turns_away, steps_back, wanders, fills, lights, switches, glances_left, glances_fresh, drains_left, drains_fresh, trims, splits, meets, knows_own, knows_right, copies, takes_up, puts_down, parts, gathers, joins, glances_joined, drains_joined, retires, yields, merges, peeks, peeks_status, eyes, eyes_free, passes, loses, claims, publishes, leaves, Step, looks, locks, locks_read, stores, commits, drains, counts, unlocks}
+use Rattle.call_stages.specs.Kinds.{clock_address, Look, turns_back, is_worn, wears, roams, roams_status, sees, misses, misses_read, times, learns, decides, glances, finds_live, watches, watches_next, turns_away, steps_back, wanders, fills, lights, switches, glances_left, glances_fresh, drains_left, drains_fresh, trims, splits, meets, knows_own, knows_right, copies, takes_up, puts_down, parts, gathers, joins, glances_joined, drains_joined, retires, yields, merges, peeks, peeks_status, eyes, eyes_free, passes, loses, claims, publishes, leaves, Step, looks, locks, locks_read, stores, commits, drains, counts, unlocks}
 use Rattle.index_law.specs.Facts.{Facts}
 use Rattle.index_law.specs.Worlds.{Party, World, facts, written, counted_write, moved_on}
 use Rattle.index_law.specs.Lawful.{HasNames, IsList, AreLive, Sure, Each, AreAlone, IsHeld, AreKnown, AreSettled, AreFreeOrHeld, Lawful}
@@ -65,6 +65,7 @@ module _ {l : Layout} {g : ℕ} where
   look_counts (passes here) count = λ e. cc
   look_counts (loses here other) count = λ e. cc
   look_counts (misses other) count = λ e. cc
+  look_counts (misses_read other small) count = λ e. cc
   look_counts (times {n = n} {w = w} {x = x} {h = h} clean below) count = unready_counts l n w x count h _ clean.ready (λ e. cc)
   look_counts (learns {n = n} {w = w} {x = x} {h = h} has positive unready learnt) count = unready_counts l n w x count h _ unready (λ e. cc)
   look_counts (decides {n = n} {w = w} {x = x} {h = h} has positive clean durable about learnt decided) count = unready_counts l n w x count h _ clean.ready (λ e. cc)

@@ -18,7 +18,7 @@ use Rattle.data_node.specs.Spots.{bitmap_offset}
 use Rattle.data_node.proofs.SpotLemmas.{updated-same}
 use Rattle.call_stages.specs.Stages.{Held, Grip, Tells, Filling, Stage, Idle, Saw, Wears, Reads, Holds, Eyes, Splits, Leaves, Meets, Joins, pended}
 use Rattle.call_stages.specs.Kinds.{IsContent, IsCut, finds_live, watches, watches_next, turns_away, steps_back, wanders, Look, Split, fills, lights, switches, glances_left, glances_fresh, drains_left, drains_fresh, trims, splits, Merge, meets, knows_own, knows_right, copies, takes_up, puts_down, parts, gathers, joins, glances_joined, drains_joined, retires, yields, merges, peeks, peeks_status, eyes, eyes_free, passes, loses, claims, publishes, leaves}
-use Rattle.call_stages.specs.Kinds.{turns_back, is_worn, wears, roams, roams_status, sees, misses, times, learns, decides, glances, Step, looks, locks, locks_read, stores, commits, drains, counts, unlocks}
+use Rattle.call_stages.specs.Kinds.{turns_back, is_worn, wears, roams, roams_status, sees, misses, misses_read, times, learns, decides, glances, Step, looks, locks, locks_read, stores, commits, drains, counts, unlocks}
 use Rattle.index_law.specs.Facts.{Facts, map_now, range_of, IsListed}
 use Rattle.index_law.specs.Lawful.{IsOwnLock, IsList, IsSettled, AreKnown, AreSettled, SureHolds, SureSplits, Sure}
 use Rattle.call_stages.specs.Stages.{HoldsNode}
@@ -430,6 +430,7 @@ module _ {l : Layout} {g : ℕ} (f : Facts) (caller index since : ℕ) where
   look_before (passes here) m lock = lock
   look_before (loses here other) m lock = lock
   look_before (misses other) m lock = absurd lock
+  look_before (misses_read other small) m lock = absurd lock
   look_before (times clean below) m lock = lock
   look_before (learns has positive unready learnt) m lock = lock
   look_before (decides has positive clean durable about learnt decided) m lock = lock
@@ -593,6 +594,7 @@ module _ {l : Layout} {g : ℕ} (f : Facts) (caller index since : ℕ) where
   look_freed (passes here) m held = held
   look_freed (loses here other) m held = held
   look_freed (misses other) m held = absurd held
+  look_freed (misses_read other small) m held = absurd held
   look_freed (times clean below) m held = held
   look_freed (learns has positive unready learnt) m held = held
   look_freed (decides has positive clean durable about learnt decided) m held = held

@@ -44,6 +44,7 @@ module _ {l : Layout} {g : ℕ} (f : Facts) (caller index since : ℕ) where
   look_once (kinds.passes here) = stay _ _ refl
   look_once (kinds.loses here other) = stay _ _ refl
   look_once (kinds.misses other) = inl tt
+  look_once (kinds.misses_read other small) = inl tt
   look_once (kinds.times clean below) = stay _ _ refl
   look_once (kinds.learns has positive unready learnt) = stay _ _ refl
   look_once (kinds.decides has positive clean durable about learnt decided) = stay _ _ refl

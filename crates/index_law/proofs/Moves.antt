@@ -18,7 +18,7 @@ use Rattle.call_stages.specs.declared.once.Once.{Once}
 use Rattle.call_stages.specs.declared.once.Placed.{Placed}
 use Rattle.call_stages.specs.Stages.{Held, Sight, Stage, Saw, Holds, IsLoose, counted}
 use Rattle.call_stages.specs.Kinds.{Read, views, views_live, views_word, views_next, dates, notes, finds, confirms, wavers, reads_on}
-use Rattle.call_stages.specs.Kinds.{Look, turns_back, is_worn, wears, roams, roams_status, sees, misses, times, learns, decides, glances, finds_live, watches, watches_next, turns_away, steps_back, wanders, Split, fills, lights, switches, glances_left, glances_fresh, drains_left, drains_fresh, trims, splits, Merge, meets, knows_own, knows_right, copies, takes_up, puts_down, parts, gathers, joins, glances_joined, drains_joined, retires, yields, merges, peeks, peeks_status, eyes, eyes_free, passes, loses, claims, publishes, leaves, Step, looks, locks, locks_read, stores, commits, drains, counts, unlocks, clock_address, word_address, version_address}
+use Rattle.call_stages.specs.Kinds.{Look, turns_back, is_worn, wears, roams, roams_status, sees, misses, misses_read, times, learns, decides, glances, finds_live, watches, watches_next, turns_away, steps_back, wanders, Split, fills, lights, switches, glances_left, glances_fresh, drains_left, drains_fresh, trims, splits, Merge, meets, knows_own, knows_right, copies, takes_up, puts_down, parts, gathers, joins, glances_joined, drains_joined, retires, yields, merges, peeks, peeks_status, eyes, eyes_free, passes, loses, claims, publishes, leaves, Step, looks, locks, locks_read, stores, commits, drains, counts, unlocks, clock_address, word_address, version_address}
 use Rattle.index_law.specs.Facts.{Facts, facts_of, cached_word, spot_in, map_now, range_of}
 use Rattle.index_law.specs.Worlds.{written}
 use Rattle.data_node.specs.Spots.{bitmap_offset}
@@ -180,6 +180,7 @@ module _ {l : Layout} {g : ℕ} where
   Gave (passes here) f = Unit {0}
   Gave (loses {x = x} {m = m} here other) f = Unit {0}
   Gave (misses {n = n} {x = x} other) f = x ≡ f.version n
+  Gave (misses_read {n = n} {x = x} other small) f = x ≡ f.version n
   Gave (times {x = x} clean below) f = x ≡ length f.history
   Gave (learns {n = n} {x = x} {offset = offset} has positive unready knows) f = x ≡ f.now n offset
   Gave (decides {n = n} {x = x} {offset = offset} has positive clean durable about knows decided) f = x ≡ f.now n offset
@@ -222,6 +223,7 @@ module _ {l : Layout} {g : ℕ} where
   look_adds (passes here) caller index = refl
   look_adds (loses here other) caller index = refl
   look_adds (misses other) caller index = refl
+  look_adds (misses_read other small) caller index = refl
   look_adds (times {n = n} {w = w} {h = h} clean below) caller index = unready_adds n w h caller index clean.ready
   look_adds (learns {n = n} {w = w} {h = h} has positive unready knows) caller index = unready_adds n w h caller index unready
   look_adds (decides {n = n} {w = w} {h = h} has positive clean durable about knows decided) caller index = unready_adds n w h caller index clean.ready
@@ -280,6 +282,10 @@ module _ {l : Layout} {g : ℕ} where
       let word : ℕ = slice_index ws (version_address l n) in
       let ne : word ≢ v = (λ same. other (e ∙ same)) in
       ap (λ (b : Bool). slice_set ws (version_address l n) (cond b w word)) (ne_eqb word v ne) ∙ set-get_or ws (version_address l n) 0
+  look_keeps (misses_read {n = n} {v = v} {w = w} {x = x} other small) ws e =
+      let word : ℕ = slice_index ws (version_address l n) in
+      let ne : word ≢ v = (λ same. other (e ∙ same)) in
+      ap (λ (b : Bool). slice_set ws (version_address l n) (cond b w word)) (ne_eqb word v ne) ∙ set-get_or ws (version_address l n) 0
   look_keeps (times clean below) ws e = set-get_or ws (clock_address l) 0
   look_keeps (learns {n = n} {offset = offset} has positive unready knows) ws e = set-get_or ws (word_address l n offset) 0
   look_keeps (decides {n = n} {offset = offset} has positive clean durable about knows decided) ws e = set-get_or ws (word_address l n offset) 0
@@ -325,6 +331,7 @@ module _ {l : Layout} {g : ℕ} where
     gave (passes there) clock e knows = tt
     gave (loses there other) clock e knows = tt
     gave (misses {n = n} other) clock e knows = e ∙ sym (version_in-here l ws n (here knows))
+    gave (misses_read {n = n} other small) clock e knows = e ∙ sym (version_in-here l ws n knows.here)
     gave (times clean below) clock e knows = e ∙ clock
     gave (learns {n = n} {offset = offset} has positive unready learnt) clock e knows = e ∙ sym (spot_in-here l ws n offset has positive)
     gave (decides {n = n} {offset = offset} has positive clean durable about learnt decided) clock e knows = e ∙ sym (spot_in-here l ws n offset has positive)

@@ -19,7 +19,7 @@ use Rattle.call_stages.specs.declared.once.Once.{Once}
 use Rattle.call_stages.specs.declared.once.Placed.{Placed}
 use Rattle.call_stages.specs.Stages.{Knows, KnowsDurable, IsAmong, Held, Stage, Idle, Saw, Wears, Reads, Holds, Eyes, Splits, Leaves, Meets, Joins, pended}
 use Rattle.call_stages.specs.Kinds.{finds_live, watches, watches_next, turns_away, steps_back, wanders, fills, lights, switches, glances_left, glances_fresh, drains_left, drains_fresh, trims, meets, knows_own, knows_right, copies, takes_up, puts_down, parts, gathers, joins, glances_joined, drains_joined, retires, yields, merges, splits, peeks, peeks_status, eyes, eyes_free, passes, loses, claims, publishes, leaves}
-use Rattle.call_stages.specs.Kinds.{Look, turns_back, is_worn, wears, roams, roams_status, sees, misses, times, learns, decides, glances, Answers, writes, reads, is_spent, has_no_room, refuses, Step, looks, locks, locks_read, stores, commits, drains, counts, unlocks}
+use Rattle.call_stages.specs.Kinds.{Look, turns_back, is_worn, wears, roams, roams_status, sees, misses, misses_read, times, learns, decides, glances, Answers, writes, reads, is_spent, has_no_room, refuses, Step, looks, locks, locks_read, stores, commits, drains, counts, unlocks}
 use Rattle.index_law.specs.Facts.{Facts, map_now, range_of}
 use Rattle.index_law.specs.Lawful.{IsList, AreLive, AreKnown, AreSettled, IsTime, HasWriteAt, IsPlaced, map_before, SureHolds, Sure}
 use Rattle.index_law.specs.Laws.{loads_clock, loads_word, loads_status, loads_prev, exchanges, exchanges_read, stores_word, stores_status, drains_word, adds, claims_node, frees_fresh, frees_left, frees_met, frees_right, frees, IsWithin, StepIsAllowed, IsLegalHeld, IsLegal}
@@ -57,6 +57,7 @@ allow_law l g s a x t r within (looks (eyes_free here is)) = loads_status here
 allow_law l g s a x t r within (looks (passes here)) = loads_status here
 allow_law l g s a x t r within (looks (loses here other)) = claims_node here
 allow_law l g s a x t r within (looks (misses other)) = exchanges within
+allow_law l g s a x t r within (looks (misses_read other small)) = exchanges_read within small
 allow_law l g s a x t r within (looks (times clean below)) = loads_clock
 allow_law l g s a x t r within (looks (learns has positive unready learnt)) = loads_word has
 allow_law l g s a x t r within (looks (decides has positive clean durable about learnt decided)) = loads_word has
@@ -247,6 +248,7 @@ module _ {l : Layout} {g : ℕ} (f : Facts) (caller index since : ℕ) where
     look_mine (passes here) e knows = knows.0
     look_mine (loses here other) e knows = knows.0
     look_mine (misses other) e knows = tt
+    look_mine (misses_read other small) e knows = tt
     look_mine (times {n = n} {x = x} {limit = limit} clean below) e knows = record {
       here = knows.here;
       stands = knows.stands;
@@ -550,6 +552,7 @@ module _ {l : Layout} {g : ℕ} (f : Facts) (caller index since : ℕ) where
   legal (looks (passes here)) e knows = tt
   legal (looks (loses here other)) e knows = tt
   legal (looks (misses other)) e knows = (sym e, other)
+  legal (looks (misses_read other small)) e knows = (sym e, other)
   legal (looks (times clean below)) e knows = tt
   legal (looks (learns has positive unready learnt)) e knows = tt
   legal (looks (decides has positive clean durable about learnt decided)) e knows = tt

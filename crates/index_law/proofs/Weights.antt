@@ -22,7 +22,7 @@ use Rattle.call_stages.specs.declared.once.Placed.{Placed}
 use Rattle.data_node.specs.Spots.{bitmap_offset}
 use Rattle.data_node.specs.Lists.{ListNode, next_offset, anchor_in, key_of}
 use Rattle.call_stages.specs.Stages.{Held, Gathered, Joined, Gone, Stage, Idle, Saw, Wears, Reads, Holds, Eyes, Splits, Leaves, Meets, Joins, pended}
-use Rattle.call_stages.specs.Kinds.{Look, turns_back, is_worn, wears, roams, roams_status, sees, misses, times, learns, decides, glances, finds_live, watches, watches_next, turns_away, steps_back, wanders, from_key, below_key, Merge, meets, knows_own, knows_right, copies, takes_up, puts_down, parts, gathers, joins, glances_joined, drains_joined, retires, yields, merges, Split, fills, lights, switches, glances_left, glances_fresh, drains_left, drains_fresh, trims, splits, peeks, peeks_status, eyes, eyes_free, passes, loses, claims, publishes, leaves, Step, looks, locks, locks_read, stores, commits, drains, counts, unlocks, word_address}
+use Rattle.call_stages.specs.Kinds.{Look, turns_back, is_worn, wears, roams, roams_status, sees, misses, misses_read, times, learns, decides, glances, finds_live, watches, watches_next, turns_away, steps_back, wanders, from_key, below_key, Merge, meets, knows_own, knows_right, copies, takes_up, puts_down, parts, gathers, joins, glances_joined, drains_joined, retires, yields, merges, Split, fills, lights, switches, glances_left, glances_fresh, drains_left, drains_fresh, trims, splits, peeks, peeks_status, eyes, eyes_free, passes, loses, claims, publishes, leaves, Step, looks, locks, locks_read, stores, commits, drains, counts, unlocks, word_address}
 use Rattle.index_law.specs.Facts.{Facts, map_now, range_of, durable_spot, IsListed}
 use Rattle.index_law.specs.Worlds.{Party, World, facts, moved_on}
 use Rattle.index_law.specs.Lawful.{Lawful, IsLinked, IsList, Each, IsHeld, SureHolds, Sure, map_before}
@@ -193,6 +193,7 @@ module _ {l : Layout} {g : ℕ} (f : Facts) (caller index since : ℕ) where
   look_lowers (passes {n = n} {h = h} here) e knows after = unlowered l.slots (names_in l.slots (range_of l f n) (f.now n)) h.pending h.old knows.1.clean.pending
   look_lowers (loses {n = n} {h = h} here other) e knows after = unlowered l.slots (names_in l.slots (range_of l f n) (f.now n)) h.pending h.old knows.1.clean.pending
   look_lowers (misses other) e knows after = refl
+  look_lowers (misses_read other small) e knows after = refl
   look_lowers (times clean below) e knows after = refl
   look_lowers (learns has positive unready learnt) e knows after = refl
   look_lowers (decides {n = n} {w = w} {h = h} {old = old} {pending = pending} has positive clean durable about learnt decided) e knows after =

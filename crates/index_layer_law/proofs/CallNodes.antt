@@ -11,7 +11,7 @@ use Rattle.version_lock.proofs.WordTests.{free_is}
 use Rattle.call_stages.specs.declared.once.Once.{Once}
 use Rattle.call_stages.specs.declared.once.Placed.{Placed}
 use Rattle.call_stages.specs.Stages.{Stage, Held, Grip, Gone, Joined, Gathered, Joins, HoldsNode}
-use Rattle.call_stages.specs.Kinds.{Look, turns_back, wears, roams, roams_status, is_worn, sees, finds_live, watches, watches_next, turns_away, steps_back, wanders, peeks, peeks_status, eyes, eyes_free, passes, loses, misses, times, learns, decides, glances, Step, looks, locks, locks_read, stores, commits, drains, counts, unlocks, splits, merges, claims, publishes, leaves, meets, knows_own, knows_right, copies, takes_up, puts_down, parts, gathers, joins, glances_joined, drains_joined, retires, yields, Merge, Split, fills, lights, switches, glances_left, glances_fresh, drains_left, drains_fresh, trims}
+use Rattle.call_stages.specs.Kinds.{Look, turns_back, wears, roams, roams_status, is_worn, sees, finds_live, watches, watches_next, turns_away, steps_back, wanders, peeks, peeks_status, eyes, eyes_free, passes, loses, misses, misses_read, times, learns, decides, glances, Step, looks, locks, locks_read, stores, commits, drains, counts, unlocks, splits, merges, claims, publishes, leaves, meets, knows_own, knows_right, copies, takes_up, puts_down, parts, gathers, joins, glances_joined, drains_joined, retires, yields, Merge, Split, fills, lights, switches, glances_left, glances_fresh, drains_left, drains_fresh, trims}
 use Rattle.call_stages.specs.Lines.{HeldLine}
 use Rattle.call_stages.specs.Footings.{Minds, HasLine}
 use Rattle.index_law.specs.Facts.{Facts, version_in}
@@ -140,6 +140,7 @@ no_look (eyes_free within free) is = cc
 no_look (passes within) is = cc
 no_look (loses within other) is = cc
 no_look (misses other) is = cc
+no_look (misses_read other small) is = cc
 no_look (times clean below) is = cc
 no_look (learns has positive unready knows) is = cc
 no_look (decides has positive clean durable about knows decided) is = cc

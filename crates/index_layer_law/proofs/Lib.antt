@@ -23,6 +23,7 @@ pub mod TurnRests
 pub mod TurnTerms
 pub mod TurnLocks
 pub mod TurnSteps
+pub mod TurnVolatile
 pub mod LayerCover
 pub mod CrashCover
 pub mod LayerStays

@@ -11,7 +11,7 @@ use Rattle.data_node.specs.Lists.{next_offset, anchor_in, key_of}
 use Rattle.call_stages.specs.declared.once.Once.{Once}
 use Rattle.call_stages.specs.declared.once.Placed.{Placed}
 use Rattle.call_stages.specs.Stages.{Stage, Held, Grip, Phase, Filling, Linked, Parted, Pace, Gathered, Joined, Gone, Idle, Saw, Wears, Reads, Holds, Eyes, Splits, Leaves, Meets, Joins, IsSwitched}
-use Rattle.call_stages.specs.Kinds.{Look, turns_back, wears, roams, roams_status, is_worn, sees, finds_live, watches, watches_next, turns_away, steps_back, wanders, peeks, peeks_status, eyes, eyes_free, passes, loses, misses, times, learns, decides, glances, Step, looks, locks, locks_read, stores, commits, drains, counts, unlocks, splits, merges, claims, publishes, leaves, Split, fills, lights, switches, glances_left, glances_fresh, drains_left, drains_fresh, trims, Merge, meets, knows_own, knows_right, copies, takes_up, puts_down, parts, gathers, joins, glances_joined, drains_joined, retires, yields}
+use Rattle.call_stages.specs.Kinds.{Look, turns_back, wears, roams, roams_status, is_worn, sees, finds_live, watches, watches_next, turns_away, steps_back, wanders, peeks, peeks_status, eyes, eyes_free, passes, loses, misses, misses_read, times, learns, decides, glances, Step, looks, locks, locks_read, stores, commits, drains, counts, unlocks, splits, merges, claims, publishes, leaves, Split, fills, lights, switches, glances_left, glances_fresh, drains_left, drains_fresh, trims, Merge, meets, knows_own, knows_right, copies, takes_up, puts_down, parts, gathers, joins, glances_joined, drains_joined, retires, yields}
 use Rattle.call_stages.specs.Lines.{HeldLine, Notes, passes_line, takes, looks_up, notes, keeps_safe}
 use Rattle.call_stages.specs.Footings.{Minds, Waits, HasLine, IsOpenOf, IsOfMerge, IsKnownEmpty, IsLeftToTurn, KeepsOrLetsGo}
 use Rattle.index_law.specs.Facts.{Facts, facts_of, map_now, range_of}
@@ -133,6 +133,7 @@ no_look (eyes_free within free) n is = is
 no_look (passes within) n is = is
 no_look (loses within other) n is = is
 no_look (misses other) n is = is
+no_look (misses_read other small) n is = is
 no_look (times clean below) n is = is
 no_look (learns has positive unready knows) n is = is
 no_look (decides has positive clean durable about knows decided) n is = is

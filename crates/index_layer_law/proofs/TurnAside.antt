@@ -57,7 +57,7 @@ kept_durable w aside = record {
   layer = not_of_layer w aside;
 }
 
-kept_volatile : (n offset : ℕ) → offset ≢ 2 → IsUntouched (Volatile n offset)
+pub kept_volatile : (n offset : ℕ) → offset ≢ 2 → IsUntouched (Volatile n offset)
 kept_volatile n offset other = record { lock = λ e. cc; stamp = λ m e. other (ap offset_at e); layer = refl }
 
 module _ (l : Layout) (words after : List ℕ) (same : KeepsRest l words after) where

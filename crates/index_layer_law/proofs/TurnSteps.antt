@@ -52,12 +52,12 @@ pub others_rest : (z : Layered) (i : ℕ) (t : Turning) → IsLayered z → get_
 others_rest z i t is there busy j u at_u other = ⊎_elim (λ rests. rests) (λ busy_u. absurd (other (is.one j i u t at_u there busy_u busy))) (rests_or_not u.stage)
 
 -- a turn that finds the updater lock taken changes nothing
-record Misses (l : Layout) (words : List ℕ) (a : Action) (next : RowStage) : Type 0 where
-  rests : next ≡ Resting
-  same : acted l words a ≡ words
-  can : CanAct l words a
+pub record Misses (l : Layout) (words : List ℕ) (a : Action) (next : RowStage) : Type 0 where
+  pub rests : next ≡ Resting
+  pub same : acted l words a ≡ words
+  pub can : CanAct l words a
 
-resting_step : (r : RowTerms) (words : List ℕ) (a : Action) (x : ℕ) (next : RowStage) → RowStep r Resting a x next → x ≡ got r.layout words a
+pub resting_step : (r : RowTerms) (words : List ℕ) (a : Action) (x : ℕ) (next : RowStage) → RowStep r Resting a x next → x ≡ got r.layout words a
     → (at r.layout words Updater ≡ 0) ⊎ Misses r.layout words a next
 resting_step r words a x next (takes_lock free) told = inl (sym told ∙ free)
 resting_step r words a x next (finds_held taken) told =

@@ -4,7 +4,7 @@ use mathlib.Core.Option.{some}
 use lib.ListN.{get_elem?}
 use Rattle.pm_words.specs.Codes.{free_status}
 use Rattle.pm_words.specs.declared.action.Action.{Action}
-use Rattle.pm_words.specs.Locations.{Updater, Cached, Durable, image_words, at}
+use Rattle.pm_words.specs.Locations.{Updater, Cached, Durable, Volatile, image_words, at}
 use Rattle.pm_words.specs.Rows.{CanAct, acted, got}
 use Rattle.data_node.specs.Lists.{anchor_in, IsIn}
 use Rattle.call_stages.specs.declared.once.Once.{Once}
@@ -57,8 +57,8 @@ TurnStepKeeps = (z : Layered) (i : ℕ) (t next : Turning) (action : Action) (x 
     x ≡ got z.whole.world.layout z.whole.world.words action →
     CanAct z.whole.world.layout z.whole.world.words action × IsLayered (turned z i action next)
 
--- The words of the nodes are as before, and with them the list, the map and the history; statuses are too, but that nodes
--- may have become FREE.
+-- The words of the nodes are as before, and with them the list, the map and the history; statuses are too, but that
+-- nodes may have become FREE.
 pub record LeavesNodes (before after : Facts) : Type 0 where
   pub nodes : after ≡ record before { status = after.status }
   pub frees : (n : ℕ) → (after.status n ≡ before.status n) ⊎ (after.status n ≡ free_status)
@@ -69,6 +69,15 @@ TurnStepLeavesNodes = (z : Layered) (i : ℕ) (t next : Turning) (action : Actio
     get_elem? z.turns i ≡ some t → t.stamp < 2 ^ 64 → TurnFoot (terms_of z.whole.world t) t action x next →
     x ≡ got z.whole.world.layout z.whole.world.words action →
     LeavesNodes (facts z.whole.world) (facts (turned z i action next).whole.world)
+
+-- Of a node's volatile words it leaves all but the status and the stamp.
+abbrev pub TurnStepLeavesVolatile : Type 0
+TurnStepLeavesVolatile = (z : Layered) (i : ℕ) (t next : Turning) (action : Action) (x n offset : ℕ) → IsLayered z →
+    get_elem? z.turns i ≡ some t → TurnFoot (terms_of z.whole.world t) t action x next →
+    x ≡ got z.whole.world.layout z.whole.world.words action → n < z.whole.world.layout.nodes → offset < 16 →
+    offset ≢ 0 → offset ≢ 2 →
+    at z.whole.world.layout (acted z.whole.world.layout z.whole.world.words action) (Volatile n offset) ≡
+    at z.whole.world.layout z.whole.world.words (Volatile n offset)
 
 -- A party whose turn rests may begin another one, with a stamp of its own.
 abbrev pub TurnStartKeeps : Type 0
@@ -99,8 +108,8 @@ pub record IsAtRest (t : Turning) : Type 0 where
   pub stamp : t.stamp ≢ 0
   pub watch : t.watch ≡ Nothing
 
--- With no call and no turn in flight all of it holds where the index is kept, nobody has the updater lock, and the row is
--- lawful for a turn.
+-- With no call and no turn in flight all of it holds where the index is kept, nobody has the updater lock, and the row
+-- is lawful for a turn.
 abbrev pub RestIsLayered : Type 0
 RestIsLayered = (z : Layered) (i : ℕ) (t : Turning) → IsWhole z.whole → AreTended z.whole →
     Each (λ p. p.stage ≡ Idle) z.whole.world.parties →
@@ -116,8 +125,8 @@ TargetsStand = (z : Layered) (i : ℕ) (t : Turning) (e : RowLine) (target : Row
     IsTarget (IsListed (facts z.whole.world)) (λ n. anchor_in ((facts z.whole.world).now n)) (key_number e.anchor)
     target.node
 
--- At any moment the layer leads each key that no log line has which isn't EMPTY to the listed node with this anchor, and
--- nowhere where there is none. So does the durable one, but for keys that durable lines have.
+-- At any moment the layer leads each key that no log line has which isn't EMPTY to the listed node with this anchor,
+-- and nowhere where there is none. So does the durable one, but for keys that durable lines have.
 pub record LeadsAsListed (z : Layered) : Type 0 where
   pub cached : IsCovered (IsListed (facts z.whole.world)) (λ n. anchor_in ((facts z.whole.world).now n))
       (layer_of z.whole.world.layout z.whole.world.words)
@@ -129,8 +138,8 @@ pub record LeadsAsListed (z : Layered) : Type 0 where
 abbrev pub LayerIsCovered : Type 0
 LayerIsCovered = (z : Layered) → IsLayered z → LeadsAsListed z
 
--- So does the durable layer by the durable list: it leads each key that no durable line has which isn't EMPTY to the node
--- of that list with this anchor, and nowhere where there is none.
+-- So does the durable layer by the durable list: it leads each key that no durable line has which isn't EMPTY to the
+-- node of that list with this anchor, and nowhere where there is none.
 abbrev pub CrashLeadsAsListed : Type 0
 CrashLeadsAsListed = (z : Layered) → IsLayered z → IsCovered (IsIn (durable_list z.whole.world))
     (λ n. anchor_in (durable_spot z.whole.world.layout z.whole.world.words n))

@@ -1,20 +1,23 @@
 //! The laws. The functions do nothing: each names what is proved.
 
 ghost use Rattle.index_layer_law.specs.Laws.{CallStepKeeps, TurnStepKeeps, TurnStepLeavesNodes, TurnStartKeeps};
-ghost use Rattle.index_layer_law.specs.Laws.{TermsMayBegin};
+ghost use Rattle.index_layer_law.specs.Laws.{TermsMayBegin, TurnStepLeavesVolatile};
 ghost use Rattle.index_layer_law.specs.Laws.{EvictionKeepsLayer};
 ghost use Rattle.index_layer_law.specs.Laws.{RestIsLayered, TargetsStand, LayerIsCovered, CrashLeadsAsListed};
-ghost use Rattle.index_layer_law.specs.Beginnings.{BeginningKeepsLayer, OtherTurnsMayRest, StampKeepsLayer, FreshIsLayered};
+ghost use Rattle.index_layer_law.specs.Beginnings.{BeginningKeepsLayer, OtherTurnsMayRest, StampKeepsLayer};
+ghost use Rattle.index_layer_law.specs.Beginnings.{FreshIsLayered};
 
 /// A step of a call keeps an index with its search layer and the turn beside it.
 pub fn call_step_law()
     ensures { CallStepKeeps }
 {}
 
-/// So does a step of a turn, which leaves the words of the nodes, and so the list and the map.
+/// So does a step of a turn, which leaves the words of the nodes, and so the list and the map; and of the volatile
+/// words of nodes all but their statuses and their stamps.
 pub fn turn_step_law()
     ensures keeps { TurnStepKeeps }
     ensures leaves { TurnStepLeavesNodes }
+    ensures volatile { TurnStepLeavesVolatile }
 {}
 
 /// A party may begin another turn; and one whose turn has the lock and comes to a line may have another stamp and
@@ -47,8 +50,8 @@ pub fn covered_law()
     ensures crash { CrashLeadsAsListed }
 {}
 
-/// Where parties begin anew while the others stay, and with them the base, the history and the clock, the index keeps its
-/// search layer, as it does with other turns that rest, and with another stamp of a node that has one.
+/// Where parties begin anew while the others stay, and with them the base, the history and the clock, the index keeps
+/// its search layer, as it does with other turns that rest, and with another stamp of a node that has one.
 pub fn beginning_law()
     ensures calls { BeginningKeepsLayer }
     ensures turns { OtherTurnsMayRest }

@@ -2,11 +2,11 @@
 use Rattle.std.specs.Prelude.{◌≡◌, ℕ, ◌<◌, ◌≤◌, List, [], ◌∷◌, Option}
 use mathlib.Core.Option.{some}
 use lib.ListN.{get_elem?}
-use Rattle.pm_words.specs.Codes.{free_status, live_status, gone_status}
+use Rattle.pm_words.specs.Codes.{free_status, live_status, gone_status, no_permutation}
 use Rattle.pm_words.specs.declared.layout.Layout.{Layout}
 use Rattle.pm_words.specs.Locations.{Header, Root, Cached, Durable, Volatile, Clock, Updater, at}
 use Rattle.pm_words.specs.Rows.{IsRow}
-use Rattle.pm_words.specs.Offsets.{prev_offset, stamp_offset, status_offset}
+use Rattle.pm_words.specs.Offsets.{permutation_version_offset, prev_offset, stamp_offset, status_offset}
 use Rattle.cat_history.specs.Maps.{Map}
 use Rattle.data_node.specs.Lists.{ListNode, IsIn, IsMember}
 use Rattle.call_stages.specs.Stages.{Idle}
@@ -40,7 +40,12 @@ pub record TellsList (l : Layout) (list : List ListNode) (words : List ℕ) : Ty
   pub clock : at l words Clock ≡ 0
   pub updater : at l words Updater ≡ 0
 
--- The words are those of a recovered image that keeps this map, over this list, and their volatile ones tell the list.
+-- No node has a permutation, listed or not.
+abbrev pub HaveNoOrders : Layout → List ℕ → Type 0
+HaveNoOrders l words = (n : ℕ) → n < l.nodes → at l words (Volatile n permutation_version_offset) ≡ no_permutation
+
+-- The words are those of a recovered image that keeps this map, over this list. Their volatile ones tell the list, and
+-- of each node that it has no permutation.
 pub record IsOpening (l : Layout) (list : List ListNode) (o : Columns) (words : List ℕ) (m : Map) : Type 0 where
   pub row : IsRow l words
   pub rests : Rests l list o (columns_in l words Cached) (columns_in l words Durable)
@@ -48,6 +53,7 @@ pub record IsOpening (l : Layout) (list : List ListNode) (o : Columns) (words : 
   pub safe_root : at l words (Durable (Root 0)) ≡ 0
   pub keeps : IsMapOf l list (columns_in l words Cached) m
   pub tells : TellsList l list words
+  pub orders : HaveNoOrders l words
 
 -- The index on such words, with this map as its base, in the run of the header.
 abbrev pub opened_world : Layout → List ℕ → List Party → Map → World

@@ -11,7 +11,7 @@ use Rattle.call_stages.specs.declared.once.Once.TheVariants as once
 use Rattle.call_stages.specs.declared.once.Placed.{Placed}
 use Rattle.call_stages.specs.Stages.{Held, Grip, Stage, Idle, Saw, Wears, Holds, Eyes, Splits, Leaves, Meets, Joins, Filling, Linked, Parted, Phase, IsLoose, counted, placed_in}
 use Rattle.call_stages.specs.Prevs.{IsJoin, IsRetire}
-use Rattle.call_stages.specs.Kinds.{below_key, from_key, Look, turns_back, is_worn, wears, roams, roams_status, sees, misses, times, learns, decides, glances, finds_live, watches, watches_next, turns_away, steps_back, wanders, fills, lights, switches, glances_left, glances_fresh, drains_left, drains_fresh, trims, splits, meets, knows_own, knows_right, copies, takes_up, puts_down, parts, gathers, joins, glances_joined, drains_joined, retires, yields, merges, peeks, peeks_status, eyes, eyes_free, passes, loses, claims, publishes, leaves, Step, looks, locks, locks_read, stores, commits, drains, counts, unlocks, GivesUp, Answers, writes, reads, is_spent, has_no_room, refuses}
+use Rattle.call_stages.specs.Kinds.{below_key, from_key, Look, turns_back, is_worn, wears, roams, roams_status, sees, misses, misses_read, times, learns, decides, glances, finds_live, watches, watches_next, turns_away, steps_back, wanders, fills, lights, switches, glances_left, glances_fresh, drains_left, drains_fresh, trims, splits, meets, knows_own, knows_right, copies, takes_up, puts_down, parts, gathers, joins, glances_joined, drains_joined, retires, yields, merges, peeks, peeks_status, eyes, eyes_free, passes, loses, claims, publishes, leaves, Step, looks, locks, locks_read, stores, commits, drains, counts, unlocks, GivesUp, Answers, writes, reads, is_spent, has_no_room, refuses}
 use Rattle.data_node.specs.Lists.{ListNode, target_from, key_of, with_member, without_member}
 use Rattle.data_node.specs.Weights.{names_in}
 use Rattle.cat_history.specs.Maps.{at}
@@ -127,6 +127,7 @@ module _ {l : Layout} {g : ℕ} (f : Facts) (list : IsList l f) (caller index si
   look_does (passes {n = n} {w = w} {h = h} here) knows = stays refl refl refl (inr (refl, refl)) refl
   look_does (loses here other) knows = stays refl refl refl (inr (refl, refl)) refl
   look_does (misses other) knows = ends refl (λ no. no) refl refl
+  look_does (misses_read other small) knows = ends refl (λ no. no) refl refl
   look_does (times {n = n} {w = w} {h = h} clean below) knows = stays (unready n w h clean.ready) refl refl (inr (refl, refl)) refl
   look_does (learns {n = n} {w = w} {h = h} has positive is learnt) knows = stays (unready n w h is) refl refl (inr (refl, refl)) refl
   look_does (decides {n = n} {w = w} {h = h} has positive clean durable about learnt decided) knows = stays (unready n w h clean.ready) refl refl (inr (refl, refl)) refl
@@ -231,6 +232,7 @@ look_idle (eyes_free here free) is = absurd (cc)
 look_idle (passes here) is = absurd (cc)
 look_idle (loses here other) is = absurd (cc)
 look_idle (misses other) is = refl
+look_idle (misses_read other small) is = refl
 look_idle (times clean below) is = absurd (cc)
 look_idle (learns has positive unready learnt) is = absurd (cc)
 look_idle (decides has positive clean durable about learnt decided) is = absurd (cc)

@@ -10,7 +10,7 @@ use Rattle.version_lock.proofs.VersionFacts.{kept_count-same, kept_count-earlier
 use Rattle.call_stages.specs.declared.once.Once.{Once}
 use Rattle.call_stages.specs.declared.once.Placed.{Placed}
 use Rattle.call_stages.specs.Stages.{Held, Stage, Idle, Saw, Wears, Reads, Holds, Eyes, Splits, Leaves, Meets, Joins, IsLoose}
-use Rattle.call_stages.specs.Kinds.{Look, turns_back, is_worn, wears, roams, roams_status, sees, misses, times, learns, decides, glances, finds_live, watches, watches_next, turns_away, steps_back, wanders, fills, lights, switches, glances_left, glances_fresh, drains_left, drains_fresh, trims, splits, meets, knows_own, knows_right, copies, takes_up, puts_down, parts, gathers, joins, glances_joined, drains_joined, retires, yields, merges, peeks, peeks_status, eyes, eyes_free, passes, loses, claims, publishes, leaves, Step, looks, locks, locks_read, stores, commits, drains, counts, unlocks}
+use Rattle.call_stages.specs.Kinds.{Look, turns_back, is_worn, wears, roams, roams_status, sees, misses, misses_read, times, learns, decides, glances, finds_live, watches, watches_next, turns_away, steps_back, wanders, fills, lights, switches, glances_left, glances_fresh, drains_left, drains_fresh, trims, splits, meets, knows_own, knows_right, copies, takes_up, puts_down, parts, gathers, joins, glances_joined, drains_joined, retires, yields, merges, peeks, peeks_status, eyes, eyes_free, passes, loses, claims, publishes, leaves, Step, looks, locks, locks_read, stores, commits, drains, counts, unlocks}
 use Rattle.index_law.specs.Facts.{Facts}
 use Rattle.index_law.specs.Worlds.{facts}
 use Rattle.index_law.specs.Lawful.{Sure, SureEyes, IsOwnLock}
@@ -151,6 +151,7 @@ module _ (g : ℕ) (before now : ℕ → ℕ) where
   look_locks leaving after (passes {n = n} {w = w} here) has one = holds_once after n w has
   look_locks leaving after (loses {n = n} {w = w} here other) has one = holds_once after n w has
   look_locks leaving after (misses other) has one = keeps g before now has
+  look_locks leaving after (misses_read other small) has one = keeps g before now has
   look_locks leaving after (times {n = n} {w = w} clean below) has one = holds_once after n w (still_once leaving n w _ _ after one has)
   look_locks leaving after (learns {n = n} {w = w} at positive unready learnt) has one = holds_once after n w (still_once leaving n w _ _ after one has)
   look_locks leaving after (decides {n = n} {w = w} at positive clean durable about learnt decided) has one = holds_once after n w (still_once leaving n w _ _ after one has)

@@ -60,7 +60,8 @@ GetIsThere l words0 words (get.Looking lookup) = LookupStands l words0 words loo
 GetIsThere l words0 words (get.Checking call hold old) = HasCome None l words0 words call hold.locked
 
 abbrev pub PutIsThere : Layout → List ℕ → List ℕ → Put → Type 0
-PutIsThere l words0 words (put.Single (single_put.Looking lookup value)) = LookupStands l words0 words lookup.call lookup.at
+PutIsThere l words0 words (put.Single (single_put.Looking lookup value)) =
+    LookupStands l words0 words lookup.call lookup.at
 PutIsThere l words0 words (put.Single (single_put.Filling fill)) = IsAtNode l words0 fill.call
 PutIsThere l words0 words (put.Single (single_put.Replacing call hold bitmap hit value)) = IsAtNode l words0 call
 PutIsThere l words0 words (put.Single (single_put.Finishing finish)) = IsAtNode l words0 finish.call
@@ -74,7 +75,8 @@ HasFoundLine l words0 call line = IfSome line (λ number. HasLine l words0 call.
 -- Until it has looked for a line nothing but the lock has changed.
 abbrev pub DelIsThere : Layout → List ℕ → List ℕ → Del → Type 0
 DelIsThere l words0 words (del.Single (single_del.Looking lookup)) = LookupStands l words0 words lookup.call lookup.at
-DelIsThere l words0 words (del.Single (single_del.Next call hold bitmap hit)) = IsAtNode l words0 call × IsUnmoved l words0 words call.node
+DelIsThere l words0 words (del.Single (single_del.Next call hold bitmap hit)) = IsAtNode l words0 call ×
+    IsUnmoved l words0 words call.node
 DelIsThere l words0 words (del.Single (single_del.Taking call hold bitmap hit take)) =
     IsAtNode l words0 call × IsUnmoved l words0 words call.node ×
     HasLooked (λ index. line_in l words0 call.view.caller index 0) take.index take.at
@@ -201,7 +203,8 @@ IsAnswered w0 asked limit w p (once.Spent clock) =
     ¬ FindsWorn w0 asked × IsLate w0 limit × (clock ≡ length w0.history) × (w.history ≡ w0.history) × HasKeptList w0 w
 IsAnswered w0 asked limit w p (once.Again again.LogFull) =
     ¬ FindsWorn w0 asked × ¬ IsLate w0 limit × NeedsLine w0 asked × LacksLine w0.layout w0.words p.caller ×
-    (w.history ≡ w0.history) × HasKeptList w0 w × IsUnmoved w0.layout w0.words w.words (target_node w0 (name_asked asked))
+    (w.history ≡ w0.history) × HasKeptList w0 w ×
+    IsUnmoved w0.layout w0.words w.words (target_node w0 (name_asked asked))
 IsAnswered w0 asked limit w p (once.Again again.NoFree) =
     ¬ FindsWorn w0 asked × ¬ IsLate w0 limit × FindsFull w0 asked × HasLine w0.layout w0.words p.caller ×
     LacksFree w0.layout w0.generation w0.words × (w.history ≡ w0.history) × HasKeptList w0 w ×
@@ -246,7 +249,8 @@ LoneCallsGo = (w0 : World) (i : ℕ) (asked : NameOp) (limit : Option ℕ) (w : 
 -- The machine of a call as it begins.
 abbrev pub machine_for : NameOp → View → Option ℕ → Running
 machine_for (op.Get name) view limit = Getting (get.Looking (starts (new_call view name limit)))
-machine_for (op.Put name value) view limit = Putting (put.Single (single_put.Looking (starts (new_call view name limit)) value))
+machine_for (op.Put name value) view limit =
+    Putting (put.Single (single_put.Looking (starts (new_call view name limit)) value))
 machine_for (op.Del name) view limit = Deleting (del.Single (single_del.Looking (starts (new_call view name limit))))
 
 abbrev pub ValueFits : NameOp → Type 0

@@ -96,5 +96,5 @@ SplitsComeThere = (split : Split) (words0 words : List ℕ) (x : ℕ) → IsSpli
     Told split.view.layout split.view.generation (split_asks split) x →
     (HoldsAlone split.at → version_in split.view.layout words split.node ≡ split.word) →
     x ≡ got split.view.layout words (split_asks split) →
-    SplitWent split.view.layout split.view.generation words0 (acted split.view.layout words (split_asks split)) split.node
-    split.word split.view.caller (split_turned split x)
+    SplitWent split.view.layout split.view.generation words0 (acted split.view.layout words (split_asks split))
+    split.node split.word split.view.caller (split_turned split x)

@@ -100,13 +100,15 @@ LookupStands l words0 words call (at.Clock locked) = IsAtNode l words0 call × I
 LookupStands l words0 words call (at.Spent hold) = IsAtNode l words0 call × IsUnmoved l words0 words call.node
 LookupStands l words0 words call (at.Bitmap hold) = HasCome call.limit l words0 words call hold.locked
 LookupStands l words0 words call (at.Prints hold bitmap prints k) = HasCome call.limit l words0 words call hold.locked
-LookupStands l words0 words call (at.Name hold directory left slot k) = HasCome call.limit l words0 words call hold.locked
+LookupStands l words0 words call (at.Name hold directory left slot k) =
+    HasCome call.limit l words0 words call hold.locked
 LookupStands l words0 words call (at.Value hold directory slot) = HasCome call.limit l words0 words call hold.locked
 
 -- It ends early only because its target is worn, or its limit is reached.
 abbrev pub EndsEarly : Layout → ℕ → List ℕ → Call → Once Placed → Type 0
 EndsEarly l g words0 call (once.Worn node word) =
-    IsSome call.limit × (node ≡ target_from 0 (list_in l words0) (key_of (name_in call))) × (word ≡ version_in l words0 node) ×
+    IsSome call.limit × (node ≡ target_from 0 (list_in l words0) (key_of (name_in call))) ×
+    (word ≡ version_in l words0 node) ×
     IsWorn word g
 EndsEarly l g words0 call (once.Spent clock) = IsTrue (is_spent call.limit clock) × IsAtNode l words0 call
 EndsEarly l g words0 call (once.Again why) = ⊥
@@ -115,7 +117,8 @@ EndsEarly l g words0 call (once.Done placed) = ⊥
 abbrev pub LookedStands : Layout → ℕ → List ℕ → List ℕ → Call → Turn Lookup Looked → Type 0
 LookedStands l g words0 words call (Go lookup) = LookupStands l words0 words lookup.call lookup.at
 LookedStands l g words0 words call (Done (looked.Early answer)) = EndsEarly l g words0 call answer
-LookedStands l g words0 words call (Done (looked.Found found)) = HasCome call.limit l words0 words call found.hold.locked
+LookedStands l g words0 words call (Done (looked.Found found)) =
+    HasCome call.limit l words0 words call found.hold.locked
 
 abbrev pub LooksComeThere : Type 0
 LooksComeThere = (lookup : Lookup) (words0 words : List ℕ) (x : ℕ) → IsLookup lookup →

@@ -18,7 +18,8 @@ pub fn lone_tries()
     ensures ends { TriesEnd }
 {}
 
-ghost use Rattle.lone_call_law.specs.Rooms.{AddedHadRoom, RefusedWasFull, SplitWasFull, CutHasRoom, OneSplit, FullIsFirst};
+ghost use Rattle.lone_call_law.specs.Rooms.{AddedHadRoom, RefusedWasFull, SplitWasFull, CutHasRoom, OneSplit};
+ghost use Rattle.lone_call_law.specs.Rooms.{FullIsFirst};
 
 /// Whether a put finds room is told by the index before it and after it.
 pub fn rooms()
@@ -33,8 +34,8 @@ pub fn rooms()
 ghost use Rattle.lone_call_law.specs.LoneCalls.{LoneCallsBegin, LoneCallsGo, LoneCallsLose, LonePartsBegin};
 ghost use Rattle.lone_call_law.specs.Locks.{FewestLose, LocksGo, StagesLose, WornHasNone};
 
-/// Each turn of a lone call, whatever its op, and how it is answered. To this law a part of a range scan is a get of its
-/// low name.
+/// Each turn of a lone call, whatever its op, and how it is answered. To this law a part of a range scan is a get of
+/// its low name.
 pub fn lone_calls()
     ensures begins { LoneCallsBegin }
     ensures parts_begin { LonePartsBegin }

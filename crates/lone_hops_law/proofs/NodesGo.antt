@@ -134,6 +134,7 @@ look_own n m (kinds.eyes_free here is) = tt
 look_own n m (kinds.passes here) = tt
 look_own n m (kinds.loses here other) = tt
 look_own n m (kinds.misses other) = tt
+look_own n m (kinds.misses_read other small) = tt
 look_own n m (kinds.times clean below) = tt
 look_own n m (kinds.learns has positive unready learnt) = tt
 look_own n m (kinds.decides has positive clean durable about learnt decided) = tt

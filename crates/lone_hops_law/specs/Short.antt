@@ -41,6 +41,7 @@ ShortStaysAlike = (w : World) (words : List ℕ) →
 
 -- Then a walk that begins there makes no more hops than lines are READY.
 abbrev pub ShortWalks : Type 0
-ShortWalks = (w : World) (key start hops : ℕ) → AreQuiet w.layout w.generation (nodes_of w) → IsInOrder w.layout w.words →
+ShortWalks = (w : World) (key start hops : ℕ) → AreQuiet w.layout w.generation (nodes_of w) →
+    IsInOrder w.layout w.words →
     WaysAreShort w → IsFloorOf (layer_of w.layout w.words) key start → Comes w.layout (nodes_of w) key start hops →
     hops ≤ ready_lines w

@@ -10,7 +10,7 @@ use Rattle.call_stages.specs.declared.once.Once.TheVariants as once
 use Rattle.call_stages.specs.declared.once.Placed.{Placed}
 use Rattle.call_stages.specs.Stages.{Held, Grip, Stage, Idle, Saw, Wears, Holds, Eyes, Splits, Leaves, Meets, Joins, Filling, Linked, Parted, Phase, IsLoose, placed_in}
 use Rattle.call_stages.specs.Prevs.{IsSwitch}
-use Rattle.call_stages.specs.Kinds.{Look, turns_back, is_worn, wears, roams, roams_status, sees, misses, times, learns, decides, glances, finds_live, watches, watches_next, turns_away, steps_back, wanders, Split, fills, lights, switches, glances_left, glances_fresh, drains_left, drains_fresh, trims, splits, Merge, meets, knows_own, knows_right, copies, takes_up, puts_down, parts, gathers, joins, glances_joined, drains_joined, retires, yields, merges, peeks, peeks_status, eyes, eyes_free, passes, loses, claims, publishes, leaves, Step, looks, locks, locks_read, stores, commits, drains, counts, unlocks, GivesUp, Answers, writes, reads, is_spent, has_no_room, refuses, IsRefusal}
+use Rattle.call_stages.specs.Kinds.{Look, turns_back, is_worn, wears, roams, roams_status, sees, misses, misses_read, times, learns, decides, glances, finds_live, watches, watches_next, turns_away, steps_back, wanders, Split, fills, lights, switches, glances_left, glances_fresh, drains_left, drains_fresh, trims, splits, Merge, meets, knows_own, knows_right, copies, takes_up, puts_down, parts, gathers, joins, glances_joined, drains_joined, retires, yields, merges, peeks, peeks_status, eyes, eyes_free, passes, loses, claims, publishes, leaves, Step, looks, locks, locks_read, stores, commits, drains, counts, unlocks, GivesUp, Answers, writes, reads, is_spent, has_no_room, refuses, IsRefusal}
 use Rattle.index_law.specs.LoneShapes.{has_merged}
 use Rattle.index_law.proofs.Loose.{out_unmerged, loose_out}
 use Rattle.lone_call_law.specs.Tries.{is_cut}
@@ -49,6 +49,7 @@ look_cut (eyes_free here free) = refl
 look_cut (passes here) = refl
 look_cut (loses here other) = refl
 look_cut (misses other) = refl
+look_cut (misses_read other small) = refl
 look_cut (times clean below) = refl
 look_cut (learns has positive unready learnt) = refl
 look_cut (decides has positive clean durable about learnt decided) = refl
@@ -150,6 +151,7 @@ look_told (eyes_free here free) answer is = absurd (cc)
 look_told (passes here) answer is = absurd (cc)
 look_told (loses here other) answer is = absurd (cc)
 look_told (misses {n = n} {v = v} {w = w} {k = k} other) answer is = subst (λ (d : Once Placed). Told d (Saw n v w k)) (some_same is) (refl, refl)
+look_told (misses_read {n = n} {v = v} {w = w} {k = k} other small) answer is = subst (λ (d : Once Placed). Told d (Reads n v k None)) (some_same is) (refl, refl)
 look_told (times clean below) answer is = absurd (cc)
 look_told (learns has positive unready learnt) answer is = absurd (cc)
 look_told (decides has positive clean durable about learnt decided) answer is = absurd (cc)

@@ -122,7 +122,8 @@ LogGoes = (name : List ℕ) (own : Option Change) (w0 : World) (z : Layered) (i 
 -- and its last step, which gives an answer.
 abbrev pub LogEnds : Type 0
 LogEnds = (name : List ℕ) (own : Option Change) (w0 : World) (z : Layered) (i : ℕ) (p : Party) (foot : Footing)
-    (debt : Debt) (action : Action) (x : ℕ) (answer : Once Placed) → IsLayered z → Trying name own w0 i z.whole.world p →
+    (debt : Debt) (action : Action) (x : ℕ) (answer : Once Placed) → IsLayered z →
+    Trying name own w0 i z.whole.world p →
     get_elem? z.whole.lines i ≡ some foot.line → p.stage ≡ foot.stage → LogStands p.caller w0 z.whole.world foot →
     FootStep z.whole.world.layout z.whole.world.generation p.caller foot action x
     (record { stage = Idle; line = None; debt = debt }) (Some answer) →

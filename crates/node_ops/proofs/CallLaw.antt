@@ -16,7 +16,7 @@ use Rattle.call_stages.specs.Stages.{Held, Knows, Stage, Idle}
 use Rattle.call_stages.specs.declared.once.Once.TheVariants as once
 use Rattle.call_stages.specs.declared.view.View.{View}
 use Rattle.call_stages.specs.AnySteps.{AnyStep}
-use Rattle.call_stages.specs.Footings.{FootStep}
+use Rattle.permutation.specs.Sparing.{SparingStep}
 use Rattle.pm_words.specs.declared.again.Again.TheVariants as again
 use Rattle.index_law.proofs.Footings.{foot_any}
 use Rattle.split_merge.specs.declared.splitting.Split.{Split}
@@ -58,7 +58,7 @@ use Rattle.node_ops.specs.FinishSteps.{finish_turned}
 use Rattle.node_ops.specs.FillSteps.{fill_turned}
 use Rattle.node_ops.specs.GetSteps.{IsGet, checked, get_call, get_asks, get_turned, get_looked}
 use Rattle.node_ops.specs.PutSteps.{IsPut, put_call, put_asks, put_turned, put_looked, put_into, put_full, put_filled, put_finished, replaced, put_split, IsSplitting}
-use Rattle.node_ops.specs.RunningSteps.{running_call, running_asks, running_turned, wrapped, wrapped_part, IsRunning}
+use Rattle.node_ops.specs.RunningSteps.{running_call, running_asks, running_turned, wrapped, wrapped_part, IsRunning, Sound}
 use Rattle.node_ops.specs.Laws.{TurnsAreFootSteps, TurnsAreSteps, LeadsAreTaken}
 use Rattle.node_ops.specs.CallStages.{words_from, nothing, knows, decided, fence_rest, seen_hit, seen_fill, get_stage, put_stage, part_stage, stage_of, stage_after, reply_of, found_full, footing_of, footing_after}
 use Rattle.node_ops.proofs.SeenLemmas.{Stand, seen_append, seen_front, stand_whole}
@@ -66,6 +66,7 @@ use Rattle.node_ops.proofs.LookupLaw.{PlainStep, steps, hit_words, found_known, 
 use Rattle.node_ops.proofs.FinishLaw.{Finishes, finish_leads}
 use Rattle.node_ops.proofs.FillLaw.{Fills, fill_leads}
 use Rattle.node_ops.proofs.LookupSound.{SoundLooked, found_by, lookup_stays}
+use Rattle.node_ops.proofs.Sparing.{foot_of}
 use Rattle.node_ops.proofs.PlainSteps.{hit_words_known, part_hit, Plain, IsSingle, IsPlainAfter, plain, looks_single}
 use Rattle.node_ops.specs.declared.part.Part.{Part}
 use Rattle.node_ops.specs.declared.part.Part.TheVariants as part
@@ -271,7 +272,7 @@ module _ (call : Call) (hold : Hold) (bitmap value : ℕ) (split : Split) (sound
   machine = Putting (put.Splitting call hold bitmap value split)
 
   abbrev Foots : View → Turn Running (Once Placed) → Type 0
-  Foots view turn = FootStep view.layout view.generation view.caller (split_footing held split) (split_asks split) x (footing_after turn) (reply_of turn)
+  Foots view turn = SparingStep view.layout view.generation view.caller (split_footing held split) (split_asks split) x (footing_after turn) (reply_of turn)
 
   begins : MayBegin split.view.layout.slots held
   begins = record {
@@ -284,7 +285,7 @@ module _ (call : Call) (hold : Hold) (bitmap value : ℕ) (split : Split) (sound
   foots : (turn : Turn Split SplitDone) → SplitsSo split held x turn → Foots split.view (wrapped Putting (put_split call hold bitmap value turn))
   foots (Go next) so = so.0
   foots (Done (done.Done fresh)) so =
-      subst (λ (n : ℕ). FootStep split.view.layout split.view.generation split.view.caller (split_footing held split) (split_asks split) x done_footing (Some (once.Again (again.NeedsSplit n)))) sound.node so
+      subst (λ (n : ℕ). SparingStep split.view.layout split.view.generation split.view.caller (split_footing held split) (split_asks split) x done_footing (Some (once.Again (again.NeedsSplit n)))) sound.node so
   foots (Done (done.Again why)) so = so
 
   splitting_leads : Told call.view.layout call.view.generation (split_asks split) x → LeadsWithin call.view.layout (split_footing held split).stage (split_asks split) x
@@ -310,7 +311,7 @@ parts_plain (Done answer) = refl
 
 own_steps : (running : Running) (x : ℕ) → IsRunning running → Told (running_call running).view.layout (running_call running).view.generation (running_asks running) x
     → LeadsWithin (running_call running).view.layout (stage_of running) (running_asks running) x
-    → FootStep (running_call running).view.layout (running_call running).view.generation (running_call running).view.caller (footing_of running) (running_asks running) x
+    → SparingStep (running_call running).view.layout (running_call running).view.generation (running_call running).view.caller (footing_of running) (running_asks running) x
     (footing_after (running_turned running x)) (reply_of (running_turned running x))
 own_steps (Getting get) x sound told leads =
     plain _ _ _ None (get_stage get) _ x (running_turned (Getting get) x) (get_single get) (gets_plain (get_turned get x)) (as_get (get_call get) _ _ x (get_turned get x) (get_leads get x sound told))
@@ -323,14 +324,19 @@ own_steps (Deleting del) x sound told leads = dels_are_steps del x sound told le
 own_steps (Parting p) x sound told leads =
     plain _ _ _ None (part_stage p) _ x (running_turned (Parting p) x) (part_single p) (parts_plain (part_turned p x)) (part_steps p x sound told)
 
-pub turns_are_foot_steps : TurnsAreFootSteps
-turns_are_foot_steps l g running x sound told leads =
+-- each turn of a call stores no permutation
+pub turns_spare : (l : Layout) (g : ℕ) (running : Running) (x : ℕ) → Sound l g running → Told l g (running_asks running) x → LeadsWithin l (stage_of running) (running_asks running) x
+    → SparingStep l g (running_call running).view.caller (footing_of running) (running_asks running) x (footing_after (running_turned running x)) (reply_of (running_turned running x))
+turns_spare l g running x sound told leads =
     let at_layout = subst (λ (n : ℕ). Told l n (running_asks running) x) (sym sound.generation) told in
     let own = own_steps running x sound.here (subst (λ (k : Layout). Told k (running_call running).view.generation (running_asks running) x) (sym sound.layout) at_layout)
     (subst (λ (k : Layout). LeadsWithin k (stage_of running) (running_asks running) x) (sym sound.layout) leads) in
-    subst (λ (n : ℕ). FootStep l n (running_call running).view.caller (footing_of running) (running_asks running) x (footing_after (running_turned running x)) (reply_of (running_turned running x))) sound.generation
-    (subst (λ (k : Layout). FootStep k (running_call running).view.generation (running_call running).view.caller (footing_of running) (running_asks running) x (footing_after (running_turned running x)) (reply_of (running_turned running x)))
+    subst (λ (n : ℕ). SparingStep l n (running_call running).view.caller (footing_of running) (running_asks running) x (footing_after (running_turned running x)) (reply_of (running_turned running x))) sound.generation
+    (subst (λ (k : Layout). SparingStep k (running_call running).view.generation (running_call running).view.caller (footing_of running) (running_asks running) x (footing_after (running_turned running x)) (reply_of (running_turned running x)))
     sound.layout own)
+
+pub turns_are_foot_steps : TurnsAreFootSteps
+turns_are_foot_steps l g running x sound told leads = foot_of l g (running_call running).view.caller _ _ _ x _ (turns_spare l g running x sound told leads)
 
 -- the stage of what a call has
 pub footing_stage : (running : Running) → (footing_of running).stage ≡ stage_of running

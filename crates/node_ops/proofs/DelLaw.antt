@@ -16,7 +16,8 @@ use Rattle.call_stages.specs.declared.once.Placed.{Placed}
 use Rattle.call_stages.specs.Stages.{Held, Stage, Idle}
 use Rattle.call_stages.specs.declared.once.Once.TheVariants as once
 use Rattle.call_stages.specs.declared.view.View.{View}
-use Rattle.call_stages.specs.Footings.{Waits, FootStep, on_line}
+use Rattle.call_stages.specs.Footings.{Waits}
+use Rattle.permutation.specs.Sparing.{IsLineOf, SparingStep, on_line}
 use Rattle.call_stages.specs.Kinds.{Told, LeadsWithin, Step, looks, learns, commits, unlocks, refuses, word_address}
 use Rattle.node_ops.specs.declared.call.Call.{Call}
 use Rattle.node_ops.specs.declared.lookup.Hold.{Hold}
@@ -35,7 +36,6 @@ use Rattle.node_ops.specs.Calls.{IsCall, name_in}
 use Rattle.pm_words.specs.Fences.{line_of, fence_start}
 use Rattle.node_ops.specs.LookupSteps.{IsHit, lookup_turned}
 use Rattle.node_ops.specs.FinishSteps.{finish_turned, finish_at_turned, finish_fenced}
-use Rattle.call_stages.specs.AnySteps.{IsBeside}
 use Rattle.call_stages.specs.Lines.{HeldLine, Notes}
 use Rattle.smo_log.specs.declared.take.Take.{Take}
 use Rattle.smo_log.specs.declared.take.TakeAt.{TakeAt}
@@ -44,7 +44,7 @@ use Rattle.smo_log.specs.declared.take.Taken.{Taken}
 use Rattle.smo_log.specs.declared.take.Taken.TheVariants.{Line, Full}
 use Rattle.smo_log.specs.LogLines.{caller_of, index_of, empty_line, fenced}
 use Rattle.smo_log.specs.Takes.{IsTake, take_from, take_line, take_asks, take_turned, take_at_held, take_held, TakeNotes}
-use Rattle.smo_log.proofs.LineLaw.{takes_are_notes, index_within, notes_beside}
+use Rattle.smo_log.proofs.LineLaw.{takes_are_notes, index_within}
 use Rattle.split_merge.specs.declared.merging.Merge.{Merge}
 use Rattle.split_merge.specs.declared.merging.MergeAt.{MergeAt}
 use Rattle.split_merge.specs.declared.merging.MergeAt.TheVariants as merge_at
@@ -228,7 +228,7 @@ module _ (call : Call) (hold : Hold) (bitmap : ℕ) (hit : Hit) (take : Take) (s
   l = call.view.layout
 
   abbrev Lines : Turn Running (Once Placed) → Type 0
-  Lines turn = FootStep l call.view.generation call.view.caller (del_footing (del.Single (single_del.Taking call hold bitmap hit take))) (take_asks take) x (footing_after turn) (reply_of turn)
+  Lines turn = SparingStep l call.view.generation call.view.caller (del_footing (del.Single (single_del.Taking call hold bitmap hit take))) (take_asks take) x (footing_after turn) (reply_of turn)
 
   noted : (after : Option HeldLine) → Notes take.layout (take_held take) (take_asks take) x after → Notes l (take_held take) (take_asks take) x after
   noted after note = subst (λ k. Notes k (take_held take) (take_asks take) x after) is.layout_is note
@@ -239,19 +239,19 @@ module _ (call : Call) (hold : Hold) (bitmap : ℕ) (hit : Hit) (take : Take) (s
       let within : take.caller < l.callers = subst (λ (k : Layout). take.caller < k.callers) is.layout_is is.here.caller in
       (omega arith, subst (λ n. n < 8) (sym number) (index_within (take_line take)))
 
-  beside : (after : Option HeldLine) → Notes l (take_held take) (take_asks take) x after → IsBeside l (take_asks take)
-  beside after note = notes_beside l (take_held take) after (take_asks take) x (of_take take (λ e. (e.caller < l.callers) × (e.number < 8)) here) note
+  own : IsLineOf l (take_held take)
+  own = of_take take (λ e. (e.caller < l.callers) × (e.number < 8)) here
 
   waits : (after : Option HeldLine) → IfSome after (λ e. e.ready ≡ false) → Waits (del_footing (del.Single (single_del.Taking call hold bitmap hit take))).stage (take_held take) after
   waits after unready = take_waits (del_footing (del.Single (single_del.Taking call hold bitmap hit take))).stage (take_line take) take.at after unready
 
   takes_line : (turn : Turn Take Taken) → TakeNotes take.layout take.caller (take_held take) (take_asks take) x turn → Lines (wrapped Deleting (del_taken call hold bitmap hit turn))
   takes_line (Go next) note =
-      on_line (waits (take_held next) (take_unready (take_line next) next.at)) refl (beside (take_held next) (noted (take_held next) note.0)) (noted (take_held next) note.0)
+      on_line (waits (take_held next) (take_unready (take_line next) next.at)) refl own (noted (take_held next) note.0)
       (of_take next (λ e. e.caller ≡ call.view.caller) (λ e caller number. caller ∙ take_owner next note.1 ∙ note.3 ∙ is.caller_is))
   takes_line (Done (Line line)) note =
-      on_line (waits (Some (empty_line line)) refl) refl (beside (Some (empty_line line)) (noted (Some (empty_line line)) note.0)) (noted (Some (empty_line line)) note.0) (note.1 ∙ is.caller_is)
-  takes_line (Done Full) note = on_line (waits None tt) refl (beside None (noted None note)) (noted None note) tt
+      on_line (waits (Some (empty_line line)) refl) refl own (noted (Some (empty_line line)) note.0) (note.1 ∙ is.caller_is)
+  takes_line (Done Full) note = on_line (waits None tt) refl own (noted None note) tt
 
   taking_leads : x < 2 ^ 64 → Lines (running_turned (Deleting (del.Single (single_del.Taking call hold bitmap hit take))) x)
   taking_leads fits = takes_line (take_turned take x) (takes_are_notes take x is.here fits)
@@ -265,7 +265,7 @@ module _ (call : Call) (hold : Hold) (old : Option ℕ) (place : ℕ) (merge : M
   merged = once.Done (record { old = old; place = place; hops = call.hops })
 
   abbrev Merges : View → Turn Running (Once Placed) → Type 0
-  Merges view turn = FootStep view.layout view.generation view.caller (merge_footing merges_held merge) (merge_asks merge) x (footing_after turn) (reply_of turn)
+  Merges view turn = SparingStep view.layout view.generation view.caller (merge_footing merges_held merge) (merge_asks merge) x (footing_after turn) (reply_of turn)
 
   may_join : MayJoin merges_held
   may_join = record { still = placed_still call old place; durable = refl; unhanded = refl; may = record { untimed = refl; unmerged = refl } }
@@ -291,7 +291,7 @@ del_steps del x is sound told =
     plain _ _ _ (del_line del) (del_stage del) _ x (running_turned (Deleting del) x) (del_single del is) (dels_plain del x is sound) (as_del (del_call del) _ _ x (del_turned del x) (del_leads del x is sound told))
 
 pub dels_are_steps : (del : Del) (x : ℕ) → IsDel del → Told (del_call del).view.layout (del_call del).view.generation (del_asks del) x → LeadsWithin (del_call del).view.layout (del_stage del) (del_asks del) x
-    → FootStep (del_call del).view.layout (del_call del).view.generation (del_call del).view.caller (del_footing del) (del_asks del) x
+    → SparingStep (del_call del).view.layout (del_call del).view.generation (del_call del).view.caller (del_footing del) (del_asks del) x
     (footing_after (running_turned (Deleting del) x)) (reply_of (running_turned (Deleting del) x))
 dels_are_steps (del.Single (single_del.Looking lookup)) x sound told leads = del_steps (del.Single (single_del.Looking lookup)) x tt sound told
 dels_are_steps (del.Single (single_del.Next call hold bitmap hit)) x sound told leads = del_steps (del.Single (single_del.Next call hold bitmap hit)) x tt sound told

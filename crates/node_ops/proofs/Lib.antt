@@ -6,7 +6,9 @@ pub mod FinishLaw
 pub mod FillLaw
 pub mod PlainSteps
 pub mod DelLaw
+pub mod Sparing
 pub mod CallLaw
+pub mod PermutingLaw
 pub mod CallSound
 pub mod OpLaw
 pub mod Endings

@@ -4,7 +4,9 @@ use Rattle.std.specs.FinMap.{entries}
 use Rattle.std.specs.List.{AllByRecursion}
 use Rattle.std.proofs.lemmas.Bool.{eqb-true, eq-eqb, lt-ltb, ltb-true, ltb-false}
 use Rattle.pm_words.specs.declared.layout.Layout.{Layout}
-use Rattle.pm_words.specs.declared.machine.Turn.TheVariants.{Done}
+use Rattle.pm_words.specs.declared.action.Action.TheVariants.{Load}
+use Rattle.pm_words.specs.declared.machine.Turn.{Turn}
+use Rattle.pm_words.specs.declared.machine.Turn.TheVariants.{Go, Done}
 use Rattle.cat_key.specs.Names.{IsName, AreNameWords}
 use Rattle.cat_history.specs.Scans.{is_below, is_under, is_between}
 use Rattle.data_node.specs.Spots.{Spot}
@@ -22,8 +24,16 @@ use Rattle.index_law.specs.Lawful.{IsList, Stands, SureReads}
 use Rattle.index_law.proofs.AnchorTexts.{key-order, named-text}
 use Rattle.index_law.proofs.Cutting.{all-named}
 use Rattle.index_law.proofs.Switch.{rise_from}
+use Rattle.call_stages.specs.declared.once.Once.{Once}
 use Rattle.call_stages.specs.declared.once.Once.TheVariants as once
-use Rattle.node_ops.proofs.PartTelling.{looked_on, done_words}
+use Rattle.call_stages.specs.declared.once.Placed.{Placed}
+use Rattle.call_stages.specs.Kinds.{version_address}
+use Rattle.node_ops.specs.declared.running.Running.{Running}
+use Rattle.node_ops.specs.declared.running.Running.TheVariants.{Getting, Putting, Deleting, Parting}
+use Rattle.index_law.specs.Worlds.{facts, stepped}
+use Rattle.node_ops.specs.CallStages.{stage_after}
+use Rattle.node_ops.specs.RunningSteps.{running_asks, running_turned}
+use Rattle.node_ops.proofs.PartTelling.{looked_on, done_words, parts_hear}
 use Rattle.node_ops.specs.declared.part.PartWords.{PartWords}
 use Rattle.node_ops.specs.declared.part.Reading.{Reading}
 use Rattle.node_ops.specs.declared.part.ReadingAt.{ReadingAt}
@@ -31,8 +41,8 @@ use Rattle.node_ops.specs.declared.part.ReadingAt.TheVariants as at
 use Rattle.node_ops.specs.declared.part.Part.TheVariants as part
 use Rattle.node_ops.specs.LookupSteps.{lookup_turned}
 use Rattle.node_ops.specs.CallStages.{behind_sight, reading_held}
-use Rattle.node_ops.specs.PartSteps.{behind_of, IsReading, reading_turned}
-use Rattle.node_ops.specs.Parts.{from_name, IsBehind, HaveWords, PartsSeeBehind, EndsAt, PartsEndThere, EndsAreRanges}
+use Rattle.node_ops.specs.PartSteps.{behind_of, IsReading, reading_at_asks, reading_turned}
+use Rattle.node_ops.specs.Parts.{from_name, IsBehind, HaveWords, HasEnd, PartsEnd, EndsAt, EndsAreHeld, EndsStay, PartsEndThere, EndsAreRanges, end_after}
 
 -- the anchor of a node behind is that of a name
 named_member : (now : ℕ → Spot) (here : ℕ) (list : List ListNode) → IsChain now here list → AllByRecursion (λ (m : ListNode). (name : List ℕ) × IsName name × (m.anchor ≡ key_of name)) list
@@ -137,16 +147,36 @@ sees_behind f n (Some next) is some =
     (to, some, subst (λ k. anchor_words (f.now k) ≡ words_in (key_words next.anchor)) to (λ i. a i ∷ b i ∷ c i ∷ []))
 
 reading_sees : (l : Layout) (g : ℕ) (f : Facts) (since : ℕ) (reading : Reading) (at : ReadingAt) (x : ℕ) (words : PartWords) → IsReading (record reading { at = at })
-    → SureReads l g f since reading.call.node reading.hold.locked (behind_sight reading.behind) (Some (reading_held (record reading { at = at }))) → x ≡ f.version reading.call.node
-    → reading_turned (record reading { at = at }) at x ≡ Done (once.Done words) → IsListed f words.node × (range_of l f words.node (name_in reading.call) ≡ true) × IsBehind f words.node reading.behind
-reading_sees l g f since reading (at.Load slot word) x words sound knows gives is = absurd (cc)
-reading_sees l g f since reading at.Check x words sound knows gives is =
+    → SureReads l g f since reading.call.node reading.hold.locked (behind_sight reading.behind) (Some (reading_held (record reading { at = at }))) → (reading_at_asks reading.call at ≡ Load (version_address l reading.call.node) → x ≡ f.version reading.call.node)
+    → reading.call.view.layout ≡ l → reading_turned (record reading { at = at }) at x ≡ Done (once.Done words) → IsListed f words.node × (range_of l f words.node (name_in reading.call) ≡ true) × IsBehind f words.node reading.behind
+reading_sees l g f since reading (at.Load slot word) x words sound knows gives layout is = absurd (cc)
+reading_sees l g f since reading at.Check x words sound knows gives layout is =
     let whole = record reading { at = at.Check } in
     let done = done_words whole x words is in
-    let still : f.version reading.call.node ≡ reading.hold.locked = sym gives ∙ done.0 in
+    let still : f.version reading.call.node ≡ reading.hold.locked = sym (gives (ap (λ (k : Layout). Load (version_address k reading.call.node)) layout)) ∙ done.0 in
     subst (λ (w : PartWords). IsListed f w.node × (range_of l f w.node (name_in reading.call) ≡ true) × IsBehind f w.node reading.behind) done.1
     ((knows.read still).listed, (knows.read still).inside, sees_behind f reading.call.node reading.behind (knows.stands still) sound.behind)
 
-pub parts_see_behind : PartsSeeBehind
-parts_see_behind l g f caller index since (part.Looking lookup count behind) x words sound knows gives is = absurd (looked_on lookup.call count (behind_of lookup.at behind) (lookup_turned lookup x) words is)
-parts_see_behind l g f caller index since (part.Reading reading) x words sound knows gives is = reading_sees l g f since reading reading.at x words sound.here knows gives is
+pub parts_end : PartsEnd
+parts_end l g f row caller index since (part.Looking lookup count behind) x words sound list fits knows relies gives is = absurd (looked_on lookup.call count (behind_of lookup.at behind) (lookup_turned lookup x) words is)
+parts_end l g f row caller index since (part.Reading reading) x words sound list fits knows relies gives is =
+    let sees = reading_sees l g f since reading reading.at x words sound.here knows gives sound.layout is in
+    let hears = parts_hear (part.Reading reading) x words is in
+    subst (EndsAt (range_of l f words.node) (name_in reading.call)) (sym hears.high)
+    (parts_end_there l f words.node reading.behind (name_in reading.call) list fits sees.0 sees.2 sound.here.call.packed.named sees.1)
+
+pub ends_are_held : EndsAreHeld
+ends_are_held (Getting get) = tt
+ends_are_held (Putting put) = tt
+ends_are_held (Deleting del) = tt
+ends_are_held (Parting p) = tt
+
+endless : (l : Layout) (f : Facts) (turn : Turn Running (Once Placed)) → HasEnd l f (end_after turn)
+endless l f (Go (Getting get)) = tt
+endless l f (Go (Putting put)) = tt
+endless l f (Go (Deleting del)) = tt
+endless l f (Go (Parting p)) = tt
+endless l f (Done answer) = tt
+
+pub ends_stay : EndsStay
+ends_stay w i p m x lawful there stage sound told has = endless w.layout (facts (stepped w i p (running_asks m) (stage_after (running_turned m x)))) (running_turned m x)

@@ -1,5 +1,5 @@
 -- What a part lists as it gives its node back, and that its count stays.
-use Rattle.std.proofs.Common.{◌≡◌, ℕ, true, false, Option, Some, None, refl, subst, ap}
+use Rattle.std.proofs.Common.{◌≡◌, ℕ, true, false, Option, Some, None, inl, inr, refl, subst, ap}
 use Rattle.pm_words.specs.declared.machine.Turn.{Turn}
 use Rattle.pm_words.specs.declared.machine.Turn.TheVariants.{Go, Done}
 use Rattle.data_list.specs.declared.target.Next.{Next}
@@ -20,9 +20,9 @@ use Rattle.node_ops.specs.LookupSteps.{lookup_turned}
 use Rattle.node_ops.specs.GetSteps.{get_turned}
 use Rattle.node_ops.specs.PutSteps.{put_turned}
 use Rattle.node_ops.specs.DelSteps.{del_turned}
-use Rattle.node_ops.specs.PartSteps.{part_turned, part_looked, early_of, listed_at, reading_turned, behind_of, words_placed}
+use Rattle.node_ops.specs.PartSteps.{part_turned, part_looked, early_of, listed_at, reading_turned, behind_of, reading_at_asks, words_placed}
 use Rattle.node_ops.specs.RunningSteps.{running_turned, wrapped, wrapped_part, count_in}
-use Rattle.node_ops.specs.Parts.{ListedIsTold, ListedIsAnswered, DoneIsListed, CountStays}
+use Rattle.node_ops.specs.Parts.{GivesVersion, ListedIsTold, ListedIsAnswered, DoneIsListed, CountStays}
 use Rattle.std.proofs.Common.{◌==◌, cond, sym, ◌∙◌}
 use Rattle.std.specs.Prelude.{IsSomeAnd}
 use Rattle.std.proofs.lemmas.Bool.{eqb-true, eq-eqb}
@@ -32,14 +32,17 @@ use Rattle.node_ops.specs.PartSteps.{part_words}
 pub listed_is_told : ListedIsTold
 listed_is_told (part.Looking lookup count behind) words is x same = cc
 listed_is_told (part.Reading reading) words is x same =
-    elim reading.at as (λ at. listed_at reading at ≡ Some words → reading_turned reading at x ≡ Done (once.Done words)) [
-      | at.Load slot word ↦ λ none. cc
-      | at.Check ↦ λ some.
+    elim reading.at as (λ at. listed_at reading at ≡ Some words → GivesVersion reading.call.view.layout (reading_at_asks reading.call at) x words → reading_turned reading at x ≡ Done (once.Done words)) [
+      | at.Load slot word ↦ λ none gives. cc
+      | at.Check ↦ λ some gives.
           let words_are : part_words reading ≡ words = ap (λ (o : Option PartWords). elim o [ None ↦ words | Some w ↦ w ]) some in
-          let same_word : x ≡ reading.hold.locked = same ∙ ap (λ (w : PartWords). w.version) (sym words_are) in
+          let same_word : x ≡ reading.hold.locked = elim gives [
+            | inl loads ↦ loads.1 ∙ ap (λ (w : PartWords). w.version) (sym words_are)
+            | inr stores ↦ absurd (cc)
+          ] in
           ap (λ b. Done (cond b (once.Done (part_words reading)) (once.Again (again.Moved reading.call.node reading.hold.locked x)))) (eq-eqb x reading.hold.locked same_word)
           ∙ ap (λ (w : PartWords). Done (once.Done w)) words_are
-    ] is
+    ] is same
 
 -- what its answer says of the whole call
 wrapped_told : (t : Turn Part (Once PartWords)) (words : PartWords) → t ≡ Done (once.Done words) →
@@ -70,12 +73,12 @@ done_is_listed (Putting put) x placed counted is = absurd (let none : false ≡ 
 done_is_listed (Deleting del) x placed counted is = absurd (let none : false ≡ true = counted in cc)
 done_is_listed (Parting (part.Looking lookup count behind)) x placed counted is = absurd (looked_done lookup.call count (behind_of lookup.at behind) (lookup_turned lookup x) placed is)
 done_is_listed (Parting (part.Reading reading)) x placed counted is =
-    elim reading.at as (λ at. wrapped_part (reading_turned reading at x) ≡ Done (once.Done placed) → IsSomeAnd (listed_at reading at) (λ words. (x ≡ words.version) × (placed ≡ words_placed words))) [
+    elim reading.at as (λ at. wrapped_part (reading_turned reading at x) ≡ Done (once.Done placed) → IsSomeAnd (listed_at reading at) (λ words. GivesVersion reading.call.view.layout (reading_at_asks reading.call at) x words × (placed ≡ words_placed words))) [
       | at.Load slot word ↦ λ done. absurd (cc)
       | at.Check ↦ λ done. elim (x == reading.hold.locked) as (λ b. (x == reading.hold.locked) ≡ b
           → wrapped_part (Done (cond b (once.Done (part_words reading)) (once.Again (again.Moved reading.call.node reading.hold.locked x)))) ≡ Done (once.Done placed)
-          → (x ≡ (part_words reading).version) × (placed ≡ words_placed (part_words reading))) [
-            | true ↦ λ same now. (eqb-true x reading.hold.locked same, (cc))
+          → GivesVersion reading.call.view.layout (reading_at_asks reading.call at.Check) x (part_words reading) × (placed ≡ words_placed (part_words reading))) [
+            | true ↦ λ same now. (inl (refl, eqb-true x reading.hold.locked same), (cc))
             | false ↦ λ other now. absurd (cc)
           ] refl done
     ] is

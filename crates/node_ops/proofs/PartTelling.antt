@@ -1,5 +1,5 @@
 -- What a part of a range scan tells is a part of the map.
-use Rattle.std.proofs.Common.{◌≡◌, ℕ, zero, suc, ◌+◌, ◌-◌, ◌<◌, ◌≤◌, ◌==◌, ltb, Bool, true, false, not, cond, ◌&&◌, Option, Some, List, [], ◌∷◌, ◌++◌, length, take, map, set, refl, sym, subst, ap, ◌∙◌, arith, append-nil}
+use Rattle.std.proofs.Common.{◌≡◌, ℕ, zero, suc, ◌+◌, ◌-◌, ◌<◌, ◌≤◌, ◌==◌, ltb, Bool, true, false, not, cond, ◌&&◌, Option, Some, List, [], ◌∷◌, ◌++◌, length, take, map, set, inl, inr, refl, sym, subst, ap, ◌∙◌, arith, append-nil}
 use Rattle.std.specs.Int.{bit_at}
 use Rattle.std.specs.FinMap.{entries}
 use Rattle.std.specs.FinMap.Entries.{where_key}
@@ -8,6 +8,7 @@ use Rattle.std.proofs.Math.Seq.{take-nil}
 use Rattle.std.proofs.lemmas.Bool.{eqb-true, ltb-true, ltb-false}
 use Rattle.std.proofs.lemmas.List.{take_more_set, take-map, length-map, append_assoc, length-set, length-replicate}
 use Rattle.pm_words.specs.declared.layout.Layout.{Layout}
+use Rattle.pm_words.specs.declared.action.Action.TheVariants.{Load}
 use Rattle.pm_words.specs.declared.machine.Turn.{Turn}
 use Rattle.pm_words.specs.declared.machine.Turn.TheVariants.{Go, Done}
 use Rattle.cat_key.specs.Names.{IsName, AreNameWords, IsPacked, bytes_of, name_cmp}
@@ -27,6 +28,7 @@ use Rattle.call_stages.specs.declared.once.Once.{Once}
 use Rattle.call_stages.specs.declared.once.Once.TheVariants as once
 use Rattle.pm_words.specs.declared.again.Again.TheVariants as again
 use Rattle.call_stages.specs.declared.once.Placed.{Placed}
+use Rattle.call_stages.specs.Kinds.{version_address}
 use Rattle.split_merge.specs.Plans.{put_in}
 use Rattle.split_merge.proofs.Sorting.{put_size}
 use Rattle.node_ops.specs.declared.call.Call.{Call}
@@ -42,9 +44,9 @@ use Rattle.node_ops.specs.declared.part.ReadingAt.TheVariants as at
 use Rattle.node_ops.specs.declared.part.Part.TheVariants as part
 use Rattle.node_ops.specs.Calls.{name_in}
 use Rattle.node_ops.specs.LookupSteps.{lookup_turned}
-use Rattle.node_ops.specs.PartSteps.{no_entry, no_listing, entry_in, entry_name, live_order, is_from, order_in, lists, part_words, part_checked, behind_of, part_looked, early_of, IsReading, reading_turned}
+use Rattle.node_ops.specs.PartSteps.{no_entry, no_listing, entry_in, entry_name, live_order, is_from, order_in, lists, part_words, part_checked, behind_of, part_looked, early_of, IsReading, reading_at_asks, reading_turned}
 use Rattle.node_ops.specs.CallStages.{behind_sight, reading_held}
-use Rattle.node_ops.specs.Parts.{pair_of, IsPartOf, PartTells, IsHeard, PartsHear}
+use Rattle.node_ops.specs.Parts.{pair_of, pairs_in, IsPartOf, PartTells, IsHeard, PartsHear}
 use Rattle.node_ops.proofs.PartLaw.{slots_say}
 use Rattle.node_ops.proofs.PartNames.{pair_at, all_good, packed, names_are}
 
@@ -125,6 +127,13 @@ all_first P (suc n) (x ∷ xs) all = (all.0, all_first P n xs all.1)
 abbrev to_pair : List ℕ × ℕ → Pair
 to_pair e = record { name = e.0; value = e.1 }
 
+-- what a reading tells is a part of the map, as it is and as it was
+pub record TellsPart (l : Layout) (f : Facts) (reading : Reading) (words : PartWords) : Type 0 where
+  pub now : IsPartOf (map_now f) (range_of l f words.node) (name_in reading.call) reading.count words
+  pub then_was : IsPartOf (after f.base f.history words.place) (range_of l f words.node) (name_in reading.call) reading.count words
+  pub compared : words.compared ≡ length (pairs_in (map_now f) (range_of l f words.node))
+  pub fit : length (pairs_in (after f.base f.history words.place) (range_of l f words.node)) ≤ l.slots
+
 module _ (reading : Reading) (sound : IsReading reading) (f : Facts) (since : ℕ) (named : HasNames (map_now f))
     (knows : IsRead reading.call.view.layout f since reading.call.node (reading_held (record reading { at = at.Check }))) where
   abbrev slots : ℕ
@@ -179,6 +188,10 @@ module _ (reading : Reading) (sound : IsReading reading) (f : Facts) (since : �
           | false ↦ rest
         ]
 
+    -- as many names as live slots
+    many : length order ≡ length (pairs_in m range)
+    many = sym (length-map order own) ∙ ap length are ∙ sym (length-map (where_key name_cmp range (entries m)) to_pair)
+
     pub is_part : number_at m low ≡ reading.old → IsPartOf m range low reading.count (part_words reading)
     unfolding order_in
     is_part had =
@@ -201,17 +214,24 @@ module _ (reading : Reading) (sound : IsReading reading) (f : Facts) (since : �
               (all_first (λ e. AreNameWords (entry_name e)) reading.count (map (entry reading) (filter (keeps reading) order)) (all_kept reading (λ e. AreNameWords (entry_name e)) order
               (all_by (λ slot. (slot < slots) × (bit_at reading.bitmap slot ≡ 1)) (λ slot. AreNameWords (entry_name (entry reading slot))) (λ slot good. let is = is_packed slot good in (bytes_of (entry_name (entry reading slot)), is.named, is.whole)) order all)));
           had = sym had;
-          compared = sym (length-map order own) ∙ ap length are ∙ sym (length-map (where_key name_cmp range (entries m)) to_pair);
+          compared = inr many;
         }
 
-  pub tells_part : IsPartOf (map_now f) range low reading.count (part_words reading) × IsPartOf (after f.base f.history reading.hold.clock) range low reading.count (part_words reading)
+  pub tells_part : TellsPart reading.call.view.layout f reading (part_words reading)
+  unfolding order_in
   tells_part =
       let same = (λ (name : List ℕ) (inside : range name ≡ true). knows.time.same reading.hold.clock (omega arith) knows.time.within name inside) in
-      let past = after f.base f.history reading.hold.clock in (
-        is_part (map_now f) knows.settled.means (λ name value inside there. named name value there) knows.old,
-        is_part past (record { tidy = knows.settled.means.tidy; agrees = λ name is_name inside. subst (Finds slots s name) (sym (same name inside)) (knows.settled.means.agrees name is_name inside) })
-            (λ name value inside there. named name value (sym (same name inside) ∙ there)) (same low knows.inside ∙ knows.old),
-      )
+      let past = after f.base f.history reading.hold.clock in
+      let means_past : Means slots range s past = record { tidy = knows.settled.means.tidy; agrees = λ name is_name inside. subst (Finds slots s name) (sym (same name inside)) (knows.settled.means.agrees name is_name inside) } in
+      let named_past = (λ (name : List ℕ) (value : ℕ) (inside : range name ≡ true) (there : number_at past name ≡ Some value). named name value (sym (same name inside) ∙ there)) in
+      let few = order_few (comes_before reading.entries) reading.bitmap slots in
+      let all = many past means_past named_past in
+      record {
+        now = is_part (map_now f) knows.settled.means (λ name value inside there. named name value there) knows.old;
+        then_was = is_part past means_past named_past (same low knows.inside ∙ knows.old);
+        compared = many (map_now f) knows.settled.means (λ name value inside there. named name value there);
+        fit = omega (arith, few, all);
+      }
 
 -- only what it has read it tells
 not_early : (answer : Once Placed) (words : PartWords) → early_of answer ≡ once.Done words → ⊥
@@ -238,23 +258,22 @@ pub done_words : (reading : Reading) (x : ℕ) (words : PartWords) → reading_t
 done_words reading x words is = done_checked reading x words (cc)
 
 reading_tells : (l : Layout) (g : ℕ) (f : Facts) (caller index since : ℕ) (reading : Reading) (at : ReadingAt) (x : ℕ) (words : PartWords) → reading.call.view.layout ≡ l → IsReading (record reading { at = at })
-    → HasNames (map_now f) → SureReads l g f since reading.call.node reading.hold.locked (behind_sight reading.behind) (Some (reading_held (record reading { at = at }))) → x ≡ f.version reading.call.node
-    → reading_turned (record reading { at = at }) at x ≡ Done (once.Done words)
-    → IsPartOf (map_now f) (range_of l f words.node) (name_in reading.call) reading.count words × IsPartOf (after f.base f.history words.place) (range_of l f words.node) (name_in reading.call) reading.count words
-unfolding order_in
+    → HasNames (map_now f) → SureReads l g f since reading.call.node reading.hold.locked (behind_sight reading.behind) (Some (reading_held (record reading { at = at }))) → (reading_at_asks reading.call at ≡ Load (version_address l reading.call.node) → x ≡ f.version reading.call.node)
+    → reading_turned (record reading { at = at }) at x ≡ Done (once.Done words) → TellsPart l f reading words
 reading_tells l g f caller index since reading (at.Load slot word) x words layout sound named knows gives is = absurd (cc)
 reading_tells l g f caller index since reading at.Check x words layout sound named knows gives is =
     let whole = record reading { at = at.Check } in
     let done = done_words whole x words is in
-    let own = subst (λ k. IsRead k f since reading.call.node (reading_held whole)) (sym layout) (knows.read (sym gives ∙ done.0)) in
+    let own = subst (λ k. IsRead k f since reading.call.node (reading_held whole)) (sym layout) (knows.read (sym (gives (ap (λ (k : Layout). Load (version_address k reading.call.node)) layout)) ∙ done.0)) in
     let told = tells_part whole sound f since named own in
-    subst (λ (k : Layout). IsPartOf (map_now f) (range_of k f words.node) (name_in reading.call) reading.count words × IsPartOf (after f.base f.history words.place) (range_of k f words.node) (name_in reading.call) reading.count words) layout
-    (subst (λ (w : PartWords). IsPartOf (map_now f) (range_of reading.call.view.layout f w.node) (name_in reading.call) reading.count w × IsPartOf (after f.base f.history w.place) (range_of reading.call.view.layout f w.node) (name_in reading.call) reading.count w)
-    done.1 told)
+    let here : TellsPart reading.call.view.layout f reading (part_words whole) = record { now = told.now; then_was = told.then_was; compared = told.compared; fit = told.fit } in
+    subst (λ (q : Layout × PartWords). TellsPart q.0 f reading q.1) (λ k. (layout k, done.1 k)) here
 
 pub part_tells : PartTells
-part_tells l g f caller index since (part.Looking lookup count behind) x words sound named knows gives is = absurd (looked_on lookup.call count (behind_of lookup.at behind) (lookup_turned lookup x) words is)
-part_tells l g f caller index since (part.Reading reading) x words sound named knows gives is = reading_tells l g f caller index since reading reading.at x words sound.layout sound.here named knows gives is
+part_tells l g f row caller index since (part.Looking lookup count behind) x words sound named knows relies gives is = absurd (looked_on lookup.call count (behind_of lookup.at behind) (lookup_turned lookup x) words is)
+part_tells l g f row caller index since (part.Reading reading) x words sound named knows relies gives is =
+    let told = reading_tells l g f caller index since reading reading.at x words sound.layout sound.here named knows gives is in
+    record { now = told.now; then_was = told.then_was; compared = told.compared; fit = told.fit }
 
 pub parts_hear : PartsHear
 parts_hear (part.Looking lookup count behind) x words is = absurd (looked_on lookup.call count (behind_of lookup.at behind) (lookup_turned lookup x) words is)
@@ -264,4 +283,4 @@ parts_hear (part.Reading reading) x words is = hears reading.at is
     hears (at.Load slot word) is = absurd (cc)
     hears at.Check is =
         let done = done_words (record reading { at = at.Check }) x words is in
-        subst (IsHeard (part.Reading (record reading { at = at.Check })) x) done.1 (record { node = refl; hops = refl; asks = refl; version = done.0; high = refl })
+        subst (IsHeard (part.Reading (record reading { at = at.Check })) x) done.1 (record { node = refl; hops = refl; gives = inl (refl, done.0); high = refl })

@@ -11,7 +11,8 @@ use Rattle.call_stages.specs.declared.once.Once.{Once}
 use Rattle.call_stages.specs.declared.once.Placed.{Placed}
 use Rattle.call_stages.specs.Stages.{Knows, Sight, Held, Stage, Idle, Saw, Wears, Reads, Holds, Eyes, Splits, Leaves, Meets, Joins, IsLoose}
 use Rattle.call_stages.specs.Prevs.{no_debt, Deals, keeps}
-use Rattle.call_stages.specs.Footings.{Footing, Minds, FootStep, on_nodes, on_layer}
+use Rattle.call_stages.specs.Footings.{Footing, Minds}
+use Rattle.permutation.specs.Sparing.{SparingStep, on_nodes, on_layer}
 use Rattle.data_list.specs.declared.walk.Walk.{Walk}
 use Rattle.data_list.specs.WalkStages.{walk_watching}
 use Rattle.data_list.proofs.WalkLaw.{walk_loose, view_loose}
@@ -46,7 +47,7 @@ part_hit s call found known =
 
 -- a step on nodes of a call that has this line, if any, and no debt
 abbrev pub Plain : Layout → ℕ → ℕ → Option HeldLine → Stage → Action → ℕ → Turn Running (Once Placed) → Type 0
-Plain l g c line stage action x turn = FootStep l g c (record { stage = stage; line = line; debt = no_debt }) action x (footing_after turn) (reply_of turn)
+Plain l g c line stage action x turn = SparingStep l g c (record { stage = stage; line = line; debt = no_debt }) action x (footing_after turn) (reply_of turn)
 
 -- the stage of a call that holds one node at most
 abbrev pub IsSingle : Stage → Type 0
@@ -76,14 +77,14 @@ IsPlainAfter line turn = footing_after turn ≡ record { stage = stage_after tur
 
 -- such a step, of what it has
 plain_foots : (l : Layout) (g c : ℕ) (line : Option HeldLine) (s : Stage) (action : Action) (x : ℕ) (t : Stage) (answer : Option (Once Placed)) → IsSingle s → PlainStep l g s action x t answer
-    → FootStep l g c (record { stage = s; line = line; debt = no_debt }) action x (record { stage = t; line = line; debt = no_debt }) answer
+    → SparingStep l g c (record { stage = s; line = line; debt = no_debt }) action x (record { stage = t; line = line; debt = no_debt }) answer
 plain_foots l g c line s action x t answer single (steps step) = on_nodes (single_minds s t line single) (inl refl) step (single_deals s t single)
 plain_foots l g c line s action x t answer single (reads_layer has) = on_layer refl has
 
 pub plain : (l : Layout) (g c : ℕ) (line : Option HeldLine) (s : Stage) (action : Action) (x : ℕ) (turn : Turn Running (Once Placed)) → IsSingle s → IsPlainAfter line turn
     → PlainStep l g s action x (stage_after turn) (reply_of turn) → Plain l g c line s action x turn
 plain l g c line s action x turn single after step =
-    subst (λ (f : Footing). FootStep l g c (record { stage = s; line = line; debt = no_debt }) action x f (reply_of turn)) (sym after)
+    subst (λ (f : Footing). SparingStep l g c (record { stage = s; line = line; debt = no_debt }) action x f (reply_of turn)) (sym after)
     (plain_foots l g c line s action x (stage_after turn) (reply_of turn) single step)
 
 pub loose_single : (s : Stage) → IsLoose s → IsSingle s

@@ -1,5 +1,5 @@
 -- What is known of a part, and what a recheck tells of it.
-use Rattle.std.proofs.Common.{◌≡◌, ℕ, ◌<◌, ◌≤◌, ◌==◌, Bool, true, false, not, cond, ◌&&◌, List, length, map, take, refl, sym, subst, ap, ◌∙◌, arith}
+use Rattle.std.proofs.Common.{◌≡◌, ℕ, ◌<◌, ◌≤◌, ◌==◌, Bool, true, false, not, cond, ◌&&◌, List, length, map, take, inl, inr, ◌⊎◌, refl, sym, subst, ap, ◌∙◌, arith}
 use Rattle.std.specs.Prelude.{Some, slice_index}
 use Rattle.std.specs.FinMap.{entries}
 use Rattle.std.specs.List.{filter}
@@ -13,15 +13,21 @@ use Rattle.cat_history.specs.declared.op.Write.{Write}
 use Rattle.cat_history.proofs.SameRanges.{same_pairs}
 use Rattle.shapes.proofs.NameLists.{filter-short, filter-twice}
 use Rattle.pm_words.specs.declared.again.Again.TheVariants as again
+use mathlib.Core.Option.{some}
+use lib.ListN.{get_elem?}
+use Rattle.pm_words.specs.declared.action.Action.TheVariants.{Load}
 use Rattle.pm_words.specs.declared.layout.Layout.{Layout}
+use Rattle.pm_words.specs.Rows.{got}
 use Rattle.pm_words.specs.declared.machine.Turn.TheVariants.{Done}
 use Rattle.data_node.specs.Orders.{comes_before}
 use Rattle.call_stages.specs.declared.once.Once.TheVariants as once
-use Rattle.call_stages.specs.Kinds.{clock_address, version_address}
+use Rattle.call_stages.specs.Kinds.{clock_address, version_address, looks, reads_on, confirms}
+use Rattle.call_stages.specs.AnySteps.{AnyStep, on_nodes}
+use Rattle.call_stages.specs.Stages.{Stage, Idle}
 use Rattle.index_law.specs.Facts.{Facts, range_of}
-use Rattle.index_law.specs.Lawful.{HasNames, SureReads, Sure}
+use Rattle.index_law.specs.Lawful.{HasNames, Lawful, Sure}
 use Rattle.index_law.specs.Standing.{IsUnchanged, StandsSince}
-use Rattle.index_law.specs.Worlds.{counted_write}
+use Rattle.index_law.specs.Worlds.{Party, World, counted_write, facts, stepped}
 use Rattle.index_law.proofs.Maps.{after-longer}
 use Rattle.index_law.proofs.Rows.{version_in-here}
 use Rattle.index_law.proofs.Standing.{standing_is_kept, reads_stand}
@@ -33,52 +39,75 @@ use Rattle.node_ops.specs.declared.part.ReadingAt.{ReadingAt}
 use Rattle.node_ops.specs.declared.part.ReadingAt.TheVariants as at
 use Rattle.node_ops.specs.declared.recheck.Recheck.TheVariants.{Dating, Checking}
 use Rattle.node_ops.specs.Calls.{IsCall, name_in}
-use Rattle.node_ops.specs.CallStages.{behind_sight, part_stage, reading_held}
+use Rattle.node_ops.specs.declared.running.Running.TheVariants.{Parting}
+use Rattle.node_ops.specs.RunningSteps.{Sound}
+use Rattle.node_ops.specs.CallStages.{behind_sight, reading_held, reading_stage}
 use Rattle.node_ops.specs.LookupSteps.{lookup_turned}
-use Rattle.node_ops.specs.Parts.{EndsAt, IsPartOf, from_name, pairs_in}
-use Rattle.node_ops.specs.PartSteps.{IsPart, behind_of, order_in, part_behind, part_call, part_turned, reading_turned}
+use Rattle.node_ops.specs.Parts.{EndsAt, HaveWords, IsPartOf, IsToldVersion, Relies, from_name, pairs_in}
+use Rattle.node_ops.specs.PartSteps.{IsPart, behind_of, order_in, part_asks, part_call, reading_at_asks, reading_turned}
 use Rattle.node_ops.specs.RecheckSteps.{rechecked}
-use Rattle.node_ops.specs.Rechecks.{KnownPart, IsKnown, PartsAreKnown, PartsAreFew, KnownIsKept, StatusesLeaveKnown}
+use Rattle.node_ops.specs.Rechecks.{AsksForAll, KnownPart, IsKnown, PartsAreKnown, PartsAreFew, KnownIsKept, StatusesLeaveKnown}
 use Rattle.node_ops.specs.Rechecks.{RecheckSure, RechecksAreTold, RechecksStaySure, RechecksOutlast, IsRechecked, RechecksTell, IsSameAt, SameTells}
-use Rattle.node_ops.proofs.PartBounds.{parts_see_behind, parts_end_there, ends_are_ranges}
+use Rattle.node_ops.proofs.PartBounds.{parts_end, ends_are_ranges}
 use Rattle.node_ops.proofs.PartTelling.{order_few, looked_on, done_words, part_tells, parts_hear}
 
 own_call : (p : Part) → IsPart p → IsCall (part_call p)
 own_call (part.Looking lookup count behind) is = is.0.call
 own_call (part.Reading reading) is = is.call
 
--- at its second load a part begins to rely on its node
-reading_stands : (l : Layout) (g : ℕ) (f : Facts) (since : ℕ) (reading : Reading) (at : ReadingAt) (x : ℕ) (words : PartWords)
-    → SureReads l g f since reading.call.node reading.hold.locked (behind_sight reading.behind) (Some (reading_held (record reading { at = at }))) → x ≡ f.version reading.call.node
-    → reading_turned (record reading { at = at }) at x ≡ Done (once.Done words) → StandsSince l g f (range_of l f words.node) words.node words.version words.place
-reading_stands l g f since reading (at.Load slot word) x words sure gives is = absurd (cc)
-reading_stands l g f since reading at.Check x words sure gives is =
-    let whole = record reading { at = at.Check } in
-    let done = done_words whole x words is in
-    let still : f.version reading.call.node ≡ reading.hold.locked = sym gives ∙ done.0 in
-    subst (λ (w : PartWords). StandsSince l g f (range_of l f w.node) w.node w.version w.place) done.1
-    (reads_stand l g f 0 0 since reading.call.node reading.hold.locked reading.hold.clock (behind_sight reading.behind) (reading_held whole) (range_of l f reading.call.node) sure refl still (λ name inside. inside))
+pub known_is_kept : KnownIsKept
+known_is_kept w i p a x t r k lawful there step told is = record {
+  bounds = is.bounds;
+  named = is.named;
+  ends = is.ends;
+  within = let within = is.within in let longer = length-append w.history (counted_write p) in omega arith;
+  part = subst (λ (m : Map). IsPartOf m is.bounds k.low k.count k.words) (sym (after-longer w.base w.history (counted_write p) k.words.place is.within)) is.part;
+  fit = subst (λ (m : Map). length (pairs_in m is.bounds) ≤ w.layout.slots) (sym (after-longer w.base w.history (counted_write p) k.words.place is.within)) is.fit;
+  stands = standing_is_kept w i p a x t r is.bounds k.words.node k.words.version k.words.place lawful there step told is.stands;
+}
 
-part_stands : (l : Layout) (g : ℕ) (f : Facts) (caller index since : ℕ) (p : Part) (x : ℕ) (words : PartWords) → Sure l g f caller index since (part_stage p)
-    → x ≡ f.version (part_call p).node → part_turned p x ≡ Done (once.Done words) → StandsSince l g f (range_of l f words.node) words.node words.version words.place
-part_stands l g f caller index since (part.Looking lookup count behind) x words sure gives is = absurd (looked_on lookup.call count (behind_of lookup.at behind) (lookup_turned lookup x) words is)
-part_stands l g f caller index since (part.Reading reading) x words sure gives is = reading_stands l g f since reading reading.at x words sure gives is
+-- it is told its node's version word where it loads that
+told_version : (w : World) (p : Part) (x : ℕ) → Sound w.layout w.generation (Parting p) → x ≡ got w.layout w.words (part_asks p) → IsToldVersion w.layout (facts w) p x
+told_version w p x sound told loads =
+    told ∙ ap (got w.layout w.words) loads ∙ sym (version_in-here w.layout w.words (part_call p).node (subst (λ (k : Layout). (part_call p).node < k.nodes) sound.layout (own_call p sound.here).node))
+
+-- what is known of a part at its second load, and then after that
+reading_known : (w : World) (i : ℕ) (party : Party) (reading : Reading) (at : ReadingAt) (x : ℕ) (words : PartWords) → Lawful w → HaveWords (facts w) → get_elem? w.parties i ≡ some party
+    → party.stage ≡ reading_stage (record reading { at = at }) → Sound w.layout w.generation (Parting (part.Reading (record reading { at = at }))) → x ≡ got w.layout w.words (reading_at_asks reading.call at)
+    → Relies w.layout (facts w) w.words (Parting (part.Reading (record reading { at = at }))) → reading_turned (record reading { at = at }) at x ≡ Done (once.Done words)
+    → IsKnown w.layout w.generation (facts (stepped w i party (reading_at_asks reading.call at) Idle)) (record { low = name_in reading.call; count = reading.count; words = words })
+reading_known w i party reading (at.Load slot word) x words lawful fits there stage sound told relies is = absurd (cc)
+reading_known w i party reading at.Check x words lawful fits there stage sound told relies is =
+    let whole = record reading { at = at.Check } in
+    let p = part.Reading whole in
+    let k : KnownPart = record { low = name_in reading.call; count = reading.count; words = words } in
+    let sure = subst (Sure w.layout w.generation (facts w) party.caller party.index party.since) stage (lawful.sure i party there) in
+    let gives = told_version w p x sound told in
+    let done = done_words whole x words is in
+    let hears = parts_hear p x words is in
+    let tells = part_tells w.layout w.generation (facts w) w.words party.caller party.index party.since p x words sound lawful.named sure relies gives is in
+    let ends = parts_end w.layout w.generation (facts w) w.words party.caller party.index party.since p x words sound lawful.list fits sure relies gives is in
+    let still : (facts w).version reading.call.node ≡ reading.hold.locked = sym (gives (ap (λ (l : Layout). Load (version_address l reading.call.node)) sound.layout)) ∙ done.0 in
+    let stands : StandsSince w.layout w.generation (facts w) (range_of w.layout (facts w) words.node) words.node words.version words.place =
+    subst (λ (q : PartWords). StandsSince w.layout w.generation (facts w) (range_of w.layout (facts w) q.node) q.node q.version q.place) done.1
+    (reads_stand w.layout w.generation (facts w) 0 0 party.since reading.call.node reading.hold.locked reading.hold.clock (behind_sight reading.behind) (reading_held whole) (range_of w.layout (facts w) reading.call.node) sure refl still (λ name inside. inside)) in
+    let here : IsKnown w.layout w.generation (facts w) k = record {
+      bounds = range_of w.layout (facts w) words.node;
+      named = sound.here.call.packed.named;
+      ends = ends;
+      within = (stands.unchanged (ap (facts w).version hears.node ∙ still ∙ ap (λ (q : PartWords). q.version) done.1)).within;
+      part = tells.then_was;
+      fit = tells.fit;
+      stands = stands;
+    } in
+    let step = subst (λ (q : Layout × (ℕ × Stage)). AnyStep q.0 q.1.0 q.1.1 (reading_at_asks reading.call at.Check) x Idle (Some (once.Done (record { old = reading.old; place = reading.hold.clock; hops = reading.call.hops }))))
+    (λ j. (sound.layout j, (sound.generation j, sym stage j)))
+    (on_nodes (looks (reads_on (confirms {k = behind_sight reading.behind} {h = reading_held whole} sound.here.call.node done.0 refl sound.here.reads refl refl)))) in
+    known_is_kept w i party (reading_at_asks reading.call at.Check) x Idle _ k lawful there step told here
 
 pub parts_are_known : PartsAreKnown
-parts_are_known l g f caller index since p x words sound list fits named sure gives is =
-    let hears = parts_hear p x words is in
-    let sees = parts_see_behind l g f caller index since p x words sound sure gives is in
-    let own : IsName (name_in (part_call p)) = (own_call p sound.here).packed.named in
-    let stands = part_stands l g f caller index since p x words sure gives is in
-    let still : f.version words.node ≡ words.version = ap f.version hears.node ∙ sym gives ∙ hears.version in
-    record {
-      bounds = range_of l f words.node;
-      named = own;
-      ends = subst (EndsAt (range_of l f words.node) (name_in (part_call p))) (sym hears.high) (parts_end_there l f words.node (part_behind p) (name_in (part_call p)) list fits sees.0 sees.2 own sees.1);
-      within = (stands.unchanged still).within;
-      part = (part_tells l g f caller index since p x words sound named sure gives is).1;
-      stands = stands;
-    }
+parts_are_known w i party (part.Looking lookup count behind) x words lawful fits there stage sound told relies is = absurd (looked_on lookup.call count (behind_of lookup.at behind) (lookup_turned lookup x) words is)
+parts_are_known w i party (part.Reading reading) x words lawful fits there stage sound told relies is = reading_known w i party reading reading.at x words lawful fits there stage sound told relies is
 
 few_by : (reading : Reading) (at : ReadingAt) (x : ℕ) (words : PartWords) → reading_turned (record reading { at = at }) at x ≡ Done (once.Done words) → words.compared ≤ reading.call.view.layout.slots
 unfolding order_in
@@ -91,16 +120,6 @@ pub parts_are_few : PartsAreFew
 parts_are_few l g (part.Looking lookup count behind) x words sound is = absurd (looked_on lookup.call count (behind_of lookup.at behind) (lookup_turned lookup x) words is)
 parts_are_few l g (part.Reading reading) x words sound is = subst (λ (m : Layout). words.compared ≤ m.slots) sound.layout (few_by reading reading.at x words is)
 
-pub known_is_kept : KnownIsKept
-known_is_kept w i p a x t r k lawful there step told is = record {
-  bounds = is.bounds;
-  named = is.named;
-  ends = is.ends;
-  within = let within = is.within in let longer = length-append w.history (counted_write p) in omega arith;
-  part = subst (λ (m : Map). IsPartOf m is.bounds k.low k.count k.words) (sym (after-longer w.base w.history (counted_write p) k.words.place is.within)) is.part;
-  stands = standing_is_kept w i p a x t r is.bounds k.words.node k.words.version k.words.place lawful there step told is.stands;
-}
-
 pub statuses_leave_known : StatusesLeaveKnown
 statuses_leave_known l g f f' k same is = subst (λ (φ : Facts). IsKnown l g φ k) (sym same) (record {
   bounds = is.bounds;
@@ -108,6 +127,7 @@ statuses_leave_known l g f f' k same is = subst (λ (φ : Facts). IsKnown l g φ
   ends = is.ends;
   within = is.within;
   part = is.part;
+  fit = is.fit;
   stands = record { here = is.stands.here; free = is.stands.free; seen = is.stands.seen; inside = is.stands.inside; unchanged = is.stands.unchanged };
 })
 
@@ -155,8 +175,8 @@ few_pairs m bounds low =
     let all : length (pairs_in m bounds) ≡ length (filter (λ (e : List ℕ × ℕ). bounds e.0) (entries m)) = length-map (filter (λ (e : List ℕ × ℕ). bounds e.0) (entries m)) (λ (e : List ℕ × ℕ). record { name = e.0; value = e.1 }) in
     omega (arith, short, here, all)
 
-module _ (base : Map) (history : List Write) (k : KnownPart) (bounds : List ℕ → Bool) (low_named : IsName k.low) (ends : EndsAt bounds k.low k.words.high)
-    (told : IsPartOf (after base history k.words.place) bounds k.low k.count k.words) (still : IsUnchanged bounds base history k.words.place)
+module _ (slots : ℕ) (base : Map) (history : List Write) (k : KnownPart) (bounds : List ℕ → Bool) (low_named : IsName k.low) (ends : EndsAt bounds k.low k.words.high)
+    (told : IsPartOf (after base history k.words.place) bounds k.low k.count k.words) (fit : length (pairs_in (after base history k.words.place) bounds) ≤ slots) (still : IsUnchanged bounds base history k.words.place)
     (named : (place : ℕ) → HasNames (after base history place)) where
   -- the range of a scan at each place since is what the node's range had at the part's place
   range_at : (between : ℕ) → k.words.place ≤ between → between ≤ length history → range (after base history between) k.low k.words.high ≡ pairs_in (after base history k.words.place) (from_name bounds k.low)
@@ -166,13 +186,22 @@ module _ (base : Map) (history : List Write) (k : KnownPart) (bounds : List ℕ 
       (same_pairs (from_name bounds k.low) (after base history k.words.place) (after base history between)
       (λ name inside. still.same between late within name (in_bounds (bounds name) (not (is_below name k.low)) inside)))
 
-  same_at : (place : ℕ) → place ≤ length history → IsSameAt base history k place
+  -- as many were asked for as its range had
+  asked : AsksForAll slots k → length (pairs_in (after base history k.words.place) bounds) ≤ k.count
+  asked (inl all) = omega (arith, all, fit)
+  asked (inr any) = of told.compared
+    where
+      of : (k.words.compared ≡ 0) ⊎ (k.words.compared ≡ length (pairs_in (after base history k.words.place) bounds)) → length (pairs_in (after base history k.words.place) bounds) ≤ k.count
+      of (inl zero_compared) = let first = any.0 in absurd (omega arith)
+      of (inr each) = let most = any.1 in omega arith
+
+  same_at : (place : ℕ) → place ≤ length history → IsSameAt slots base history k place
   same_at place within = record {
     lists = λ between late soon. told.lists ∙ ap (take k.count) (sym (range_at between late (omega (arith, soon, within))));
     whole = λ few between late soon.
         let fewer = few_pairs (after base history k.words.place) bounds k.low in
-        let compared = told.compared in
-        let short : length (pairs_in (after base history k.words.place) (from_name bounds k.low)) ≤ k.count = omega (arith, few, fewer, compared) in
+        let enough = asked few in
+        let short : length (pairs_in (after base history k.words.place) (from_name bounds k.low)) ≤ k.count = omega (arith, enough, fewer) in
         told.lists ∙ take_all k.count (pairs_in (after base history k.words.place) (from_name bounds k.low)) short ∙ sym (range_at between late (omega (arith, soon, within)));
   }
 
@@ -180,4 +209,4 @@ pub same_tells : SameTells
 same_tells l g f since r x same k sure told is known node version named =
     let answer : IsRechecked since f r (once.Done same) = rechecks_tell since f r x (once.Done same) sure told is in
     let still : f.version k.words.node ≡ k.words.version = ap f.version node ∙ answer.0 ∙ sym version in
-    same_at f.base f.history k known.bounds known.named known.ends known.part (known.stands.unchanged still) named same.place answer.2
+    same_at l.slots f.base f.history k known.bounds known.named known.ends known.part known.fit (known.stands.unchanged still) named same.place answer.2

@@ -1,5 +1,6 @@
 -- What a call in flight has and knows of its node.
-use Rattle.std.specs.Prelude.{ℕ, zero, suc, ◌+◌, ◌-◌, List, [], ◌∷◌, ◌++◌, take, slice_index, Bool, true, false, Option, Some, None}
+use Rattle.std.specs.Prelude.{ℕ, zero, suc, ◌+◌, ◌-◌, List, [], ◌∷◌, ◌++◌, take, slice_index, Bool, true, false}
+use Rattle.std.specs.Prelude.{Option, Some, None}
 use Rattle.std.specs.Prelude.{◌==◌, if◌then◌else◌}
 use Rattle.std.specs.Int.{bit_at}
 use Rattle.pm_words.specs.declared.TheConstants.{LINE_WORDS}
@@ -260,7 +261,8 @@ finish_stage finish = Holds finish.call.node finish.hold.locked (finish_at_held 
 
 abbrev pub get_stage : Get → Stage
 get_stage (get.Looking lookup) = lookup_stage lookup
-get_stage (get.Checking call hold old) = Reads call.node hold.locked (live_sight []) (Some (decided call hold old nothing))
+get_stage (get.Checking call hold old) =
+    Reads call.node hold.locked (live_sight []) (Some (decided call hold old nothing))
 
 -- no live slot has the name, and no slot is clear
 abbrev pub found_full : Call → Hold → ℕ → Held
@@ -326,7 +328,8 @@ reading_held reading =
     decided reading.call reading.hold reading.old (knows ((bitmap_offset, reading.bitmap) ∷ loaded reading))
 
 abbrev pub reading_stage : Reading → Stage
-reading_stage reading = Reads reading.call.node reading.hold.locked (behind_sight reading.behind) (Some (reading_held reading))
+reading_stage reading =
+    Reads reading.call.node reading.hold.locked (behind_sight reading.behind) (Some (reading_held reading))
 
 abbrev pub part_stage : Part → Stage
 part_stage (part.Looking lookup count behind) = lookup_at_stage (behind_sight behind) lookup.call lookup.at
@@ -349,7 +352,8 @@ line_taken None = None
 line_taken (Some line) = Some (empty_line line)
 
 abbrev pub del_footing : Del → Footing
-del_footing (del.Single (single_del.Looking lookup)) = record { stage = lookup_stage lookup; line = None; debt = no_debt }
+del_footing (del.Single (single_del.Looking lookup)) =
+    record { stage = lookup_stage lookup; line = None; debt = no_debt }
 del_footing (del.Single (single_del.Next call hold bitmap hit)) =
     record { stage = found_in call hold bitmap hit; line = None; debt = no_debt }
 del_footing (del.Single (single_del.Taking call hold bitmap hit take)) =

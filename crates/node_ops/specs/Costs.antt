@@ -1,6 +1,6 @@
 -- How many actions a call makes. What it has left as it begins is a bound, but one for a walk of twice as many hops as
--- there are nodes, and for a put one with a split. What a call spares of that is known once its walk has ended, and once
--- it is known whether it splits.
+-- there are nodes, and for a put one with a split. What a call spares of that is known once its walk has ended, and
+-- once it is known whether it splits.
 use Rattle.std.specs.Prelude.{◌≡◌, ℕ, ◌+◌, ◌-◌, ◌*◌, ◌<◌, Bool, true, false, if◌then◌else◌}
 use Rattle.pm_words.specs.declared.again.Again.{Again}
 use Rattle.pm_words.specs.declared.again.Again.TheVariants as again

@@ -11,7 +11,8 @@ use Rattle.smo_log.specs.Laws.{NoneEmpty, HasLooked}
 use Rattle.split_merge.specs.SplitEvents.{SomeEmpty}
 use Rattle.node_ops.specs.declared.del.Del.{Del}
 use Rattle.node_ops.specs.declared.del.Del.TheVariants.{Single, Merging}
-use Rattle.node_ops.specs.declared.single_del.SingleDel.TheVariants.{Looking, Next, Taking, Refusing, Clearing, Finishing}
+use Rattle.node_ops.specs.declared.single_del.SingleDel.TheVariants.{Looking, Next, Taking, Refusing, Clearing}
+use Rattle.node_ops.specs.declared.single_del.SingleDel.TheVariants.{Finishing}
 use Rattle.node_ops.specs.DelSteps.{IsDel, del_turned}
 
 -- What it has loaded so far of the states of its caller's lines is so: with a line, one of them was EMPTY.

@@ -35,7 +35,8 @@ use Rattle.node_ops.specs.declared.finish.FinishAt.TheVariants as finish_at
 use Rattle.node_ops.specs.declared.del.Del.{Del}
 use Rattle.node_ops.specs.declared.del.Del.TheVariants.{Single, Merging}
 use Rattle.node_ops.specs.declared.single_del.SingleDel.{SingleDel}
-use Rattle.node_ops.specs.declared.single_del.SingleDel.TheVariants.{Looking, Next, Taking, Refusing, Clearing, Finishing}
+use Rattle.node_ops.specs.declared.single_del.SingleDel.TheVariants.{Looking, Next, Taking, Refusing, Clearing}
+use Rattle.node_ops.specs.declared.single_del.SingleDel.TheVariants.{Finishing}
 use Rattle.node_ops.specs.declared.single_del.CountedDel.{CountedDel}
 use Rattle.node_ops.specs.declared.single_del.SingleDelDone.{SingleDelDone}
 use Rattle.node_ops.specs.declared.single_del.SingleDelDone.TheVariants.{Answered, Counted}
@@ -60,7 +61,8 @@ del_asks (Single (Looking lookup)) = lookup_asks lookup
 del_asks (Single (Next call hold bitmap hit)) = Load (call_address call next_offset)
 del_asks (Single (Taking call hold bitmap hit take)) = take_asks take
 del_asks (Single (Refusing call hold bitmap hit)) = Store (call_address call 0) (hold.locked + 1)
-del_asks (Single (Clearing call hold bitmap hit line)) = Store (call_address call bitmap_offset) (without_live bitmap hit.slot)
+del_asks (Single (Clearing call hold bitmap hit line)) =
+    Store (call_address call bitmap_offset) (without_live bitmap hit.slot)
 del_asks (Single (Finishing finish line)) = finish_asks finish
 del_asks (Merging call hold old place merge) = merge_asks merge
 

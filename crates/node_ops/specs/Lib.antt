@@ -10,6 +10,7 @@ pub mod DelSteps
 pub mod DelEvents
 pub mod RunningSteps
 pub mod CallStages
+pub mod Permuting
 pub mod Parts
 pub mod Rechecks
 pub mod Asked

@@ -1,6 +1,8 @@
 -- Looking a name up in its node, under the lock or without one, step by step.
-use Rattle.std.specs.Prelude.{◌≡◌, ◌≢◌, ℕ, ◌+◌, ◌-◌, ◌*◌, ◌^◌, ◌<◌, ◌≤◌, ◌==◌, Bool, false, nat_lt, nat_le, if◌then◌else◌}
-use Rattle.std.specs.Prelude.{List, length, Option, Some, None, IfSome, IsSome, IsTrue, slice_index, slice_set, replicate}
+use Rattle.std.specs.Prelude.{◌≡◌, ◌≢◌, ℕ, ◌+◌, ◌-◌, ◌*◌, ◌^◌, ◌<◌, ◌≤◌, ◌==◌, Bool, false, nat_lt, nat_le}
+use Rattle.std.specs.Prelude.{if◌then◌else◌}
+use Rattle.std.specs.Prelude.{List, length, Option, Some, None, IfSome, IsSome, IsTrue, slice_index, slice_set}
+use Rattle.std.specs.Prelude.{replicate}
 use Rattle.cat_key.specs.declared.TheConstants.{WORDS}
 use Rattle.pm_words.specs.declared.action.Action.{Action}
 use Rattle.pm_words.specs.declared.action.Action.TheVariants.{Load, Store, Exchange}
@@ -238,10 +240,12 @@ IsLookupAt call (at.Bitmap hold) = IsHeldBy call.limit hold.locked
 IsLookupAt call (at.Prints hold bitmap prints k) = IsHeldBy call.limit hold.locked ×
     IsDirectory (record { bitmap = bitmap; prints = prints }) × (k < PRINT_WORDS)
 IsLookupAt call (at.Name hold directory left slot k) =
-    IsHeldBy call.limit hold.locked × IsDirectory directory × IsComparing call.view.layout.slots directory.bitmap left slot ×
+    IsHeldBy call.limit hold.locked × IsDirectory directory ×
+    IsComparing call.view.layout.slots directory.bitmap left slot ×
     (k < WORDS)
 IsLookupAt call (at.Value hold directory slot) =
-    IsHeldBy call.limit hold.locked × IsDirectory directory × (slot < call.view.layout.slots) × IsLive directory.bitmap slot
+    IsHeldBy call.limit hold.locked × IsDirectory directory × (slot < call.view.layout.slots) ×
+    IsLive directory.bitmap slot
 
 -- what the fields of a look-up keep
 pub record IsLookup (lookup : Lookup) : Type 0 where

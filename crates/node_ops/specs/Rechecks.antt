@@ -1,5 +1,5 @@
 -- What a recheck tells: that what a part told of its node is so still.
-use Rattle.std.specs.Prelude.{◌≡◌, ◌≢◌, ℕ, ◌≤◌, Bool, List, length, take, Option}
+use Rattle.std.specs.Prelude.{◌≡◌, ◌≢◌, ℕ, ◌<◌, ◌≤◌, ◌⊎◌, Bool, List, length, take, Option}
 use mathlib.Core.Option.{some}
 use lib.ListN.{get_elem?}
 use Rattle.cat_key.specs.Names.{IsName}
@@ -16,9 +16,9 @@ use Rattle.call_stages.specs.declared.once.Once.{Once}
 use Rattle.call_stages.specs.declared.once.Once.TheVariants as once
 use Rattle.call_stages.specs.declared.once.Placed.{Placed}
 use Rattle.call_stages.specs.AnySteps.{AnyStep}
-use Rattle.call_stages.specs.Stages.{Stage}
-use Rattle.index_law.specs.Facts.{Facts, map_now}
-use Rattle.index_law.specs.Lawful.{HasNames, IsList, Lawful, Sure}
+use Rattle.call_stages.specs.Stages.{Stage, Idle}
+use Rattle.index_law.specs.Facts.{Facts}
+use Rattle.index_law.specs.Lawful.{HasNames, Lawful}
 use Rattle.index_law.specs.Standing.{StandsSince}
 use Rattle.index_law.specs.Worlds.{Party, World, facts, stepped}
 use Rattle.node_ops.specs.declared.part.Part.{Part}
@@ -29,9 +29,10 @@ use Rattle.node_ops.specs.declared.recheck.Same.{Same}
 use Rattle.node_ops.specs.declared.running.Running.TheVariants.{Parting}
 use Rattle.node_ops.specs.Calls.{name_in}
 use Rattle.node_ops.specs.CallStages.{part_stage}
-use Rattle.node_ops.specs.Parts.{EndsAt, HaveWords, IsPartOf, pairs_of}
-use Rattle.node_ops.specs.PartSteps.{part_call, part_count, part_turned}
-use Rattle.node_ops.specs.RecheckSteps.{IsRecheck, recheck_asks, recheck_node, recheck_turned, recheck_version, recheck_view}
+use Rattle.node_ops.specs.Parts.{EndsAt, HaveWords, IsPartOf, Relies, pairs_in, pairs_of}
+use Rattle.node_ops.specs.PartSteps.{part_asks, part_call, part_count, part_turned}
+use Rattle.node_ops.specs.RecheckSteps.{IsRecheck, recheck_asks, recheck_node, recheck_turned, recheck_version}
+use Rattle.node_ops.specs.RecheckSteps.{recheck_view}
 use Rattle.node_ops.specs.RunningSteps.{Sound}
 
 -- A part that a call was answered: of names from this one on, so many at most.
@@ -48,15 +49,17 @@ pub record IsKnown (l : Layout) (g : ℕ) (f : Facts) (k : KnownPart) : Type 0 w
   pub ends : EndsAt bounds k.low k.words.high
   pub within : k.words.place ≤ length f.history
   pub part : IsPartOf (after f.base f.history k.words.place) bounds k.low k.count k.words
+  pub fit : length (pairs_in (after f.base f.history k.words.place) bounds) ≤ l.slots
   pub stands : StandsSince l g f bounds k.words.node k.words.version k.words.place
 
--- So it is known of a part as it is done, whose second load gave its node's version word.
+-- So it is known of a part as it is done, after the action that gives its node's version word.
 abbrev pub PartsAreKnown : Type 0
-PartsAreKnown = (l : Layout) (g : ℕ) (f : Facts) (caller index since : ℕ) (p : Part) (x : ℕ) (words : PartWords) →
-    Sound l g (Parting p) → IsList l f → HaveWords f → HasNames (map_now f) →
-    Sure l g f caller index since (part_stage p) → x ≡ f.version (part_call p).node →
-    part_turned p x ≡ Done (once.Done words) →
-    IsKnown l g f (record { low = name_in (part_call p); count = part_count p; words = words })
+PartsAreKnown = (w : World) (i : ℕ) (party : Party) (p : Part) (x : ℕ) (words : PartWords) → Lawful w →
+    HaveWords (facts w) → get_elem? w.parties i ≡ some party → party.stage ≡ part_stage p →
+    Sound w.layout w.generation (Parting p) → x ≡ got w.layout w.words (part_asks p) →
+    Relies w.layout (facts w) w.words (Parting p) → part_turned p x ≡ Done (once.Done words) →
+    IsKnown w.layout w.generation (facts (stepped w i party (part_asks p) Idle))
+    (record { low = name_in (part_call p); count = part_count p; words = words })
 
 -- It sorted no more names than a node has slots.
 abbrev pub PartsAreFew : Type 0
@@ -115,12 +118,16 @@ abbrev pub RechecksTell : Type 0
 RechecksTell = (since : ℕ) (f : Facts) (r : Recheck) (x : ℕ) (answer : Once Same) → RecheckSure since f.history r →
     RecheckTold f r x → recheck_turned r x ≡ Done answer → IsRechecked since f r answer
 
+-- As many names were asked for as a node has slots, or as the part sorted, if it sorted any.
+abbrev pub AsksForAll : ℕ → KnownPart → Type 0
+AsksForAll slots k = (slots ≤ k.count) ⊎ ((0 < k.words.compared) × (k.words.compared ≤ k.count))
+
 -- At each place from its own one to this one the part lists the first names of the map from its low one on, up to its
--- high one, with their numbers: as many as were asked for, and all of them where no fewer were asked for than it sorted.
-pub record IsSameAt (base : Map) (history : List Write) (k : KnownPart) (place : ℕ) : Type 0 where
+-- high one, with their numbers: as many as were asked for, and all of them where so many were asked for.
+pub record IsSameAt (slots : ℕ) (base : Map) (history : List Write) (k : KnownPart) (place : ℕ) : Type 0 where
   pub lists : (between : ℕ) → k.words.place ≤ between → between ≤ place →
       pairs_of k.words ≡ take k.count (range (after base history between) k.low k.words.high)
-  pub whole : k.words.compared ≤ k.count → (between : ℕ) → k.words.place ≤ between → between ≤ place →
+  pub whole : AsksForAll slots k → (between : ℕ) → k.words.place ≤ between → between ≤ place →
       pairs_of k.words ≡ range (after base history between) k.low k.words.high
 
 -- So it is with each known part of the node that tells the version word which the recheck was handed, if that is
@@ -130,4 +137,4 @@ SameTells = (l : Layout) (g : ℕ) (f : Facts) (since : ℕ) (r : Recheck) (x : 
     RecheckSure since f.history r → RecheckTold f r x → recheck_turned r x ≡ Done (once.Done same) →
     IsKnown l g f k → k.words.node ≡ recheck_node r → k.words.version ≡ recheck_version r →
     ((place : ℕ) → HasNames (after f.base f.history place)) →
-    IsSameAt f.base f.history k same.place
+    IsSameAt l.slots f.base f.history k same.place

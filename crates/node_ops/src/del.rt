@@ -1,5 +1,5 @@
-//! A delete: while it works on one node it is a `SingleDel`. Once its change is counted, and where it has a log line, it
-//! merges the next node into its own (`Merging`), and is answered then, whether it merged or had to leave that node
+//! A delete: while it works on one node it is a `SingleDel`. Once its change is counted, and where it has a log line,
+//! it merges the next node into its own (`Merging`), and is answered then, whether it merged or had to leave that node
 //! alone.
 
 ghost use Rattle.std.specs.Prelude.{◌≡◌, ℕ};
@@ -47,8 +47,8 @@ impl Del {
         })
     }
 
-    /// Another delete begins in its place, and writes no room of a merge. One that merges stays as it is, and it is told
-    /// that none begins.
+    /// Another delete begins in its place, and writes no room of a merge. One that merges stays as it is, and it is
+    /// told that none begins.
     pub(crate) fn begins(&mut self, view: View, name: &Name, limit: u64) -> bool
         requires view { IsView view }
         requires limit { limit ≤ 2 ^ 62 }

@@ -12,9 +12,9 @@ use data_node::{with_live, with_print, without_live};
 use pm_words::offsets::node;
 use pm_words::{Action, Fence, Machine, Turn, line_of};
 
-/// Writes the call's name and value into a clear slot, with its fingerprint, and makes these durable. Then it stores the
-/// bitmap, once: the slot is live there, and the one that had the name before is clear. So the node shows the old number
-/// or the new one, and never neither.
+/// Writes the call's name and value into a clear slot, with its fingerprint, and makes these durable. Then it stores
+/// the bitmap, once: the slot is live there, and the one that had the name before is clear. So the node shows the old
+/// number or the new one, and never neither.
 #[derive(Clone, Copy)]
 pub struct Fill {
     pub call: Call,

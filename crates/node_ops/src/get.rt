@@ -1,5 +1,5 @@
-//! A get: `Looking`, then `Checking`, which loads the version word again. If that is still the one that the walk saw, the
-//! get is done, at the clock that was loaded between the two. It takes no lock and changes no word.
+//! A get: `Looking`, then `Checking`, which loads the version word again. If that is still the one that the walk saw,
+//! the get is done, at the clock that was loaded between the two. It takes no lock and changes no word.
 
 ghost use Rattle.std.specs.Prelude.{◌≡◌, ℕ};
 

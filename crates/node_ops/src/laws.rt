@@ -81,8 +81,8 @@ pub fn landing_law()
 ghost use Rattle.node_ops.specs.Costs.{PutsSpareSplits, TurnsSpare, WalksEndSo};
 
 /// With each turn that doesn't end it a call has less left, also together with what it spares: the hops that its walk
-/// didn't make, and a split that a put doesn't make, as one doesn't that takes place. A call that ends while it walks is
-/// answered that its node is worn, or that the walk gave up.
+/// didn't make, and a split that a put doesn't make, as one doesn't that takes place. A call that ends while it walks
+/// is answered that its node is worn, or that the walk gave up.
 pub fn cost_law()
     ensures spare { TurnsSpare }
     ensures ends { WalksEndSo }
@@ -96,7 +96,17 @@ pub fn deletes_heed()
     ensures { DelsHeed }
 {}
 
-ghost use Rattle.node_ops.specs.Parts.{PartTells, PartsHear, PartsSeeBehind, PartsEndThere};
+ghost use Rattle.node_ops.specs.Permuting.{TurnsPermute, TurnsReread};
+
+/// Each turn of a sound call stores a word of the permutation of the node that it holds, and leaves its stage, or
+/// stores none, and keeps or lets go what it had stored; and what it has read of a permutation begins with the load of
+/// its version, goes on with its words, stays or ends.
+pub fn turns_permute()
+    ensures stores { TurnsPermute }
+    ensures reads { TurnsReread }
+{}
+
+ghost use Rattle.node_ops.specs.Parts.{PartTells, PartsHear, PartsEnd, PartsEndThere, EndsAreHeld, EndsStay};
 ghost use Rattle.node_ops.specs.Parts.{EndsAreRanges, ListedIsTold, ListedIsAnswered, DoneIsListed, CountStays};
 
 /// A part that is answered lists the first names of its node's range from the low one on, with their numbers, as the
@@ -106,16 +116,19 @@ pub fn parts_tell()
     ensures hears { PartsHear }
 {}
 
-/// A part that is answered has the next node as its walk saw it. As long as that is the next node,
-/// its node's range ends at the anchor that the part tells, so its names from the low one on are those below that anchor.
+/// A part that is answered tells the anchor of the next node, where its node's range ends, so the range's names from
+/// the low one on are those below that anchor. What it knows of that beside its stage, of the node that it holds, each
+/// of its turns keeps.
 pub fn parts_end_at_next()
-    ensures sees { PartsSeeBehind }
+    ensures ends { PartsEnd }
+    ensures held { EndsAreHeld }
+    ensures stays { EndsStay }
     ensures there { PartsEndThere }
     ensures ranges { EndsAreRanges }
 {}
 
-/// A part that loads the version word again next is answered with what it lists, if that is still the one that it saw,
-/// and no part is done otherwise.
+/// A part that has listed is answered with what it lists, if its last action gives the version word that it tells, and
+/// no part is done otherwise.
 pub fn listing_law()
     ensures told { ListedIsTold }
     ensures answered { ListedIsAnswered }
@@ -126,8 +139,8 @@ pub fn listing_law()
 ghost use Rattle.node_ops.specs.Rechecks.{PartsAreKnown, PartsAreFew, KnownIsKept, StatusesLeaveKnown};
 ghost use Rattle.node_ops.specs.Rechecks.{RechecksAreTold, RechecksStaySure, RechecksOutlast, RechecksTell, SameTells};
 
-/// Of a part that is done it is known what the map has on its node's range while the version word is the one that it
-/// tells. Each step of a call keeps that, and each step of a turn.
+/// Of a part that is done it is known, once its last action is done, what the map has on its node's range while the
+/// version word is the one that it tells. Each step of a call keeps that, and each step of a turn.
 pub fn known_law()
     ensures known { PartsAreKnown }
     ensures few { PartsAreFew }
@@ -136,8 +149,8 @@ pub fn known_law()
 {}
 
 /// A recheck is answered that all is the same exactly where it finds the version word that it was handed, at a place
-/// between its begin and its end. Then each known part that tells this version word of this node lists what the map has at
-/// each place from the part's on to that one.
+/// between its begin and its end. Then each known part that tells this version word of this node lists what the map has
+/// at each place from the part's on to that one.
 pub fn recheck_law()
     ensures told { RechecksAreTold }
     ensures sure { RechecksStaySure }

@@ -2,12 +2,12 @@
 //! word at a time.
 //!
 //! Each takes the floor of its name in the search layer, walks from there to the node of its name, loads the clock, and
-//! looks the name up. A write locks the node before it loads the clock. A read takes no lock: it loads the node's version
-//! word once more at last, and what it read counts only where that is the word with which its walk ended.
+//! looks the name up. A write locks the node before it loads the clock. A read takes no lock: it loads the node's
+//! version word once more at last, and what it read counts only where that is the word with which its walk ended.
 //!
-//! A write then stores in such an order that a crash at any moment leaves the node as it was before the call or as it is
-//! after it: what a bitmap makes live is durable before the bitmap is stored, and the bitmap before the clock counts the
-//! write.
+//! A write then stores in such an order that a crash at any moment leaves the node as it was before the call or as it
+//! is after it: what a bitmap makes live is durable before the bitmap is stored, and the bitmap before the clock counts
+//! the write.
 //!
 //! A put that finds its node full and without its name splits it, and is to be made again. A delete that leaves few
 //! names takes a log line before its store, and once it is counted merges the next node into its own.

@@ -2,8 +2,8 @@
 //!
 //! - `Floor`: it reads the search layer, for the node with which the walk is to begin. Whichever that is, what it finds
 //! is the same: only the walk says which node is its name's.
-//! - `Walk`: it walks from there to the node of its name; locked nodes and too many hops end it, and for a write so does
-//! a target that is worn.
+//! - `Walk`: it walks from there to the node of its name; locked nodes and too many hops end it, and for a write so
+//! does a target that is worn.
 //! - `Read`: a read takes no lock, and loads the clock. What it loads from there on may be torn by others, so whoever
 //! reads loads the version word again at last.
 //! - `Lock`: a write exchanges the version word that the walk saw for a locked one; another word there ends it.

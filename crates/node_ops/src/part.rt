@@ -277,7 +277,8 @@ impl Part {
     ghost use Rattle.pm_words.specs.Turns.{AdvancesTo, GoesBelow};
     ghost use Rattle.node_ops.specs.Calls.{IsCall};
     ghost use Rattle.node_ops.specs.LookupSteps.{IsFoundIn, lookup_turned};
-    ghost use Rattle.node_ops.specs.PartSteps.{behind_of, part_found, part_left, part_looked, part_takes, part_turned, placed_turn};
+    ghost use Rattle.node_ops.specs.PartSteps.{behind_of, part_found, part_left, part_looked, part_takes};
+    ghost use Rattle.node_ops.specs.PartSteps.{part_turned, placed_turn};
 
     /// Tells it in place the number that its action gave, and answers as a get of its low name does. What it lists is
     /// read before its last turn (`listed`), so no turn has room for it.
@@ -301,10 +302,12 @@ impl Part {
     /// Where it looks, it has one number more, and once it has looked it reads.
     fn looked(&mut self, got: u64) -> Option<Once<Placed>>
         requires { part_takes self.old got }
-        ensures turned { (lookup : Lookup) (count : ℕ) (behind : Option Next) → self.old ≡ Part.Looking lookup count behind
+        ensures turned { (lookup : Lookup) (count : ℕ) (behind : Option Next) →
+            self.old ≡ Part.Looking lookup count behind
             → AdvancesTo (placed_turn (part_looked lookup.call count (behind_of lookup.at behind)
             (lookup_turned lookup got))) self.new result }
-        ensures fewer { (lookup : Lookup) (count : ℕ) (behind : Option Next) → self.old ≡ Part.Looking lookup count behind
+        ensures fewer { (lookup : Lookup) (count : ℕ) (behind : Option Next) →
+            self.old ≡ Part.Looking lookup count behind
             → GoesBelow part_left (part_left self.old) (part_looked lookup.call count (behind_of lookup.at behind)
             (lookup_turned lookup got)) }
     {
@@ -346,7 +349,8 @@ impl Reading {
     ghost use Rattle.node_ops.specs.PartSteps.{placed_of};
     ghost use Rattle.data_list.specs.Walks.{high_of};
     ghost use Rattle.data_node.specs.Orders.{listed};
-    ghost use Rattle.node_ops.specs.PartSteps.{IsReading, after_word, lists, listed_at, listing_in, part_checked, part_words};
+    ghost use Rattle.node_ops.specs.PartSteps.{IsReading, after_word, lists, listed_at, listing_in, part_checked};
+    ghost use Rattle.node_ops.specs.PartSteps.{part_words};
     ghost use Rattle.node_ops.specs.PartSteps.{reading_asks};
 
     fn action(&self) -> Action

@@ -1,5 +1,5 @@
-//! A put: while it works on one node it is a `SinglePut`. Where that node has no clear slot and no slot with the name, it
-//! goes on in `Splitting`, after which the call is to be made again, or was refused.
+//! A put: while it works on one node it is a `SinglePut`. Where that node has no clear slot and no slot with the name,
+//! it goes on in `Splitting`, after which the call is to be made again, or was refused.
 
 ghost use Rattle.std.specs.Prelude.{◌≡◌, ℕ};
 
@@ -47,8 +47,8 @@ impl Put {
         })
     }
 
-    /// Another put begins in its place, and writes no room of a split. One that splits its node stays as it is, and it is
-    /// told that none begins.
+    /// Another put begins in its place, and writes no room of a split. One that splits its node stays as it is, and it
+    /// is told that none begins.
     pub(crate) fn begins(&mut self, view: View, name: &Name, value: u64, limit: u64) -> bool
         requires view { IsView view }
         requires limit { limit ≤ 2 ^ 62 }

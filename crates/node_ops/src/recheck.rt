@@ -1,8 +1,8 @@
-//! A recheck: it loads the clock, and then a node's version word. If that is the one that it was handed, then what a part
-//! told with that version word is so still, at that clock too. It takes no lock and changes no word.
+//! A recheck: it loads the clock, and then a node's version word. If that is the one that it was handed, then what a
+//! part told with that version word is so still, at that clock too. It takes no lock and changes no word.
 //!
-//! The clock comes first: loaded last, it could count writes that came between the two loads, on a node that was changed
-//! between them.
+//! The clock comes first: loaded last, it could count writes that came between the two loads, on a node that was
+//! changed between them.
 
 ghost use Rattle.std.specs.Prelude.{◌≡◌, ◌<◌};
 

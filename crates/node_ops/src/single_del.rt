@@ -1,5 +1,5 @@
-//! A delete while it works on one node: `Looking`, then `Clearing`, the store of the bitmap without the name's slot, and
-//! `Finishing`. A name that isn't there is finished at once, without a store.
+//! A delete while it works on one node: `Looking`, then `Clearing`, the store of the bitmap without the name's slot,
+//! and `Finishing`. A name that isn't there is finished at once, without a store.
 //!
 //! A delete that leaves at most half as many names as a node has slots looks where its node leads first (`Next`). Where
 //! that is another node, it takes a log line before its store (`Taking`): where none is EMPTY it is to be made again
@@ -83,7 +83,8 @@ impl SingleDel {
     ghost use Rattle.node_ops.specs.declared.del.Del.TheVariants as Del;
     ghost use Rattle.node_ops.specs.FinishSteps.{finish_turned};
     ghost use Rattle.node_ops.specs.LookupSteps.{lookup_turned};
-    ghost use Rattle.node_ops.specs.DelSteps.{SingleDelTurns, del_finished, del_left, del_looked, del_takes, del_turned};
+    ghost use Rattle.node_ops.specs.DelSteps.{SingleDelTurns, del_finished, del_left, del_looked, del_takes};
+    ghost use Rattle.node_ops.specs.DelSteps.{del_turned};
 
     /// Tells it in place the number that its action gave. It goes on, or its work on the node is done.
     pub(crate) fn advance(&mut self, got: u64) -> Option<SingleDelDone>
@@ -165,7 +166,8 @@ impl SingleDel {
     ghost use Rattle.node_ops.specs.declared.del.Del.TheVariants as Del;
     ghost use Rattle.node_ops.specs.Calls.{IsCall};
     ghost use Rattle.node_ops.specs.LookupSteps.{IsFoundBy, IsHit};
-    ghost use Rattle.node_ops.specs.DelSteps.{IsDel, cleared, del_found, del_left, del_slot, del_taken, del_takes, saw_next};
+    ghost use Rattle.node_ops.specs.DelSteps.{IsDel, cleared, del_found, del_left, del_slot, del_taken, del_takes};
+    ghost use Rattle.node_ops.specs.DelSteps.{saw_next};
 
     /// What a delete does once it has looked its name up: of a name that is not there it has only to take its place.
     fn found(call: Call, found: Found) -> SingleDel

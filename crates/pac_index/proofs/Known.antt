@@ -14,6 +14,7 @@ use Rattle.node_ops.specs.declared.running.Running.{Running}
 use Rattle.node_ops.specs.declared.running.Running.TheVariants.{Getting, Putting, Deleting, Parting}
 use Rattle.node_ops.specs.Asked.{name_asked, op_in}
 use Rattle.node_ops.specs.Calls.{name_in}
+use Rattle.node_ops.specs.Parts.{Confirms}
 use Rattle.node_ops.specs.PartSteps.{part_call, part_count, part_turned}
 use Rattle.node_ops.specs.RunningSteps.{Sound, count_in, listed_in}
 use Rattle.node_ops.proofs.PartListing.{listed_is_told}
@@ -52,7 +53,7 @@ pub has_last : (old new : List AnsweredPart) (a : AnsweredPart) → new ≡ old 
 has_last old new a is = (length old, subst (λ (l : List AnsweredPart). get_elem? l (length old) ≡ some a) (sym is) (there_last old a))
 
 -- the part that is answered now
-pub answered_here : (m : Running) (x count : ℕ) (low : List ℕ) (words : PartWords) → count_in m ≡ Some count → op_in m ≡ op.Get low → listed_in m ≡ Some words → x ≡ words.version → answered_now m x ≡ record { low = low; count = count; words = words } ∷ []
+pub answered_here : (m : Running) (x count : ℕ) (low : List ℕ) (words : PartWords) → count_in m ≡ Some count → op_in m ≡ op.Get low → listed_in m ≡ Some words → Confirms m x words → answered_now m x ≡ record { low = low; count = count; words = words } ∷ []
 answered_here (Getting get) x count low words counts asked lists same = absurd (cc)
 answered_here (Putting put) x count low words counts asked lists same = absurd (cc)
 answered_here (Deleting del) x count low words counts asked lists same = absurd (cc)

@@ -62,10 +62,10 @@ still_known s view node x a is of found known node_is version_is =
     let same : Same = record { place = clock } in
     let done : recheck_turned r (recheck_told s r) ≡ Done (once.Done same) =
     ap (recheck_turned r) (sym found) ∙ ap (λ (b : Bool). answer_with (if b then once.Done same else once.Again (Moved node x x))) (eq-eqb x x refl) in
-    let so : IsSameAt (map_of s.base) s.history (known_part a) clock = same_tells s clock r same (known_part a) is of (omega arith, omega arith) done known.0 node_is version_is in
+    let so : IsSameAt s.layout.slots (map_of s.base) s.history (known_part a) clock = same_tells s clock r same (known_part a) is of (omega arith, omega arith) done known.0 node_is version_is in
     record {
       lists = λ between late soon. so.lists between late soon;
-      whole = λ many between late soon. so.whole (let few = known.1 in omega arith) between late soon;
+      whole = λ many between late soon. so.whole (inl many) between late soon;
     }
   where
     answer_with : Once Same → Turn Recheck (Once Same)

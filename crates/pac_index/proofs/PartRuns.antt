@@ -13,6 +13,7 @@ use Rattle.node_ops.specs.declared.part.Part.{Part}
 use Rattle.node_ops.specs.declared.part.PartWords.{PartWords}
 use Rattle.node_ops.specs.declared.running.Running.{Running}
 use Rattle.node_ops.specs.declared.running.Running.TheVariants.{Getting, Putting, Deleting, Parting}
+use Rattle.node_ops.specs.Parts.{Confirms}
 use Rattle.node_ops.specs.PartSteps.{IsEarly, early_of, part_count, part_listed, part_turned, placed_of}
 use Rattle.node_ops.specs.RunningSteps.{IsRunning, count_in, listed_in, running_turned, wrapped_part}
 use Rattle.node_ops.proofs.PartListing.{count_stays, listed_is_told}
@@ -29,7 +30,7 @@ pub lists_now : (l : Layout) (f : Facts) (m : Running) (x : ℕ) → IsRunning m
 lists_now l f (Getting get) x here named is = tt
 lists_now l f (Putting put) x here named is = tt
 lists_now l f (Deleting del) x here named is = tt
-lists_now l f (Parting p) x here named is = IfSome_then (part_listed p) is (λ words lists. λ same. lists_range l f _ (part_count p) words (sound_call p here).packed.named (named words.place) (lists same))
+lists_now l f (Parting p) x here named is = IfSome_then (part_listed p) is (λ words lists. λ same. lists_range l f _ _ (part_count p) words (sound_call p here).packed.named (named words.place) (lists same))
 
 -- A machine that is told one number more.
 go_same : {M A : Type 0} (n m : M) → ◌≡◌ {A = Turn M A} (Go n) (Go m) → n ≡ m
@@ -87,10 +88,10 @@ wraps_early (Done b) answer early is = ap Done (at b answer early (done_same (pl
 pub early_ran : (p : Part) (told : List ℕ) (answer : Once Placed) → IsEarly answer → run_of running_turned (Go (Parting p)) told ≡ Done answer → run_of part_turned (Go p) told ≡ Done (early_of answer)
 early_ran p told answer early is = wraps_early (run_of part_turned (Go p) told) answer early (sym (run_wraps (Go p) told) ∙ is)
 
-pub listed_ran : (p : Part) (told : List ℕ) (m : Running) (x : ℕ) (words : PartWords) → run_of running_turned (Go (Parting p)) told ≡ Go m → listed_in m ≡ Some words → x ≡ words.version → run_of part_turned (Go p) (told ++ x ∷ []) ≡ Done (once.Done words)
+pub listed_ran : (p : Part) (told : List ℕ) (m : Running) (x : ℕ) (words : PartWords) → run_of running_turned (Go (Parting p)) told ≡ Go m → listed_in m ≡ Some words → Confirms m x words → run_of part_turned (Go p) (told ++ x ∷ []) ≡ Done (once.Done words)
 listed_ran p told m x words is lists same =
     let last = wraps_go (run_of part_turned (Go p) told) m (sym (run_wraps (Go p) told) ∙ is) in
-    run_more part_turned (Go p) told last.0 x last.1.0 ∙ listed_is_told last.0 words (ap listed_in last.1.1 ∙ lists) x same
+    run_more part_turned (Go p) told last.0 x last.1.0 ∙ listed_is_told last.0 words (ap listed_in last.1.1 ∙ lists) x (subst (λ (q : Running). Confirms q x words) (sym last.1.1) same)
 
 -- What ended early is answered as its look-up, and lists nothing.
 pub early_placed : (answer : Once Placed) → IsEarly answer → placed_of (early_of answer) ≡ answer

@@ -26,6 +26,7 @@ use Rattle.node_ops.specs.PartSteps.{IsEarly, early_of, part_turned, words_place
 use Rattle.node_ops.specs.RunningSteps.{running_call, running_left, running_turned, IsRunning, Sound, count_in, listed_in}
 use Rattle.node_ops.specs.CallStages.{stage_of, reply_of}
 use Rattle.node_ops.proofs.OpLaw.{counts_own_change, op_told}
+use Rattle.node_ops.specs.Parts.{Confirms}
 use Rattle.node_ops.proofs.PartListing.{listed_is_answered, done_is_listed}
 use Rattle.index_law.specs.Worlds.{written}
 use Rattle.index_core.specs.declared.party.CoreCall.{CoreCall}
@@ -216,7 +217,7 @@ part_stops low count n old v turn answer runs is early = record {
   known = early_lists (λ words. HasPart v.known (record { low = low; count = count; words = words })) answer early;
 }
 
--- a part that is done with what it lists: it was told its version word
+-- a part that is done with what it lists: its action gave its version word
 pub part_ends : (low : List ℕ) (count n : ℕ) (old v w : Member) (turn : Turn Running (Once Placed)) (m : Running) (x : ℕ) (words : PartWords) (placed : Placed) → Runs (call.Part low count) n old turn v → turn ≡ Go m → Goes m v x w → listed_in m ≡ Some words
     → running_turned m x ≡ Done (once.Done placed) → PartAnswers low count n old (once.Done words) w
 part_ends low count n old v w turn m x words placed runs is goes listed done =
@@ -224,9 +225,9 @@ part_ends low count n old v w turn m x words placed runs is goes listed done =
     let p = part_in old low count in
     let counts : count_in m ≡ Some count = run_counts count (Go (Parting p)) v.told m refl (runs.ran ∙ is) in
     let asked : op_in m ≡ op_of c = op_told (op_of c) m (subst (IsOfAfter (op_of c)) is runs.op) in
-    let told : (x ≡ words.version) × (placed ≡ words_placed words) = subst (λ (o : Option PartWords). IsSomeAnd o (λ q. (x ≡ q.version) × (placed ≡ words_placed q))) listed (done_is_listed m x placed (subst IsSome (sym counts) refl) done) in
-    let now : IfSome (Some words) (λ words. IfSome (Some count) (λ count. x ≡ words.version → ListsRange (after (map_of old.about.base) w.seen words.place) low count words)) =
-    subst (λ (q : About × NameOp × Option ℕ × Option PartWords). IfSome q.3 (λ words. IfSome q.2 (λ count. x ≡ words.version → ListsRange (after (map_of q.0.base) w.seen words.place) (name_asked q.1) count words)))
+    let told : Confirms m x words × (placed ≡ words_placed words) = subst (λ (o : Option PartWords). IsSomeAnd o (λ q. Confirms m x q × (placed ≡ words_placed q))) listed (done_is_listed m x placed (subst IsSome (sym counts) refl) done) in
+    let now : IfSome (Some words) (λ words. IfSome (Some count) (λ count. Confirms m x words → ListsRange (after (map_of old.about.base) w.seen words.place) low count words)) =
+    subst (λ (q : About × NameOp × Option ℕ × Option PartWords). IfSome q.3 (λ words. IfSome q.2 (λ count. Confirms m x words → ListsRange (after (map_of q.0.base) w.seen words.place) (name_asked q.1) count words)))
     (λ k. (runs.about k, asked k, counts k, listed k)) goes.lists in
     record {
       looks = ends_so c n old w (running_turned m x) (once.Done (words_placed words)) (runs_on c n old v w turn m x runs is goes) (listed_is_answered m words listed x told.0);

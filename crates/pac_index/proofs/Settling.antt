@@ -10,13 +10,16 @@ use Rattle.pm_words.specs.Images.{Row}
 use Rattle.pm_words.specs.Rows.{IsRow, CanAct}
 use Rattle.pm_words.proofs.Apart.{at-set_same, at-set_other, addresses_within}
 use Rattle.pm_words.proofs.Kept.{acted_row, outside_header}
+use Rattle.index_law.specs.Facts.{Facts}
 use Rattle.index_law.specs.Weights.{index_weight}
+use Rattle.permutation_law.proofs.Columns.{left_stored}
 use Rattle.index_law.proofs.Noting.{beside_law}
 use Rattle.index_law.proofs.Rows.{facts-elsewhere}
 use Rattle.index_law.proofs.Twins.{nearer, store_closer}
 use Rattle.index_core.specs.Indexes.{Index, IsIndex, footed, world}
 use Rattle.index_law.proofs.Footed.{stamp_footed}
 use Rattle.index_core.proofs.Layering.{stamp_layered}
+use Rattle.index_core.proofs.Permuting.{row_by_facts, words_permuted}
 use Rattle.index_core.specs.Lone.{IsQuiet}
 use Rattle.index_core.specs.Weights.{weight_of}
 use Rattle.pac_index.specs.Stamps.{stamp_in, with_words, SettlesTo}
@@ -47,6 +50,9 @@ keeps_index l words n here large s quiet is =
     (at-set_other l words (Volatile n 2) Clock 1 has tt (λ e. cc))
     (λ v there none. at-set_other l words (Volatile n 2) (Cached v) 1 has there (λ e. cc)) in
     let footed = stamp_footed (footed (with_words s l words)) n (is.whole, is.tended) here lawful in
+    let permuted = words_permuted (with_words s l words) (stamped l words n) (is.permuted, is.relying) lawful
+    (row_by_facts l words (stamped l words n) (map_of s.base) s.history (ap (λ (f : Facts). f.version) same) (ap (λ (f : Facts). f.now) same) (ap (λ (f : Facts). f.list) same)
+    (λ m low. left_stored l words (Volatile n 2) 1 m has (λ o least e. let no : o ≡ 2 = ap offset_of e in omega arith))) in
     record {
       lawful = lawful;
       whole = footed.0;
@@ -58,6 +64,8 @@ keeps_index l words n here large s quiet is =
       bounded = is.bounded;
       named = is.named;
       rechecks = is.rechecks;
+      permuted = permuted.0;
+      relying = permuted.1;
     }
 
 keeps_weight : (l : Layout) (words : List ℕ) (n : ℕ) → n < l.nodes → (s : Index) → weight_of (with_words s l (stamped l words n)) ≡ weight_of (with_words s l words)

@@ -24,6 +24,7 @@ use Rattle.node_ops.specs.Asked.{IsOfAfter, op_in, name_asked}
 use Rattle.node_ops.specs.RunningSteps.{running_asks, running_turned, running_takes, running_call, count_in, listed_in}
 use Rattle.node_ops.specs.CallStages.{stage_of, reply_of}
 use Rattle.node_ops.specs.Calls.{name_in}
+use Rattle.node_ops.specs.Parts.{Confirms}
 use Rattle.node_ops.specs.PartSteps.{part_call, part_count, part_turned}
 use Rattle.node_ops.specs.Rechecks.{KnownPart}
 use Rattle.index_law.specs.Worlds.{written}
@@ -206,10 +207,10 @@ abbrev pub added_now : NameOp → Turn Running (Once Placed) → ℕ
 added_now op (Go m) = 0
 added_now op (Done answer) = added_by op answer
 
--- What the machine lists that is told this number now, if that is its version word and it is a part of a range scan, is
--- the map's at its place.
+-- What the machine lists, which is a part of a range scan, is the map's at its place, if its action, which gives this
+-- number now, gives the version word that it tells.
 abbrev pub ListsNow : Map → List Write → Running → ℕ → Type 0
-ListsNow base history m x = IfSome (listed_in m) (λ words. IfSome (count_in m) (λ count. x ≡ words.version →
+ListsNow base history m x = IfSome (listed_in m) (λ words. IfSome (count_in m) (λ count. Confirms m x words →
     ListsRange (after base history words.place) (name_asked (op_in m)) count words))
 
 -- The part that a turn answers, if it is done.

@@ -205,7 +205,8 @@ impl Shared {
         requires sound { IsWork work.old }
         ensures seat { (seat.new.table_id ≡ seat.old.table_id) × (seat.new.id ≡ seat.old.id) }
         ensures lone { IsLone seat.new.me }
-        ensures steps { WorkStepsOn work.old (turning_at (party seat.old.me) epoch) (party seat.new.me) work.new result }
+        ensures steps { WorkStepsOn work.old (turning_at (party seat.old.me) epoch) (party seat.new.me) work.new
+            result }
     {
         pace.step();
         let got = self.act::<FirstWorkStep<E>>(seat, work.action());

@@ -2,3 +2,4 @@ pub mod Places
 pub mod Sorted
 pub mod Stores
 pub mod Bytes
+pub mod Made

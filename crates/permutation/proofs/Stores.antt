@@ -29,7 +29,7 @@ one_more : (words : List ℕ) (k : ℕ) (q : ℕ → ℕ) → Tells (words_first
 one_more words k q tells = (updated-same q k (slice_index words k), earlier words k k (slice_index words k) q (omega arith) tells)
 
 -- each word that is known
-known_at : (words : List ℕ) (n k : ℕ) (q : ℕ → ℕ) → Tells (words_first words n) q → k < n → q k ≡ slice_index words k
+pub known_at : (words : List ℕ) (n k : ℕ) (q : ℕ → ℕ) → Tells (words_first words n) q → k < n → q k ≡ slice_index words k
 known_at words zero k q tells within = absurd (omega arith)
 known_at words (suc n) k q tells within = elim (nat_lt k n) as (λ b. nat_lt k n ≡ b → q k ≡ slice_index words k) [
   | true ↦ λ low. known_at words n k q tells.1 (ltb-true k n low)

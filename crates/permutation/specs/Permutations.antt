@@ -1,10 +1,12 @@
 -- The permutation of a node: eight words with a byte for each place, which keep its live slots in rising order of
 -- names.
-use Rattle.std.specs.Prelude.{◌≡◌, ℕ, zero, suc, ◌/◌, ◌%◌, ◌<◌, ◌≤◌, Bool, List, [], ◌∷◌, ◌++◌, length, slice_index}
+use Rattle.std.specs.Prelude.{◌≡◌, ℕ, zero, suc, ◌/◌, ◌%◌, ◌<◌, ◌≤◌, Bool, ◌^◌, List, [], ◌∷◌, ◌++◌, length, replicate}
+use Rattle.std.specs.Prelude.{slice_index, slice_set}
 use Rattle.std.specs.Ordering.{nat_cmp, is_lt, ordering_then}
 use Rattle.std.specs.Cmp.Lexicographic.{slice_cmp}
 use Rattle.std.specs.Int.{w64, to_le_bytes}
 use Rattle.std.specs.List.Sorted.{IsPermutation, IsSortedBy}
+use Rattle.data_node.specs.Bits.{printed}
 use Rattle.data_node.specs.Orders.{live_slots, words_in, comes_before}
 use Rattle.data_node.specs.Spots.{Spot, IsLiveIn, bitmap_offset, name_words}
 
@@ -16,6 +18,27 @@ slot_at words place = slice_index (to_le_bytes w64 (words (place / 8))) (place %
 abbrev pub first_slots : (ℕ → ℕ) → ℕ → List ℕ
 first_slots words zero = []
 first_slots words (suc place) = first_slots words place ++ (slot_at words place ∷ [])
+
+-- The words of a permutation that has these slots at its first so many places, a byte each, and zeros behind them,
+unfoldable pub words_to : List ℕ → ℕ → List ℕ
+words_to slots zero = replicate 8 0
+words_to slots (suc place) =
+    slice_set (words_to slots place) (place / 8)
+    (printed (slice_index (words_to slots place) (place / 8)) place (slice_index slots place))
+
+-- and of one that has all of them.
+abbrev pub permutation_words : List ℕ → List ℕ
+permutation_words slots = words_to slots (length slots)
+
+-- These are eight words, and they have the slots at their first places.
+pub record AreWordsOf (slots words : List ℕ) : Type 0 where
+  pub room : length words ≡ 8
+  pub fit : (k : ℕ) → k < 8 → slice_index words k < 2 ^ 64
+  pub first : first_slots (slice_index words) (length slots) ≡ slots
+
+abbrev pub WordsHaveSlots : Type 0
+WordsHaveSlots = (slots : List ℕ) → length slots ≤ 64 → ((k : ℕ) → k < length slots → slice_index slots k < 256) →
+    AreWordsOf slots (permutation_words slots)
 
 -- One slot of a node comes before another: by the words of its name, as names compare; and where they have one name, by
 -- its number.

@@ -3,13 +3,15 @@
 ghost use Rattle.permutation.specs.Stores.{StoresBegin, StoresAreSorts};
 ghost use Rattle.permutation.specs.Sortings.{SortsAreSteps};
 ghost use Rattle.permutation.specs.Loads.{LoadsAreOnPermutations};
-ghost use Rattle.permutation.specs.Permutations.{OrdersArePermutations, PermutationsAreOrders};
+ghost use Rattle.permutation.specs.Permutations.{OrdersArePermutations, PermutationsAreOrders, WordsHaveSlots};
 
 /// A sorted order of the live slots, by words of names that agree with the node's, makes its permutation; and what a
-/// permutation has at its first places is such an order.
+/// permutation has at its first places is such an order. The words that are made of slots have those at their first
+/// places.
 pub fn orders_are_permutations()
     ensures makes { OrdersArePermutations }
     ensures is { PermutationsAreOrders }
+    ensures words { WordsHaveSlots }
 {}
 
 /// Each turn of the machine that stores a permutation is a store by who holds the node, where that is the node's by

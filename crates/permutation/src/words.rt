@@ -2,7 +2,7 @@
 
 ghost use Rattle.std.specs.Prelude.{◌≡◌, ◌<◌, ◌≤◌, slice_index};
 ghost use Rattle.data_node.specs.Orders.{listed};
-ghost use Rattle.permutation.specs.Permutations.{first_slots, slot_at};
+ghost use Rattle.permutation.specs.Permutations.{first_slots, permutation_words, slot_at};
 
 use data_node::{MAX_SLOTS, Order, with_print};
 
@@ -40,7 +40,8 @@ pub fn order_of(words: &[u64; PERMUTATION_WORDS], len: u64) -> Order
 /// The words of the permutation that has these slots at its first places.
 pub fn permutation_of(order: &Order) -> [u64; PERMUTATION_WORDS]
     requires { order.now.len ≤ 64 }
-    ensures { first_slots (slice_index result) order.now.len ≡ listed order.now }
+    ensures first { first_slots (slice_index result) order.now.len ≡ listed order.now }
+    ensures exact { result ≡ permutation_words (listed order.now) }
 {
     let mut words = [0; PERMUTATION_WORDS];
     for place in 0..order.len as u64 {

@@ -21,7 +21,7 @@ use Rattle.index_law.specs.Facts.{Facts}
 use Rattle.index_law.specs.Worlds.{Party, facts}
 use Rattle.index_law.specs.Lawful.{Sure}
 use Rattle.permutation_law.specs.Permuted.{made_at, permutation_in, IsInOrder, Permuted, IsStored, SureSorting, IsPermuted}
-use Rattle.permutation_law.specs.Laws.{IsSameNode, FramesPermute, EvictionsPermute, IsOldOrEmpty, RestIsPermuted, IdleMayChange}
+use Rattle.permutation_law.specs.Laws.{IsSameNode, FramesPermute, EvictionsLeaveNodes, EvictionsPermute, IsOldOrEmpty, RestIsPermuted, IdleMayChange}
 use Rattle.permutation_law.proofs.Columns.{IsLeft, left_by}
 use Rattle.permutation_law.proofs.Steps.{none_free, order_same}
 use Rattle.index_law.proofs.Evictions.{evict_facts, evict_law}
@@ -86,23 +86,25 @@ frames_permute z words parties base history is lawful alike same = record {
     held_here z i p is there n lock holds = (subst (Sure z.world.layout z.world.generation (facts z.world) p.caller p.index p.since) holds.1 (is.lawful.sure i p there)).here
 
 -- the words of the nodes, volatile ones too, stand in front of the durable twins
-pub evictions_permute : EvictionsPermute
-evictions_permute z word is within =
-    let l = z.world.layout in
-    let words = z.world.words in
-    let x : ℕ = slice_index words (cached_address l word) in
-    let facts_same = evict_facts z.world word in
-    frames_permute z (evicted l words word) z.world.parties z.world.base z.world.history is (evict_law z.world word is.lawful within)
-    (record { forth = λ i p there. (p, there, refl, refl); back = λ i p there. (p, there, refl, refl) })
-    (λ n here.
-    let left : IsLeft l words (evicted l words word) n = left_by l words (evicted l words word) n
-    (λ offset low least most. get_or-set_other words (durable_address l word) (address_of l (Volatile n offset)) x 0 (λ e. absurd (omega (arith, e)))) in
+pub evictions_leave : EvictionsLeaveNodes
+evictions_leave w word n within =
+    let l = w.layout in
+    let x : ℕ = slice_index w.words (cached_address l word) in
+    let facts_same = evict_facts w word in
+    let left : IsLeft l w.words (evicted l w.words word) n = left_by l w.words (evicted l w.words word) n
+    (λ offset low least most. get_or-set_other w.words (durable_address l word) (address_of l (Volatile n offset)) x 0 (λ e. absurd (omega (arith, e)))) in
     record {
       version = ap (λ (f : Facts). f.version n) facts_same;
       now = ap (λ (f : Facts). f.now n) facts_same;
       made = left.made;
       permutation = left.permutation;
-    })
+    }
+
+pub evictions_permute : EvictionsPermute
+evictions_permute z word is within =
+    frames_permute z (evicted z.world.layout z.world.words word) z.world.parties z.world.base z.world.history is (evict_law z.world word is.lawful within)
+    (record { forth = λ i p there. (p, there, refl, refl); back = λ i p there. (p, there, refl, refl) })
+    (λ n here. evictions_leave z.world word n within)
 
 -- no slot is live, so none need be in order
 none_in_order : (l : Layout) (words : List ℕ) (f : Facts) (n : ℕ) → live_slots (f.now n bitmap_offset) l.slots ≡ [] → IsInOrder l words f n

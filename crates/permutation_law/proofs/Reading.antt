@@ -14,7 +14,7 @@ use Rattle.index_law.specs.Facts.{Facts}
 use Rattle.index_law.specs.Worlds.{Party, facts, stepped}
 use Rattle.index_law.specs.Lawful.{IsOwnLock, SureHolds, Sure}
 use Rattle.permutation_law.specs.Permuted.{permutation_in, Permuted, IsPermuted}
-use Rattle.permutation_law.specs.Laws.{HasRead, ReadingBegins, ReadingGoesOn, ReadingIsKept, SortsKeepReading, ReadingServes}
+use Rattle.permutation_law.specs.Laws.{HasRead, ReadingBegins, ReadingGoesOn, ReadingIsKept, SortsKeepReading, FramesKeepReading, ReadingServes}
 use Rattle.permutation_law.proofs.Columns.{IsLeft, made_at-here, permutation_in-here}
 use Rattle.permutation_law.proofs.Sorting.{else_left, store_facts}
 use Rattle.permutation_law.proofs.Steps.{steps_leave}
@@ -89,6 +89,10 @@ sorted_kept z i p a s sorting after n v seen is there stage (ends {n = m} {lock 
 
 pub sorts_keep_reading : SortsKeepReading
 sorts_keep_reading z i p a sorting after n v seen is there k read = sorted_kept z i p a p.stage sorting after n v seen is there refl k read
+
+pub frames_keep_reading : FramesKeepReading
+frames_keep_reading l g f f' words words' n v seen version made permutation read =
+    kept l g f f' words words' n v seen (omega arith) (λ _. record { made = made; permutation = permutation }) read
 
 pub reading_serves : ReadingServes
 reading_serves z n v seen is read same =

@@ -7,7 +7,7 @@ use Rattle.pm_words.specs.declared.action.Action.{Action}
 use Rattle.pm_words.specs.declared.action.Action.TheVariants.{Load}
 use Rattle.pm_words.specs.Codes.{no_permutation}
 use Rattle.pm_words.specs.Locations.{image_words}
-use Rattle.pm_words.specs.Rows.{CanAct, acted, got}
+use Rattle.pm_words.specs.Rows.{CanAct, acted, evicted, got}
 use Rattle.version_lock.specs.Versions.{IsFree}
 use Rattle.cat_history.specs.Maps.{Map}
 use Rattle.cat_history.specs.declared.op.Write.{Write}
@@ -83,6 +83,11 @@ FramesPermute = (z : Permuted) (words : List ℕ) (parties : List Party) (base :
       world = record (z.world) { words = words; parties = parties; base = base; history = history };
       sortings = z.sortings;
     })
+
+-- A word that becomes durable leaves each node and its permutation, and so it keeps them all.
+abbrev pub EvictionsLeaveNodes : Type 0
+EvictionsLeaveNodes = (w : World) (word n : ℕ) → word < image_words w.layout →
+    IsSameNode w.layout w.words (evicted w.layout w.words word) n
 
 abbrev pub EvictionsPermute : Type 0
 EvictionsPermute = (z : Permuted) (word : ℕ) → IsPermuted z → word < image_words z.world.layout →
@@ -166,6 +171,12 @@ SortsKeepReading = (z : Permuted) (i : ℕ) (p : Party) (action : Action) (sorti
     HasRead z.world.layout z.world.generation
     (facts (record (z.world) { words = acted z.world.layout z.world.words action }))
     (acted z.world.layout z.world.words action) n v seen
+
+-- and by whatever leaves the node's version word and its permutation,
+abbrev pub FramesKeepReading : Type 0
+FramesKeepReading = (l : Layout) (g : ℕ) (f f' : Facts) (words words' : List ℕ) (n v : ℕ) (seen : List (ℕ × ℕ)) →
+    f'.version n ≡ f.version n → made_at l words' n ≡ made_at l words n →
+    permutation_in l words' n ≡ permutation_in l words n → HasRead l g f words n v seen → HasRead l g f' words' n v seen
 
 -- and serves once the version word, loaded again, is the one that it saw: what was read of the permutation is so, and
 -- it has the node's live slots in rising order of names.

@@ -2,7 +2,8 @@
 
 ghost use Rattle.permutation_law.specs.Laws.{StepsPermute, SortsPermute, FramesPermute, EvictionsPermute};
 ghost use Rattle.permutation_law.specs.Laws.{RestIsPermuted, IdleMayChange, ReadingBegins, ReadingGoesOn};
-ghost use Rattle.permutation_law.specs.Laws.{LoadsRead, ReadingIsKept, SortsKeepReading, ReadingServes};
+ghost use Rattle.permutation_law.specs.Laws.{LoadsRead, ReadingIsKept, SortsKeepReading, FramesKeepReading};
+ghost use Rattle.permutation_law.specs.Laws.{EvictionsLeaveNodes, ReadingServes};
 
 /// A step of a party, on nodes or beside them, and a store of a permutation by who holds its node, keep the
 /// permutations of all nodes. So does whatever leaves the nodes, their permutations and the stages of the parties, a
@@ -11,6 +12,7 @@ pub fn permutations_law()
     ensures steps { StepsPermute }
     ensures sorts { SortsPermute }
     ensures frames { FramesPermute }
+    ensures leave { EvictionsLeaveNodes }
     ensures evict { EvictionsPermute }
     ensures rest { RestIsPermuted }
     ensures idle { IdleMayChange }
@@ -24,5 +26,6 @@ pub fn readings_law()
     ensures loads { LoadsRead }
     ensures steps { ReadingIsKept }
     ensures sorts { SortsKeepReading }
+    ensures frames { FramesKeepReading }
     ensures serves { ReadingServes }
 {}

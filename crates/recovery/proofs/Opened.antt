@@ -33,7 +33,7 @@ use Rattle.image_recovery_law.specs.Rest.{Rests}
 use Rattle.image_recovery_law.specs.Rows.{columns_in, word_if}
 use Rattle.image_recovery_law.proofs.RowColumns.{columns_alike, crash_has_columns}
 use Rattle.image_recovery_law.proofs.SoundColumns.{spots_are, columns_keep_maps}
-use Rattle.index_opening_law.specs.Openings.{IsOpening, IsUnlocked, TellsList}
+use Rattle.index_opening_law.specs.Openings.{HaveNoOrders, IsOpening, IsUnlocked, TellsList}
 use Rattle.index_opening_law.proofs.Opened.{spot_is, opening_has_list, opening_is_unlocked}
 use Rattle.lone_hops_law.proofs.Short.{empty_is_short}
 use Rattle.index_core.specs.Indexes.{Index, layered, world}
@@ -44,7 +44,7 @@ use Rattle.index_core.proofs.Opening.{opening_is_index, opening_is_unused}
 use Rattle.image_recovery.specs.Plans.{columns, list_of}
 use Rattle.image_recovery.specs.Recovered.{IsRecoveredTo}
 use Rattle.recovery.specs.Opened.{IsOpenedFrom}
-use Rattle.recovery.specs.Tellings.{HaveNoOrders, IsUntold, KeepsBeside}
+use Rattle.recovery.specs.Tellings.{IsUntold, KeepsBeside}
 
 -- what a list of nodes makes is the list that is read off the words
 read_list : (l : Layout) (words : List ℕ) (list : List ListNode) → MakeList l.nodes (spot_in l words) list → list_in l words ≡ list
@@ -107,6 +107,9 @@ module _ (from row : Row) (recovered : IsRecoveredTo from row) where
     kept_map : IsMapOf l list (columns_in l row.words Cached) (map_of base)
     kept_map = (recovered.rests.same_map (map_of base)).0 ((columns_keep_maps l from.words (map_of base)).1 keeps)
 
+    orders_here : HaveNoOrders l words
+    orders_here = subst (λ (m : Layout). HaveNoOrders m words) recovered.layout orders
+
     pub is_opening : IsOpening l list (columns from) words (map_of base)
     is_opening = record {
       row = subst (λ (m : Layout). IsRow m words) recovered.layout is_row;
@@ -116,6 +119,7 @@ module _ (from row : Row) (recovered : IsRecoveredTo from row) where
       safe_root = beside_here (Durable (Root 0)) (omega arith) (λ mark. mark) ∙ recovered.clear.durable_root;
       keeps = subst (λ (c : Columns). IsMapOf l list c (map_of base)) (sym cached_kept) kept_map;
       tells = subst (λ (ms : List ListNode). TellsList l ms words) (read_list l row.words list made) (subst (λ (m : Layout). TellsList m (list_in m row.words) words) recovered.layout tells);
+      orders = orders_here;
     }
 
     abbrev s : Index
@@ -166,7 +170,7 @@ module _ (from row : Row) (recovered : IsRecoveredTo from row) where
           anchors = unused.anchors;
           rests = is_opening.rests;
           tells = is_opening.tells;
-          orders = subst (λ (m : Layout). HaveNoOrders m words) recovered.layout orders;
+          orders = orders_here;
           weighs = weighs;
           gone = unused.gone;
           stamps = unused.stamps;

@@ -1,6 +1,7 @@
 -- Cores of fresh images, and of a core's own image.
 use Rattle.std.proofs.Common.{◌≡◌, ℕ, suc, ◌*◌, ◌≤◌, ◌/◌, List, [], ◌∷◌, length, refl, sym, ap, ◌∙◌, subst, arith}
 use Rattle.std.specs.FinMap.{empty, len, len-empty}
+use Rattle.std.specs.Prelude.{Result, Ok, Err, IfOk}
 use Rattle.cat_key.specs.Names.{name_cmp}
 use Rattle.cat_history.specs.Maps.{map_of}
 use Rattle.cat_history.specs.Writes.{after_all}
@@ -31,6 +32,11 @@ use Rattle.index_core.proofs.Quiet.{quiet_parties}
 use Rattle.index_image_law.specs.Rest.{IsRestImage, cached_image}
 use Rattle.recovery.specs.Opened.{IsOpenedFrom}
 use Rattle.recovery.specs.Cores.{IsReopened, fresh_image}
+
+-- what is said of a value, where there is one, by what is said of it already
+pub if_ok : {A E : Type 0} (P Q : A → Type 0) (r : Result A E) → ((x : A) → P x → Q x) → IfOk r P → IfOk r Q
+if_ok P Q (Ok x) then_q p = then_q x p
+if_ok P Q (Err e) then_q p = p
 
 -- ---- fresh images
 

@@ -19,9 +19,8 @@ use Rattle.index_core.specs.Lone.{HasShortWays, IsQuiet, locks_left}
 use Rattle.index_core.specs.PartyStates.{idle_states}
 use Rattle.image_recovery_law.specs.Rest.{Rests}
 use Rattle.image_recovery_law.specs.Rows.{columns_in}
-use Rattle.index_opening_law.specs.Openings.{TellsList}
+use Rattle.index_opening_law.specs.Openings.{HaveNoOrders, TellsList}
 use Rattle.image_recovery.specs.Plans.{columns, list_of}
-use Rattle.recovery.specs.Tellings.{HaveNoOrders}
 
 -- The index is that of the image. Its base is the image's map, in rising order of names, and nothing is written yet. It
 -- has the image's shape and weight, in the next generation. No call is in flight, no node was locked in its run, and

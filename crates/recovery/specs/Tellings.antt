@@ -1,6 +1,6 @@
 -- How the volatile words of a recovered image come to tell its list.
 use Rattle.std.specs.Prelude.{◌≡◌, ℕ, ◌<◌, ◌⊎◌, List}
-use Rattle.pm_words.specs.Codes.{live_status, no_permutation}
+use Rattle.pm_words.specs.Codes.{live_status}
 use Rattle.pm_words.specs.declared.layout.Layout.{Layout}
 use Rattle.pm_words.specs.declared.action.Action.TheVariants.{Store}
 use Rattle.pm_words.specs.Images.{Row}
@@ -19,7 +19,7 @@ pub record IsUntold (l : Layout) (words : List ℕ) : Type 0 where
 
 -- The status of a node, or its prev, or the version of its permutation.
 abbrev pub IsNodeMark : Location → Type 0
-IsNodeMark (Volatile n offset) = (offset < 2) ⊎ (offset ≡ 3)
+IsNodeMark (Volatile n offset) = (offset < 2) ⊎ (offset ≡ permutation_version_offset)
 IsNodeMark _ = ⊥
 
 -- No word but these has changed.
@@ -34,12 +34,8 @@ told_words l words node prev =
 abbrev pub told_node : Row → ℕ → ℕ → Row
 told_node row node prev = record row { words = told_words row.layout row.words node prev }
 
--- No node has a permutation, listed or not.
-abbrev pub HaveNoOrders : Layout → List ℕ → Type 0
-HaveNoOrders l words = (n : ℕ) → n < l.nodes → at l words (Volatile n permutation_version_offset) ≡ no_permutation
-
 abbrev pub IsOrder : Location → Type 0
-IsOrder (Volatile n offset) = offset ≡ 3
+IsOrder (Volatile n offset) = offset ≡ permutation_version_offset
 IsOrder _ = ⊥
 
 -- No word but the versions of permutations has changed.

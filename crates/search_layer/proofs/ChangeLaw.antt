@@ -9,7 +9,7 @@ use Rattle.search_layer.specs.Rows.{LayerWords, AreEven, IsLayerMix}
 use Rattle.search_layer.specs.ChangeStages.{Aim, Changing, Looks, Fills, CanSwitch, Switched, Changed, made_of, SureFills, SureCanSwitch, SureSwitched, SureChanging, LayerAt, MixAt, Stored}
 use Rattle.search_layer.specs.Laws.{ChangeIsBacked, ChangeEvicts, UnsetKeepsZero, aim_of, stage_of}
 use Rattle.search_layer.proofs.LayerLemmas.{has_made, has_not_unused, has_same, layer_unused, layer_switched, led_by_leaf}
-use Rattle.search_layer.specs.Laws.{ChangeBegins, ChangeEnds, LayerIsEither, MixIsEither, StepIsEither}
+use Rattle.search_layer.specs.Laws.{LeavesAreBacked, LeavesEvict, ChangeBegins, ChangeEnds, LayerIsEither, MixIsEither, StepIsEither}
 use Rattle.search_layer.proofs.RowLemmas.{mixes_are_even}
 
 -- words of a leaf that make up a key
@@ -307,11 +307,16 @@ mix_layer count most aim before (CanSwitch leaf) w s mix sure at is = even_layer
 mix_layer count most aim before (Switched leaf drained hand) w s mix sure at is = switched_layer count most aim before leaf drained hand w s mix sure is at
 mix_layer count most aim before Changed w s mix sure at is = even_layer count w s mix (made_of aim before) sure is at
 
-pub change_is_backed : ChangeIsBacked
-change_is_backed l aim before stage w s row fits sure at = record {
-  row = λ mix is. mix_row (leaf_count l) l.nodes aim before stage w s mix row fits sure is;
-  layer = λ mix is. mix_layer (leaf_count l) l.nodes aim before stage w s mix sure at is;
+pub leaves_are_backed : LeavesAreBacked
+leaves_are_backed count most aim before stage w s row fits sure at = record {
+  row = λ mix is. mix_row count most aim before stage w s mix row fits sure is;
+  layer = λ mix is. mix_layer count most aim before stage w s mix sure at is;
 }
+
+pub change_is_backed : ChangeIsBacked
+change_is_backed l aim before stage w s row fits sure at =
+    let backs = leaves_are_backed (leaf_count l) l.nodes aim before stage w s row fits sure at in
+    record { row = backs.row; layer = backs.layer }
 
 -- The zero key isn't an unset's.
 untouched : (aim : Aim) (before layer : Layer) → aim.word ≡ 0 → key_number aim.key ≢ 0 → AreSame layer (made_of aim before) → layer 0 ≡ before 0
@@ -328,9 +333,9 @@ pub unset_keeps_zero : UnsetKeepsZero
 unset_keeps_zero unset before layer is at = zero_kept (aim_of unset.change) before layer (stage_of unset.change) is.word is.key at
 
 -- Whatever words become durable, what is known stays so.
-pub change_evicts : ChangeEvicts
-change_evicts l aim before (Looks sight) w s d is sure = (sure.0, mixes_are_even w s d sure.1 is)
-change_evicts l aim before (Fills leaf stored drained hand) w s d is sure = record {
+pub leaves_evict : LeavesEvict
+leaves_evict count most aim before (Looks sight) w s d is sure = (sure.0, mixes_are_even w s d sure.1 is)
+leaves_evict count most aim before (Fills leaf stored drained hand) w s d is sure = record {
   within = sure.within;
   unused = sure.unused;
   unused_durable = elim (is leaf 3) [ inl a ↦ a ∙ sure.unused | inr b ↦ b ∙ sure.unused_durable ];
@@ -341,8 +346,8 @@ change_evicts l aim before (Fills leaf stored drained hand) w s d is sure = reco
   beyond = λ o past. elim (is leaf o) [ inl a ↦ a | inr b ↦ b ∙ sure.beyond o past ];
   hand = sure.hand;
 }
-change_evicts l aim before (CanSwitch leaf) w s d is sure = record { within = sure.within; key = sure.key; only = sure.only; even = mixes_are_even w s d sure.even is }
-change_evicts l aim before (Switched leaf drained hand) w s d is sure = record {
+leaves_evict count most aim before (CanSwitch leaf) w s d is sure = record { within = sure.within; key = sure.key; only = sure.only; even = mixes_are_even w s d sure.even is }
+leaves_evict count most aim before (Switched leaf drained hand) w s d is sure = record {
   within = sure.within;
   key = sure.key;
   only = sure.only;
@@ -351,12 +356,15 @@ change_evicts l aim before (Switched leaf drained hand) w s d is sure = record {
   others = λ o ne. elim (is leaf o) [ inl a ↦ a | inr b ↦ b ∙ sure.others o ne ];
   twin = elim (is leaf 3) [
     | inl a ↦ inl (a ∙ sure.word)
-    | inr b ↦ twin_same (leaf_count l) l.nodes aim before leaf s d b sure.twin
+    | inr b ↦ twin_same count most aim before leaf s d b sure.twin
   ];
   drained = λ lt. elim (is leaf 3) [ inl a ↦ a | inr b ↦ b ∙ sure.drained lt ];
   hand = sure.hand;
 }
-change_evicts l aim before Changed w s d is sure = mixes_are_even w s d sure is
+leaves_evict count most aim before Changed w s d is sure = mixes_are_even w s d sure is
+
+pub change_evicts : ChangeEvicts
+change_evicts l = leaves_evict (leaf_count l) l.nodes
 
 -- What the cached layer may be at a stage, and what a mix and a step make of it.
 pub layer_is_either : LayerIsEither

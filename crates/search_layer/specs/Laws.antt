@@ -26,6 +26,7 @@ use Rattle.layer_map.specs.Keys.{key_number, IsKey}
 use Rattle.layer_map.specs.Places.{is_of_layer, IsLayerPlace}
 use Rattle.search_layer.specs.Reading.{offset_read}
 use Rattle.search_layer.specs.Rows.{LayerWords, layer_words, AreEven, IsLayerMix, KeepsOthers}
+use Rattle.search_layer.specs.Leaves.{layer_in, IsLayerRow}
 use Rattle.search_layer.specs.Kept.{kept, IsKept, layer_of, IsInOrder}
 use Rattle.search_layer.specs.FloorSteps.{IsFloor, floor_starts, floor_asks, floor_turned, floor_left, floor_most}
 use Rattle.search_layer.specs.ChangeSteps.{filled, IsChange, change_starts, change_asks, change_turned}
@@ -234,12 +235,28 @@ pub record BacksLayer (l : Layout) (aim : Aim) (before : Layer) (stage : Changin
   pub row : (mix : LayerWords) → IsLayerMix w s mix → IsKept l mix
   pub layer : (mix : LayerWords) → IsLayerMix w s mix → MixAt aim before stage (kept l mix)
 
+-- and so of any row of so many leaves, which lead to nodes below any number
+pub record BacksLeaves (count most : ℕ) (aim : Aim) (before : Layer) (stage : Changing) (w s : LayerWords) : Type 0
+  where
+    pub row : (mix : LayerWords) → IsLayerMix w s mix → IsLayerRow count most mix
+    pub layer : (mix : LayerWords) → IsLayerMix w s mix → MixAt aim before stage (layer_in mix count)
+
+abbrev pub LeavesAreBacked : Type 0
+LeavesAreBacked = (count most : ℕ) (aim : Aim) (before : Layer) (stage : Changing) (w s : LayerWords) →
+    IsLayerRow count most w → aim.word ≤ most →
+    SureChanging count most aim before stage w s → LayerAt aim before stage (layer_in w count) →
+    BacksLeaves count most aim before stage w s
+
 abbrev pub ChangeIsBacked : Type 0
 ChangeIsBacked = (l : Layout) (aim : Aim) (before : Layer) (stage : Changing) (w s : LayerWords) → IsKept l w →
     aim.word ≤ l.nodes → SureOn l before aim stage w s → LayerAt aim before stage (kept l w) →
     BacksLayer l aim before stage w s
 
--- and so the stage knows what it says
+-- and so the stage knows what it says, of any number of leaves too
+abbrev pub LeavesEvict : Type 0
+LeavesEvict = (count most : ℕ) (aim : Aim) (before : Layer) (stage : Changing) (w s mix : LayerWords) →
+    IsLayerMix w s mix → SureChanging count most aim before stage w s → SureChanging count most aim before stage w mix
+
 abbrev pub ChangeEvicts : Type 0
 ChangeEvicts = (l : Layout) (aim : Aim) (before : Layer) (stage : Changing) (w s mix : LayerWords) →
     IsLayerMix w s mix → SureOn l before aim stage w s → SureOn l before aim stage w mix

@@ -7,6 +7,7 @@ ghost use Rattle.search_layer.specs.Laws.{FloorIsExact, FloorAnswersANode, Floor
 ghost use Rattle.search_layer.specs.Laws.{FloorGoesOn, ChangesAreSteps, ChangesStayOnLayer};
 ghost use Rattle.search_layer.specs.Laws.{ChangesStaySound, SetsStaySound, UnsetsStaySound, ChangeStepKeeps};
 ghost use Rattle.search_layer.specs.Laws.{ChangeCanAct, ChangeIsBacked, ChangeEvicts, UnsetKeepsZero};
+ghost use Rattle.search_layer.specs.Laws.{LeavesAreBacked, LeavesEvict};
 ghost use Rattle.search_layer.specs.Laws.{ChangeBegins, ChangeEnds, LayerIsEither, MixIsEither, StepIsEither};
 ghost use Rattle.search_layer.specs.Laws.{SetsBeginSound, UnsetsBeginSound, FreshIsAtRest};
 ghost use Rattle.search_layer.specs.Runs.{EachMomentKeeps, RunsEndChanged};
@@ -63,6 +64,8 @@ pub fn change_law()
     ensures keeps { ChangeStepKeeps }
     ensures backed { ChangeIsBacked }
     ensures evicts { ChangeEvicts }
+    ensures leaves_backed { LeavesAreBacked }
+    ensures leaves_evict { LeavesEvict }
     ensures zero { UnsetKeepsZero }
 {}
 

@@ -25,9 +25,9 @@ use Rattle.call_stages.specs.declared.once.Placed.{Placed}
 use Rattle.call_stages.specs.Stages.{Tells, AreCopies, IsAmong, Held, Grip, Pace, Gathered, Joined, Gone, Stage, Idle, Holds, Splits, Meets, Joins, Filling, Linked, HoldsNode, counted, left_grip, merged_held}
 use Rattle.call_stages.specs.Kinds.{HasWordAt, Soils, Answers, writes, word_address, knows_right, copies, takes_up, puts_down, gathers, joins, glances_joined, drains_joined, retires, yields, Step, merges, unlocks}
 use Rattle.call_stages.specs.Lines.{HeldLine, Notes}
-use Rattle.call_stages.specs.AnySteps.{stores_prev}
 use Rattle.call_stages.specs.Prevs.{IsSwitch, IsJoin as IsSwitchOver, IsRetire, Debt, no_debt, Deals, keeps, forgets, ends, joins as deals_join, pays, renews}
-use Rattle.call_stages.specs.Footings.{Footing, HasLine, IsOfMerge, Waits, FootStep, on_nodes, on_line, on_prev}
+use Rattle.call_stages.specs.Footings.{Footing, HasLine, IsOfMerge, Waits}
+use Rattle.permutation.specs.Sparing.{SparingStep, on_nodes, on_line, on_prev}
 use Rattle.smo_log.specs.declared.line.Entry.{Entry}
 use Rattle.smo_log.specs.declared.open.Open.{Open}
 use Rattle.smo_log.specs.declared.state.Ready.{Ready}
@@ -36,7 +36,7 @@ use Rattle.smo_log.specs.declared.state.ReadyAt.TheVariants as ready_at
 use Rattle.smo_log.specs.LogLines.{caller_of, index_of, fields, open_line, ready_line}
 use Rattle.smo_log.specs.Opens.{IsOpen, open_asks, open_turned, open_held, OpenNotes}
 use Rattle.smo_log.specs.States.{IsReady, ready_asks, ready_turned, ready_held, ReadyNotes, ready_at_held}
-use Rattle.smo_log.proofs.LineLaw.{opens_are_notes, readies_are_notes, caller_within, index_within, notes_beside}
+use Rattle.smo_log.proofs.LineLaw.{opens_are_notes, readies_are_notes, caller_within, index_within}
 use Rattle.split_merge.specs.declared.uniting.Union.{Union}
 use Rattle.split_merge.specs.declared.joining.Join.{Join}
 use Rattle.split_merge.specs.declared.joining.JoinAt.{JoinAt}
@@ -118,18 +118,18 @@ module _ (join : Join) (sound : IsJoin join) (g : ℕ) (h : Held) (answer : Once
   slots : (4 ≤ l.slots) × (l.slots ≤ 64) × (l.slots % 2 ≡ 0)
   slots = sound.union.layout.slots
 
-  on : (before : Footing) (action : Action) (x : ℕ) (at : JoinAt) → FootStep l g c before action x (footing at) None → IsJoinAt union at → Leads_to before action x (joins_on join at)
+  on : (before : Footing) (action : Action) (x : ℕ) (at : JoinAt) → SparingStep l g c before action x (footing at) None → IsJoinAt union at → Leads_to before action x (joins_on join at)
   on before action x at step here = (step, record { union = sound.union; here = here }, refl)
 
   -- a step on its line
   line_step : {stage : Stage} {e : HeldLine} {after : Option HeldLine} {debt : Debt} {a : Action} {x : ℕ} → Waits stage (Some e) after → counted stage ≡ None → Notes l (Some e) a x after
       → (e.caller ≡ c) × (e.number ≡ index_of union.line) → IfSome after (λ d. d.caller ≡ c)
-      → FootStep l g c (record { stage = stage; line = Some e; debt = debt }) a x (record { stage = stage; line = after; debt = debt }) None
+      → SparingStep l g c (record { stage = stage; line = Some e; debt = debt }) a x (record { stage = stage; line = after; debt = debt }) None
   line_step {e = e} {after = after} {a = a} {x = x} waits none note own after_own =
       let low = caller_within union.line l.callers sound.union.line in
       let index = index_within union.line in
       let here : (e.caller < l.callers) × (e.number < 8) = (let is = own.0 in omega arith, let is = own.1 in omega arith) in
-      on_line waits none (notes_beside l (Some e) after a x here note) note after_own
+      on_line waits none here note after_own
 
   -- the line is open, and nothing is copied yet
   abbrev opened_footing : Footing
@@ -158,11 +158,11 @@ module _ (join : Join) (sound : IsJoin join) (g : ℕ) (h : Held) (answer : Once
   targets_left : union.pairs.targets ≢ 0 → IsLeft union union.pairs.targets
   targets_left some = record { fits = targets_small union sound.union; some = some; each = λ slot within live. live }
 
-  to_copies : (before : Footing) (action : Action) (x : ℕ) → FootStep l g c before action x opened_footing None → Leads_to before action x (joins_on join (after_open union))
+  to_copies : (before : Footing) (action : Action) (x : ℕ) → SparingStep l g c before action x opened_footing None → Leads_to before action x (joins_on join (after_open union))
   to_copies before action x step =
       elim (union.pairs.targets == 0) as (λ b. (union.pairs.targets == 0) ≡ b → Leads_to before action x (joins_on join (cond b at.Bitmap (at.Load union.pairs.targets 0)))) [
-        | true ↦ λ none. on before action x at.Bitmap (subst (λ after. FootStep l g c before action x after None) (none_stored (eqb-true _ _ none)) step) tt
-        | false ↦ λ some. on before action x (at.Load union.pairs.targets 0) (subst (λ after. FootStep l g c before action x after None) some_first step) (targets_left (eqb-false _ _ some), omega arith)
+        | true ↦ λ none. on before action x at.Bitmap (subst (λ after. SparingStep l g c before action x after None) (none_stored (eqb-true _ _ none)) step) tt
+        | false ↦ λ some. on before action x (at.Load union.pairs.targets 0) (subst (λ after. SparingStep l g c before action x after None) some_first step) (targets_left (eqb-false _ _ some), omega arith)
       ] refl
 
   at_open : (machine : Open) (x : ℕ) → IsOpen machine → machine.layout ≡ l → machine.line ≡ union.line → machine.entry ≡ entry_in union → x < 2 ^ 64
@@ -522,23 +522,23 @@ module _ (join : Join) (sound : IsJoin join) (g : ℕ) (h : Held) (answer : Once
       elim (behind_in union == 0) as (λ b. (behind_in union == 0) ≡ b → Leads_to (footing at.Prev) (join_at_asks union at.Prev) x
       (joins_on join (cond b (at.Ready (record { layout = l; line = union.line; at = ready_at.State })) at.NextPrev))) [
         | true ↦ λ none. on (footing at.Prev) (join_at_asks union at.Prev) x (at.Ready (record { layout = l; line = union.line; at = ready_at.State }))
-            (subst (λ (d : Debt). FootStep l g c (footing at.Prev) (join_at_asks union at.Prev) x (record { stage = join_at_stage h union at.Prev; line = Some (open_line union.line (entry_in union)); debt = d }) None)
+            (subst (λ (d : Debt). SparingStep l g c (footing at.Prev) (join_at_asks union at.Prev) x (record { stage = join_at_stage h union at.Prev; line = Some (open_line union.line (entry_in union)); debt = d }) None)
             (λ i. record { known = Some (union.right, union.node); owes = cond (sym none i) (Some union.node) None }) step)
             (record { layout = sound.union.layout; line = sound.union.line; here = tt }, refl, refl)
         | false ↦ λ some. on (footing at.Prev) (join_at_asks union at.Prev) x at.NextPrev step (eqb-false _ _ some)
       ] refl
     where
-      step : FootStep l g c (footing at.Prev) (join_at_asks union at.Prev) x (footing at.NextPrev) None
-      step = on_prev refl (stores_prev sound.union.right small_node) (renews refl)
+      step : SparingStep l g c (footing at.Prev) (join_at_asks union at.Prev) x (footing at.NextPrev) None
+      step = on_prev refl sound.union.right small_node (renews refl)
 
   at_next_prev : (x : ℕ) → behind_in union ≢ 0 → Leads_to (footing at.NextPrev) (join_at_asks union at.NextPrev) x (joins_on join (at.Ready (record { layout = l; line = union.line; at = ready_at.State })))
   at_next_prev x some = on (footing at.NextPrev) (join_at_asks union at.NextPrev) x (at.Ready (record { layout = l; line = union.line; at = ready_at.State }))
-      (subst (λ (b : Bool). FootStep l g c (footing at.NextPrev) (join_at_asks union at.NextPrev) x (record {
+      (subst (λ (b : Bool). SparingStep l g c (footing at.NextPrev) (join_at_asks union at.NextPrev) x (record {
         stage = join_at_stage h union at.NextPrev;
         line = Some (open_line union.line (entry_in union));
         debt = record { known = Some (union.right, union.node); owes = cond b (Some union.node) None };
       }) None) (sym (ne_eqb (behind_in union) 0 some))
-      (on_prev refl (stores_prev sound.union.behind small_node) (pays refl (refl, λ s told. told.0) some sound.union.node)))
+      (on_prev refl sound.union.behind small_node (pays refl (refl, λ s told. told.0) some sound.union.node)))
       (record { layout = sound.union.layout; line = sound.union.line; here = tt }, refl, refl)
 
   at_ready : (ready : Ready) (x : ℕ) → IsReady ready → ready.layout ≡ l → ready.line ≡ union.line → x < 2 ^ 64

@@ -15,7 +15,8 @@ use Rattle.call_stages.specs.declared.once.Placed.{Placed}
 use Rattle.call_stages.specs.Stages.{Tells, Held, Gathered, Joined, Stage, Idle, Holds, Eyes, Splits, Meets, Joins, Filling}
 use Rattle.call_stages.specs.Kinds.{HasWordAt, IsStill, Told, LeadsWithin, Answers, writes, learns, peeks, eyes, loses, looks, merges, unlocks, meets, knows_own, knows_right, parts, word_address, version_address}
 use Rattle.call_stages.specs.Prevs.{no_debt, Deals, keeps}
-use Rattle.call_stages.specs.Footings.{Footing, FootStep, on_nodes}
+use Rattle.call_stages.specs.Footings.{Footing}
+use Rattle.permutation.specs.Sparing.{SparingStep, on_nodes}
 use Rattle.pm_alloc.specs.Claims.{lock_of}
 use Rattle.smo_log.specs.LogLines.{caller_of, empty_line}
 use Rattle.split_merge.specs.declared.joining.Join.{Join}
@@ -67,11 +68,11 @@ module _ (merge : Merge) (sound : IsMerge merge) (h : Held) (may : MayJoin h) (a
   on_line_empty stage = record { stage = stage; line = Some (empty_line merge.line); debt = no_debt }
 
   abbrev Leads : Footing → Action → ℕ → Turn Merge Merged → Type 0
-  Leads before action x (Go next) = FootStep l g merge.view.caller before action x (merge_footing h next) None
-  Leads before action x (Done merged) = FootStep l g merge.view.caller before action x done_footing (Some answer)
+  Leads before action x (Go next) = SparingStep l g merge.view.caller before action x (merge_footing h next) None
+  Leads before action x (Done merged) = SparingStep l g merge.view.caller before action x done_footing (Some answer)
 
   abbrev Steps : Stage → Action → ℕ → Stage → Type 0
-  Steps s action x t = FootStep l g merge.view.caller (on_line_empty s) action x (on_line_empty t) None
+  Steps s action x t = SparingStep l g merge.view.caller (on_line_empty s) action x (on_line_empty t) None
 
   has_word : (offset : ℕ) → offset < 16 + 4 * l.slots → HasWordAt l n offset
   has_word offset within = (sound.node, within)
@@ -195,7 +196,7 @@ module _ (merge : Merge) (sound : IsMerge merge) (h : Held) (may : MayJoin h) (a
             (told_past (λ offset. slice_index prints (offset - 8)) 8 count (near_seen near.own near.right) s told))
         | false ↦ λ last.
             let end : count + 1 ≡ prints_count merge.view = (let le = ltb-false _ _ last in omega arith) in
-            subst (λ c. FootStep l g merge.view.caller (footing (at.Prints near locked head prints count)) (merge_at_asks merge (at.Prints near locked head prints count)) x
+            subst (λ c. SparingStep l g merge.view.caller (footing (at.Prints near locked head prints count)) (merge_at_asks merge (at.Prints near locked head prints count)) x
             (record { stage = (join_footing h (join_from (union_of merge near locked head after))).stage; line = Some (empty_line merge.line); debt = no_debt }) None) (sym end)
             (step (own_seen (union_of merge near locked head after) 0) (λ s told is.
             tells_row (prints_now (union_of merge near locked head after) 0) 8 (prints_count merge.view) (near_seen near.own near.right) s
@@ -228,8 +229,8 @@ module _ (merge : Merge) (sound : IsMerge merge) (h : Held) (may : MayJoin h) (a
       caller = ap caller_of of_it.line_is ∙ sound.line.0
 
       of : (turn : Turn Join (Unit {0})) → JoinsSo g join.union h answer (join_footing h join) (join_asks join) x turn → Leads (footing (at.Join join)) (join_asks join) x (joined merge turn)
-      of (Go next) step = subst (λ (p : Layout × ℕ). FootStep p.0 g p.1 (join_footing h join) (join_asks join) x (join_footing h next) None) (λ i. (of_it.layout i, caller i)) step.0
-      of (Done nothing) step = subst (λ (p : Layout × ℕ). FootStep p.0 g p.1 (join_footing h join) (join_asks join) x done_footing (Some answer)) (λ i. (of_it.layout i, caller i)) step
+      of (Go next) step = subst (λ (p : Layout × ℕ). SparingStep p.0 g p.1 (join_footing h join) (join_asks join) x (join_footing h next) None) (λ i. (of_it.layout i, caller i)) step.0
+      of (Done nothing) step = subst (λ (p : Layout × ℕ). SparingStep p.0 g p.1 (join_footing h join) (join_asks join) x done_footing (Some answer)) (λ i. (of_it.layout i, caller i)) step
 
   at_part : (near : Near) (locked bitmap x : ℕ) → Leads (footing (at.Part near locked bitmap)) (merge_at_asks merge (at.Part near locked bitmap)) x (merges_on merge (at.Leave near))
   at_part near locked bitmap x = on_nodes tt (inl refl) (merges (parts refl)) (meets_far n w (knows_near near h) (neighbour near locked ((bitmap_offset, bitmap) ∷ [])) (Holds n w (knows_near near h)))

@@ -15,7 +15,6 @@ use Rattle.call_stages.specs.Stages.{Tells, Grip, Phase, Filling, Linked, Parted
 use Rattle.call_stages.specs.Kinds.{HasWordAt, Soils, Cleans, word_address, Step, splits, publishes, leaves, fills as fills_word, lights, switches, glances_left, glances_fresh, drains_left, drains_fresh, trims}
 use Rattle.call_stages.specs.Lines.{HeldLine, Notes}
 use Rattle.call_stages.specs.Stages.{HoldsNode, IsSwitched, counted}
-use Rattle.call_stages.specs.AnySteps.{stores_prev}
 use Rattle.call_stages.specs.Prevs.{IsSwitch, IsJoin}
 use Rattle.call_stages.specs.Prevs.{Debt, no_debt, IsRetire, Deals, keeps, ends, switches as deals_switch, names, pays}
 use Rattle.index_law.proofs.Stays.{means_beside}
@@ -33,14 +32,15 @@ use Rattle.pm_words.specs.Fences.{IsFence, IsFenceAt, fence_start, fence_asks, f
 use Rattle.smo_log.specs.LogLines.{caller_of, index_of, fields, open_line, ready_line}
 use Rattle.smo_log.specs.Opens.{IsOpen, open_asks, open_turned, open_at_held, open_held, OpenNotes}
 use Rattle.smo_log.specs.States.{IsReady, ready_asks, ready_turned, ready_at_held, ready_held, ReadyNotes}
-use Rattle.smo_log.proofs.LineLaw.{opens_are_notes, readies_are_notes, caller_within, index_within, notes_beside}
+use Rattle.smo_log.proofs.LineLaw.{opens_are_notes, readies_are_notes, caller_within, index_within}
 use Rattle.split_merge.specs.declared.planning.Plan.{Plan}
 use Rattle.split_merge.specs.declared.moving.Move.{Move}
 use Rattle.split_merge.specs.declared.moving.MoveAt.{MoveAt}
 use Rattle.split_merge.specs.declared.moving.MoveAt.TheVariants as at
 use Rattle.split_merge.specs.Plans.{plan_word, next_in, entry_in, moved_in}
 use Rattle.split_merge.specs.Moves.{slot_count, print_count, filled_end, fills, after_slot, after_print, after_anchor, after_fence, after_switch, after_trim, move_at_asks, move_at_turned, moves_on, opened, readied, IsMoveAt, IsMove}
-use Rattle.call_stages.specs.Footings.{Footing, IsRetired, Waits, FootStep, on_nodes, on_line, on_prev}
+use Rattle.call_stages.specs.Footings.{Footing, IsRetired, Waits}
+use Rattle.permutation.specs.Sparing.{SparingStep, on_nodes, on_line, on_prev}
 use Rattle.split_merge.specs.MoveStages.{Known, words_onto, slots_seen, prints_seen, anchor_seen, fresh_seen, fresh_of, left_of, full_left, slot_dirty, filling, move_at_stage, move_at_line, move_at_debt, knows_prev, owes_prev, cut_key, linked}
 use Rattle.split_merge.specs.Laws.{Cuts, Moves, MovesAreSteps}
 
@@ -151,18 +151,18 @@ module _ (move : Move) (sound : IsMove move) (g : ℕ) (known : Known) (cuts : C
   abbrev footing : MoveAt → Footing
   footing at = record { stage = move_at_stage plan known at; line = move_at_line plan at; debt = move_at_debt plan at }
 
-  on : (before : Footing) (action : Action) (x : ℕ) (at : MoveAt) → FootStep l g c before action x (footing at) None → IsMoveAt plan at → Leads_to before action x (moves_on move at)
+  on : (before : Footing) (action : Action) (x : ℕ) (at : MoveAt) → SparingStep l g c before action x (footing at) None → IsMoveAt plan at → Leads_to before action x (moves_on move at)
   on before action x at step here = (step, record { plan = sound.plan; here = here }, refl)
 
   -- a step on its line
   line_step : {stage : Stage} {e : HeldLine} {after : Option HeldLine} {debt : Debt} {a : Action} {x : ℕ} → Waits stage (Some e) after → counted stage ≡ None → Notes l (Some e) a x after
       → (e.caller ≡ c) × (e.number ≡ index_of plan.line) → IfSome after (λ d. d.caller ≡ c)
-      → FootStep l g c (record { stage = stage; line = Some e; debt = debt }) a x (record { stage = stage; line = after; debt = debt }) None
+      → SparingStep l g c (record { stage = stage; line = Some e; debt = debt }) a x (record { stage = stage; line = after; debt = debt }) None
   line_step {e = e} {after = after} {a = a} {x = x} waits none note own after_own =
       let low = caller_within plan.line l.callers sound.plan.line in
       let index = index_within plan.line in
       let here : (e.caller < l.callers) × (e.number < 8) = (let is = own.0 in omega arith, let is = own.1 in omega arith) in
-      on_line waits none (notes_beside l (Some e) after a x here note) note after_own
+      on_line waits none here note after_own
 
   sizes : (2 ≤ moved_in plan) × (moved_in plan ≤ 32) × (filled_end plan ≤ 16 + 4 * l.slots) × (print_count plan ≤ 8)
   sizes = let low : 4 ≤ l.slots = sound.plan.layout.slots.0 in let high : l.slots ≤ 64 = sound.plan.layout.slots.1 in
@@ -357,7 +357,7 @@ module _ (move : Move) (sound : IsMove move) (g : ℕ) (known : Known) (cuts : C
           (line_step (λ unready ready. absurd (no_ready refl ready)) refl (subst (λ (p : ℕ × Entry). Notes l (Some (open_held machine)) (open_asks machine) x (Some (open_line p.0 p.1))) (λ k. (line k, entry k)) (noted (Some (open_line machine.line machine.entry)) note)) (open_caller machine.line machine.entry machine.at ∙ ap caller_of line, open_number machine.line machine.entry machine.at ∙ ap index_of line) refl) tt
 
   at_prev : (x : ℕ) → Leads_to (footing at.Prev) (move_at_asks plan at.Prev) x (moves_on move at.Light)
-  at_prev x = on (footing at.Prev) (move_at_asks plan at.Prev) x at.Light (on_prev refl (stores_prev sound.plan.fresh (let low = sound.plan.node in let most : l.nodes ≤ 4096 = sound.plan.layout.nodes.1 in omega arith)) names) tt
+  at_prev x = on (footing at.Prev) (move_at_asks plan at.Prev) x at.Light (on_prev refl sound.plan.fresh (let low = sound.plan.node in let most : l.nodes ≤ 4096 = sound.plan.layout.nodes.1 in omega arith) names) tt
 
   at_light : (x : ℕ) → Leads_to (footing at.Light) (move_at_asks plan at.Light) x (moves_on move at.Switch)
   at_light x = on (footing at.Light) (move_at_asks plan at.Light) x at.Switch
@@ -377,7 +377,7 @@ module _ (move : Move) (sound : IsMove move) (g : ℕ) (known : Known) (cuts : C
 
   at_next_prev : (x : ℕ) → next_in plan ≢ 0 → Leads_to (footing at.NextPrev) (move_at_asks plan at.NextPrev) x (moves_on move at.Trim)
   at_next_prev x some = on (footing at.NextPrev) (move_at_asks plan at.NextPrev) x at.Trim
-      (on_prev refl (stores_prev sound.plan.next (let low = sound.plan.fresh in let most : l.nodes ≤ 4096 = sound.plan.layout.nodes.1 in omega arith)) (pays refl (refl, λ s told. told.0) some sound.plan.fresh)) tt
+      (on_prev refl sound.plan.next (let low = sound.plan.fresh in let most : l.nodes ≤ 4096 = sound.plan.layout.nodes.1 in omega arith) (pays refl (refl, λ s told. told.0) some sound.plan.fresh)) tt
 
   anchored : (t : Spot) → Tells (fresh_seen plan) t → anchor_in t ≡ cut_key plan
   unfolding anchor_in

@@ -36,8 +36,7 @@ use Rattle.smo_log.specs.declared.take.TakeAt.{TakeAt}
 use Rattle.smo_log.specs.declared.take.TakeAt.TheVariants as take_at
 use Rattle.smo_log.specs.LogLines.{caller_of, index_of, empty_line}
 use Rattle.smo_log.specs.Takes.{IsTake, take_line, take_asks, take_turned, take_at_held, take_held, TakeNotes}
-use Rattle.smo_log.proofs.LineLaw.{takes_are_notes, index_within, notes_beside}
-use Rattle.call_stages.specs.AnySteps.{IsBeside}
+use Rattle.smo_log.proofs.LineLaw.{takes_are_notes, index_within}
 use Rattle.split_merge.specs.declared.planning.Plan.{Plan}
 use Rattle.split_merge.specs.declared.moving.Move.{Move}
 use Rattle.split_merge.specs.declared.splitting.Share.{Share}
@@ -48,7 +47,8 @@ use Rattle.split_merge.specs.declared.splitting.SplitDone.{SplitDone}
 use Rattle.split_merge.specs.declared.splitting.SplitDone.TheVariants as answer
 use Rattle.split_merge.specs.Plans.{spot_of}
 use Rattle.split_merge.specs.Moves.{IsMove, move_asks, move_turned}
-use Rattle.call_stages.specs.Footings.{Footing, Minds, Waits, FootStep, on_nodes, on_line}
+use Rattle.call_stages.specs.Footings.{Footing, Minds, Waits}
+use Rattle.permutation.specs.Sparing.{IsLineOf, SparingStep, on_nodes, on_line}
 use Rattle.split_merge.specs.MoveStages.{move_footing}
 use Rattle.split_merge.specs.Splits.{word_count, plan_of, move_from, splits_on, taken, claimed, has_read, moved, split_at_turned, split_turned, split_at_asks, split_asks, AreWords, IsPlanOf, IsSplitAt, IsSplit, LeadsIn}
 use Rattle.split_merge.specs.SplitStages.{bitmap_in, led, read_seen, read_grip, known_by, split_at_footing, split_footing, done_footing}
@@ -171,7 +171,7 @@ module _ (split : Split) (sound : IsSplit split) (h : Held) (may : MayBegin spli
   footing = split_at_footing h split
 
   abbrev Steps : Footing → Action → ℕ → Footing → Option (Once Placed) → Type 0
-  Steps = FootStep l g c
+  Steps = SparingStep l g c
 
   abbrev Leads : Footing → Action → ℕ → Turn Split SplitDone → Type 0
   Leads before action x (Go next) = Steps before action x (split_footing h next) None
@@ -205,21 +205,20 @@ module _ (split : Split) (sound : IsSplit split) (h : Held) (may : MayBegin spli
       uncounted : counted (Holds n w (led next h)) ≡ None
       uncounted = subst (λ b. elim b [ true ↦ h.pending | false ↦ None ] ≡ None) (sym may.claim.still.ready) refl
 
-      beside : (after : Option HeldLine) → Notes l (take_held take) (take_asks take) x after → IsBeside l (take_asks take)
-      beside after note = notes_beside l (take_held take) after (take_asks take) x
-          (subst (λ (k : Layout). IfSome (take_held take) (λ e. (e.caller < k.callers) × (e.number < 8))) layout (take_here take is)) note
+      own : IsLineOf l (take_held take)
+      own = subst (λ (k : Layout). IsLineOf k (take_held take)) layout (take_here take is)
 
       waits : (after : Option HeldLine) → IfSome after (λ e. e.ready ≡ false) → Waits (Holds n w (led next h)) (take_held take) after
       waits after unready = take_waits (Holds n w (led next h)) (take_line take) take.at after unready
 
       of : (turn : Turn Take Taken) → TakeNotes take.layout take.caller (take_held take) (take_asks take) x turn
           → Leads (footing (at.Take next take)) (take_asks take) x (taken split next turn)
-      of (Go take') note = on_line (waits (take_held take') (take_unready (take_line take') take'.at)) uncounted (beside (take_held take') (noted (take_held take') note.0)) (noted (take_held take') note.0)
+      of (Go take') note = on_line (waits (take_held take') (take_unready (take_line take') take'.at)) uncounted own (noted (take_held take') note.0)
           (subst (λ k. IfSome (take_held take') (λ e. e.caller ≡ k)) (note.3 ∙ caller) (take_caller take' note.1))
       of (Done (got.Line line)) note =
           subst (λ stage. Steps (footing (at.Take next take)) (take_asks take) x (record { stage = stage; line = Some (empty_line line); debt = no_debt }) None) (sym (claim_starts l g n w (led next h)))
-          (on_line (waits (Some (empty_line line)) refl) uncounted (beside (Some (empty_line line)) (noted (Some (empty_line line)) note.0)) (noted (Some (empty_line line)) note.0) (note.1 ∙ caller))
-      of (Done got.Full) note = on_line (waits None tt) uncounted (beside None (noted None note)) (noted None note) tt
+          (on_line (waits (Some (empty_line line)) refl) uncounted own (noted (Some (empty_line line)) note.0) (note.1 ∙ caller))
+      of (Done got.Full) note = on_line (waits None tt) uncounted own (noted None note) tt
 
   at_claim : (next line : ℕ) (claim : Claim) (x : ℕ) → IsClaim claim → claim.layout ≡ l → claim.generation ≡ g → Told claim.layout claim.generation (claim_asks claim) x
       → Leads (footing (at.Claim next line claim)) (claim_asks claim) x (claimed split next line (claim_turned claim x))
@@ -331,9 +330,9 @@ module _ (split : Split) (sound : IsSplit split) (h : Held) (may : MayBegin spli
           → Leads (footing (at.Move moving)) (move_asks moving) x (moved split moving.plan.fresh turn)
       of (Go moving') step =
           subst (λ (p : Plan). Steps (footing (at.Move moving)) (move_asks moving) x (move_footing (known_by h p) moving') None) (sym step.2)
-          (subst (λ (p : Layout × ℕ). FootStep p.0 g p.1 (footing (at.Move moving)) (move_asks moving) x (move_footing (known_by h moving.plan) moving') None) (λ i. (made.layout i, made.caller i)) step.0)
+          (subst (λ (p : Layout × ℕ). SparingStep p.0 g p.1 (footing (at.Move moving)) (move_asks moving) x (move_footing (known_by h moving.plan) moving') None) (λ i. (made.layout i, made.caller i)) step.0)
       of (Done answer) step =
-          subst (λ (p : Layout × (ℕ × ℕ)). FootStep p.0 g p.1.0 (footing (at.Move moving)) (move_asks moving) x done_footing (Some (once.Again (again.NeedsSplit p.1.1))))
+          subst (λ (p : Layout × (ℕ × ℕ)). SparingStep p.0 g p.1.0 (footing (at.Move moving)) (move_asks moving) x done_footing (Some (once.Again (again.NeedsSplit p.1.1))))
           (λ i. (made.layout i, (made.caller i, made.node_is i))) step
 
   at_refuse : (next : ℕ) (why : Again) (x : ℕ) → IsRefusal why ⊎ (why ≡ again.NoFree)

@@ -15,7 +15,8 @@ use Rattle.smo_log.specs.LogLines.{caller_of}
 use Rattle.split_merge.specs.declared.planning.Plan.{Plan}
 use Rattle.split_merge.specs.declared.moving.Move.{Move}
 use Rattle.split_merge.specs.Moves.{IsMove, move_asks, move_turned}
-use Rattle.call_stages.specs.Footings.{Footing, FootStep}
+use Rattle.call_stages.specs.Footings.{Footing}
+use Rattle.permutation.specs.Sparing.{SparingStep}
 use Rattle.split_merge.specs.MoveStages.{Known, fresh_seen, move_footing, cut_key}
 
 -- By what the party knows of the full node the plan cuts it: the fresh node's words are its upper half, and with the
@@ -34,10 +35,10 @@ pub record Cuts (plan : Plan) (known : Known) : Type 0 where
 -- again.
 abbrev pub Moves : ℕ → Plan → Known → Footing → Action → ℕ → Turn Move (Unit {0}) → Type 0
 Moves g plan known footing action x (Go move) =
-    FootStep plan.layout g (caller_of plan.line) footing action x (move_footing known move) None × IsMove move ×
+    SparingStep plan.layout g (caller_of plan.line) footing action x (move_footing known move) None × IsMove move ×
     (move.plan ≡ plan)
 Moves g plan known footing action x (Done answer) =
-    FootStep plan.layout g (caller_of plan.line) footing action x (record {
+    SparingStep plan.layout g (caller_of plan.line) footing action x (record {
       stage = Idle;
       line = None;
       debt =

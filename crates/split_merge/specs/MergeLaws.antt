@@ -8,7 +8,8 @@ use Rattle.call_stages.specs.declared.once.Once.TheVariants as once
 use Rattle.call_stages.specs.declared.once.Placed.{Placed}
 use Rattle.call_stages.specs.Stages.{Held}
 use Rattle.call_stages.specs.Kinds.{IsStill, MayMerge, Told, LeadsWithin}
-use Rattle.call_stages.specs.Footings.{Footing, FootStep}
+use Rattle.call_stages.specs.Footings.{Footing}
+use Rattle.permutation.specs.Sparing.{SparingStep}
 use Rattle.smo_log.specs.LogLines.{caller_of}
 use Rattle.split_merge.specs.declared.uniting.Union.{Union}
 use Rattle.split_merge.specs.declared.joining.Join.{Join}
@@ -32,10 +33,10 @@ pub record Answered (h : Held) (answer : Once Placed) : Type 0 where
 -- The step of a turn, and what a merge does is kept. At the end both nodes are given back, and the call is answered.
 abbrev pub JoinsSo : ℕ → Union → Held → Once Placed → Footing → Action → ℕ → Turn Join (Unit {0}) → Type 0
 JoinsSo g union h answer footing action x (Go join) =
-    FootStep union.layout g (caller_of union.line) footing action x (join_footing h join) None × IsJoin join ×
+    SparingStep union.layout g (caller_of union.line) footing action x (join_footing h join) None × IsJoin join ×
     (join.union ≡ union)
 JoinsSo g union h answer footing action x (Done nothing) =
-    FootStep union.layout g (caller_of union.line) footing action x done_footing (Some answer)
+    SparingStep union.layout g (caller_of union.line) footing action x done_footing (Some answer)
 
 -- Each turn of a merge of two nodes that are held, whatever word it is told, is a step on nodes, on the party's line,
 -- or the store of a prev.
@@ -63,10 +64,10 @@ pub record IsSameMerge (merge next : Merge) : Type 0 where
 -- call is answered, whether it merged or not.
 abbrev pub MergesSo : Merge → Held → Once Placed → ℕ → Turn Merge Merged → Type 0
 MergesSo merge h answer x (Go next) =
-    FootStep merge.view.layout merge.view.generation merge.view.caller (merge_footing h merge) (merge_asks merge) x
+    SparingStep merge.view.layout merge.view.generation merge.view.caller (merge_footing h merge) (merge_asks merge) x
     (merge_footing h next) None × IsMerge next × IsSameMerge merge next
 MergesSo merge h answer x (Done merged) =
-    FootStep merge.view.layout merge.view.generation merge.view.caller (merge_footing h merge) (merge_asks merge) x
+    SparingStep merge.view.layout merge.view.generation merge.view.caller (merge_footing h merge) (merge_asks merge) x
     done_footing (Some answer)
 
 -- Each turn of a merge, whatever it is told, is a step on nodes, on the party's line, or the store of a prev.

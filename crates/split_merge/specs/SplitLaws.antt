@@ -13,7 +13,7 @@ use Rattle.split_merge.specs.declared.splitting.Share.{Share}
 use Rattle.split_merge.specs.declared.splitting.Split.{Split}
 use Rattle.split_merge.specs.declared.splitting.SplitDone.{SplitDone}
 use Rattle.split_merge.specs.declared.splitting.SplitDone.TheVariants as answer
-use Rattle.call_stages.specs.Footings.{FootStep}
+use Rattle.permutation.specs.Sparing.{SparingStep}
 use Rattle.split_merge.specs.Plans.{IsPlan}
 use Rattle.split_merge.specs.Splits.{AreWords, IsShare, IsSplit, plan_of, split_asks, split_turned, split_takes}
 use Rattle.split_merge.specs.SplitStages.{bitmap_in, known_by, split_footing, done_footing}
@@ -47,13 +47,13 @@ pub record IsSameSplit (split next : Split) : Type 0 where
 -- call is to be made again; a split that is refused gives its node back, and is answered why.
 abbrev pub SplitsSo : Split → Held → ℕ → Turn Split SplitDone → Type 0
 SplitsSo split h x (Go next) =
-    FootStep split.view.layout split.view.generation split.view.caller (split_footing h split) (split_asks split) x
+    SparingStep split.view.layout split.view.generation split.view.caller (split_footing h split) (split_asks split) x
     (split_footing h next) None × IsSplit next × IsSameSplit split next
 SplitsSo split h x (Done (answer.Done fresh)) =
-    FootStep split.view.layout split.view.generation split.view.caller (split_footing h split) (split_asks split) x
+    SparingStep split.view.layout split.view.generation split.view.caller (split_footing h split) (split_asks split) x
     done_footing (Some (once.Again (again.NeedsSplit split.node)))
 SplitsSo split h x (Done (answer.Again why)) =
-    FootStep split.view.layout split.view.generation split.view.caller (split_footing h split) (split_asks split) x
+    SparingStep split.view.layout split.view.generation split.view.caller (split_footing h split) (split_asks split) x
     done_footing (Some (once.Again why))
 
 -- Each turn of a split, whatever it is told, is a step on nodes, on a line of its caller, or the store of a prev.

@@ -248,7 +248,8 @@ fn scan<M: BoundedMap>(
     ensures same { IsSame (M.state map.old) (M.state map.new) }
     ensures slots { M.slots map.new ≡ M.slots map.old }
     ensures most { M.most map.new ≡ M.most map.old }
-    ensures calls_left { M.calls_left map.old ≤ M.calls_left map.new + (length (past (M.state map.old).anchors from.now) + 1) }
+    ensures calls_left { M.calls_left map.old ≤
+        M.calls_left map.new + (length (past (M.state map.old).anchors from.now) + 1) }
     ensures writes_left { M.writes_left map.old ≤ M.writes_left map.new }
     ensures weighs { M.weighs map.new ≤ M.weighs map.old }
 {

@@ -178,7 +178,8 @@ fn store_bitmap<L: Ledger>(memory: &mut Memory, node: u64, bitmap: u64, steps: &
     requires { node < memory.old.layout.nodes }
     ensures stored { at memory.new.layout memory.new.words (Cached (Node node 1)) ≡ bitmap }
     ensures others { (n o : ℕ) → HasWord memory.old.layout (Node n o) → n ≢ node
-        → at memory.new.layout memory.new.words (Cached (Node n o)) ≡ at memory.old.layout memory.old.words (Cached (Node n o)) }
+        → at memory.new.layout memory.new.words (Cached (Node n o)) ≡
+        at memory.old.layout memory.old.words (Cached (Node n o)) }
 {
     let layout = memory.layout();
     let address = layout.cached(layout.node_word(node, node::BITMAP));

@@ -5,7 +5,7 @@ use Rattle.std.proofs.Math.Seq.{drop-append_seam}
 use Rattle.pm_words.specs.declared.layout.Layout.{Layout}
 use Rattle.pm_words.specs.Locations.{Cached, Durable, leaf_count, image_words, volatile_words, durable_address, address_of}
 use Rattle.pm_words.specs.Rows.{durable_row, row_of}
-use Rattle.tree_law.specs.Trees.{Reference, Nothing, Leaf, Cell, Tree, Reaches, IsReached}
+use Rattle.tree_law.specs.Trees.{Reference, Nothing, Leaf, Cell, Tree, Reaches, IsReached, IsTree}
 use Rattle.tree_law.specs.Words.{IsLawful, word_in, kind_of, number_of, reference_of, tree_of}
 use Rattle.tree_law.specs.Marking.{MayHaveMark, kind_in, number_in}
 use Rattle.tree_law.specs.Stages.{MarksTell}
@@ -14,8 +14,8 @@ use Rattle.tree_row.specs.RowMarks.{row_marks}
 use Rattle.tree_row.proofs.RowLaw.{image_reads}
 use Rattle.tree_row.proofs.MarkLaw.{image_has_no_marks}
 use Rattle.tree_floor.proofs.FloorExact.{IsReference, is_none, is_leaf, is_cell, reference}
-use Rattle.tree_marks.specs.Marked.{row_tree, part_with}
-use Rattle.tree_marks.specs.Laws.{IsMarked, MarkedIsAtRest, IsToldOf, MarksTellExactly, MarkingKeepsOthers, CrashLeavesImage}
+use Rattle.tree_marks.specs.Marked.{row_tree, row_room, part_with}
+use Rattle.tree_marks.specs.Laws.{IsMarked, MarkedByWalk, MarkedIsAtRest, IsToldOf, MarksTellExactly, MarkingKeepsOthers, CrashLeavesImage}
 use Rattle.tree_marks.proofs.MarkLemmas.{part_is, layer_stays, durable_stays, beside, crash_same}
 
 one_zero : (n : ℕ) → n ≡ 1 → n ≡ 0 → ⊥
@@ -82,6 +82,14 @@ module _ (l : Layout) (image after : List ℕ) (m : IsMarked l image after) wher
     used_leaf = λ i way none. one_zero _ (reached_one (Leaf i) way) none;
     used_cell = λ x way none. one_zero _ (reached_one (Cell x) way) none;
   }
+
+pub marked_by_walk : MarkedByWalk
+marked_by_walk l image after is lawful marks all = record {
+  is = is;
+  lawful = lawful;
+  marks = marks;
+  all = all (subst (IsTree (row_room l)) (sym (ap tree_of (image_reads l image is).0)) lawful.tree);
+}
 
 pub marked_is_at_rest : MarkedIsAtRest
 marked_is_at_rest l image after m =

@@ -1,3 +1,4 @@
+mod KeyLemmas
 mod RowLemmas
 mod StageLemmas
 mod AfterLaw

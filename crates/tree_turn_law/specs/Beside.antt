@@ -3,8 +3,8 @@ use Rattle.std.specs.Prelude.{◌≡◌, ℕ, ◌<◌, false, List, length}
 use Rattle.pm_words.specs.declared.layout.Layout.{Layout}
 use Rattle.pm_words.specs.declared.action.Action.{Action}
 use Rattle.pm_words.specs.declared.action.Action.TheVariants.{Load, Store, Exchange, Add, Drain}
-use Rattle.pm_words.specs.Locations.{Word, Location, Cached, HasWord, HasLocation, row_words, image_words, address_of, at}
-use Rattle.pm_words.specs.Locations.{word_number}
+use Rattle.pm_words.specs.Locations.{Word, Location, Cached, HasWord, HasLocation, row_words, image_words}
+use Rattle.pm_words.specs.Locations.{word_number, address_of, at}
 use Rattle.pm_words.specs.Rows.{acted, evicted}
 use Rattle.layer_map.specs.Layers.{Layer}
 use Rattle.tree_update.specs.Stages.{Aim}

@@ -45,8 +45,8 @@ pub record ChangeStep (l : Layout) (aim : Aim) (s : Changing) (a : Action) (x : 
   pub asks : a ≡ change_asks (change_with l aim part)
   pub next : t ≡ stage_after (change_turned (change_with l aim part) x)
 
--- What holds of the words of the layer, as cached (w) and as durable (s), and of the marks, at each stage. `before` is the
--- layer as the change began.
+-- What holds of the words of the layer, as cached (w) and as durable (s), and of the marks, at each stage. `before` is
+-- the layer as the change began.
 abbrev pub SureChanging : ℕ → ℕ → Aim → Layer → Changing → LayerWords → LayerWords → Marks → Type 0
 SureChanging count most aim before (Making part) w s m = SureAt count most before aim part w s m
 SureChanging count most aim before Changed w s m = Rests count most (made_of aim before) w s m

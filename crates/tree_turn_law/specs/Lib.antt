@@ -1,3 +1,4 @@
+pub mod KeyNumbers
 pub mod Places
 pub mod Rows
 pub mod Kept

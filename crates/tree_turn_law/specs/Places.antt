@@ -1,5 +1,5 @@
--- Which words of a row are the layer's: those of the tree, with the root's line as a whole, which is drained as one, and
--- its marks. Crates above the layer ask no more of a word than this.
+-- Which words of a row are the layer's: those of the tree, with the root's line as a whole, which is drained as one,
+-- and its marks. Crates above the layer ask no more of a word than this.
 use Rattle.std.specs.Prelude.{◌≡◌, Bool, true, false}
 use Rattle.pm_words.specs.declared.layout.Layout.{Layout}
 use Rattle.pm_words.specs.Locations.{Word, Header, Root, Node, Line, Leaf, Cell, HasWord}

@@ -52,8 +52,8 @@ abbrev pub HoldsRoot : Layout → Changing → List ℕ → Type 0
 HoldsRoot l (Making part) words = HoldsPart (IsRootWord l words) part
 HoldsRoot l Changed words = Unit {0}
 
--- Behind the first, each cached word of the line stays, and each durable one stays or becomes the cached one. So where all
--- of them are 0 they stay 0.
+-- Behind the first, each cached word of the line stays, and each durable one stays or becomes the cached one. So where
+-- all of them are 0 they stay 0.
 pub record RootLineStays (l : Layout) (words after : List ℕ) : Type 0 where
   pub cached : (o : ℕ) → 1 ≤ o → o < 8 → at l after (Cached (Root o)) ≡ at l words (Cached (Root o))
   pub durable : (o : ℕ) → 1 ≤ o → o < 8 → (at l after (Durable (Root o)) ≡ at l words (Durable (Root o))) ⊎

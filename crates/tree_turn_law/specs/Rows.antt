@@ -1,8 +1,8 @@
 -- The words of the layer in a row, and its marks: what crates above say of them.
 use Rattle.std.specs.Prelude.{◌≡◌, ℕ, ◌<◌, false, List, length, slice_set}
 use Rattle.pm_words.specs.declared.layout.Layout.{Layout}
-use Rattle.pm_words.specs.Locations.{Word, Location, Cached, Durable, HasLocation, row_words, image_words, address_of, at}
-use Rattle.pm_words.specs.Locations.{word_at}
+use Rattle.pm_words.specs.Locations.{Word, Location, Cached, Durable, HasLocation, row_words, image_words}
+use Rattle.pm_words.specs.Locations.{address_of, at, word_at}
 use Rattle.pm_words.specs.Rows.{evicted}
 use Rattle.tree_law.specs.Words.{LayerWords, AreEven, IsMix}
 use Rattle.tree_row.specs.Rows.{layer_words, image_layer}

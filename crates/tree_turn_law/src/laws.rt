@@ -1,5 +1,6 @@
 //! The laws, for the proofs of crates above. The functions do nothing: each names what is proved.
 
+ghost use Rattle.tree_turn_law.specs.KeyNumbers.{KeyNumbersAreOne, KeysAreOne};
 ghost use Rattle.tree_turn_law.specs.Rows.{LayerWordsStay, RowsAlike, ImagesAlike, EvenAreSame, MixesAreEven};
 ghost use Rattle.tree_turn_law.specs.Rows.{EvictionMixes};
 ghost use Rattle.tree_turn_law.specs.Kept.{KeptLeadsBelow};
@@ -14,9 +15,15 @@ ghost use Rattle.tree_turn_law.specs.Beside.{BesideLeavesLayer, DrainIsEviction,
 ghost use Rattle.tree_turn_law.specs.Beside.{EvictionsKeep, RestStays, RestOutlasts, RestEvicts};
 ghost use Rattle.tree_turn_law.specs.RootLine.{RootBegins, RootStepKeeps, RootOthersKeep, RootEvictionsKeep};
 
+/// A key has one number, whichever way it is read from its words.
+pub fn key_law()
+    ensures numbers { KeyNumbersAreOne }
+    ensures keys { KeysAreOne }
+{}
+
 /// A store of a word that isn't of the layer leaves the layer's words and the marks, and rows and images that have the
-/// former alike have one layer. Whichever word becomes durable by itself makes a mix of the cached and the durable ones;
-/// where all were durable, they stay so.
+/// former alike have one layer. Whichever word becomes durable by itself makes a mix of the cached and the durable
+/// ones; where all were durable, they stay so.
 pub fn row_law()
     ensures stays { LayerWordsStay }
     ensures alike { RowsAlike }
@@ -50,9 +57,9 @@ pub fn turn_law()
     ensures on_layer { ChangesStayOnLayer }
 {}
 
-/// A step of a change may be done, keeps the row in order and what its stage knows; the switch store changes the layer at
-/// the key, and no other step changes it. Between steps the cached row, the durable row and each mix of the two are in order, with the layer before up
-/// to the switch store, and the changed one once that is durable.
+/// A step of a change may be done, keeps the row in order and what its stage knows; the switch store changes the layer
+/// at the key, and no other step changes it. Between steps the cached row, the durable row and each mix of the two are
+/// in order, with the layer before up to the switch store, and the changed one once that is durable.
 pub fn change_law()
     ensures acts { ChangeCanAct }
     ensures keeps { ChangeStepKeeps }
@@ -92,8 +99,8 @@ pub fn beside_law()
     ensures rest_evicts { RestEvicts }
 {}
 
-/// The words of the root's line behind the first are drained with it, as they are cached: a change leaves the cached ones
-/// and, but for that, the durable ones. So where they are 0 they stay so.
+/// The words of the root's line behind the first are drained with it, as they are cached: a change leaves the cached
+/// ones and, but for that, the durable ones. So where they are 0 they stay so.
 pub fn root_law()
     ensures begins { RootBegins }
     ensures keeps { RootStepKeeps }

@@ -5,7 +5,8 @@ use Rattle.layer_map.specs.Layers.{Layer, AreSame}
 use Rattle.updater_law.specs.Covers.{HasCover, HasOtherCover}
 use Rattle.updater_law.specs.Covered.{IsCovered, ListHas, AreApart, IsTarget}
 use Rattle.updater_law.specs.Facts.{TurnTerms, TurnFacts, IsListed, HasReadyMerge}
-use Rattle.updater_law.specs.TurnStages.{ReadyLine, TurnStage, Resting, Between, Sees, SeesKind, SeesNode, Lands, Changes}
+use Rattle.updater_law.specs.TurnStages.{ReadyLine, TurnStage, Resting, Between, Sees, SeesKind, SeesNode, Lands}
+use Rattle.updater_law.specs.TurnStages.{Changes}
 use Rattle.updater_law.specs.TurnStages.{Stamps, Clears, Sweeps, Gone, HasStamp, IsUnworn, Frees, Counts}
 use Rattle.updater_law.specs.TurnSteps.{AreSameBut}
 

@@ -6,7 +6,8 @@ use Rattle.layer_map.specs.Layers.{Layer, AreSame}
 use Rattle.updater_law.specs.Covers.{set_at}
 use Rattle.updater_law.specs.Covered.{IsTarget}
 use Rattle.updater_law.specs.Facts.{TurnTerms, TurnFacts, IsListed}
-use Rattle.updater_law.specs.TurnStages.{ReadyLine, TurnStage, Resting, Between, Sees, SeesKind, SeesNode, Lands, Changes}
+use Rattle.updater_law.specs.TurnStages.{ReadyLine, TurnStage, Resting, Between, Sees, SeesKind, SeesNode, Lands}
+use Rattle.updater_law.specs.TurnStages.{Changes}
 use Rattle.updater_law.specs.TurnStages.{Stamps, Clears, Sweeps, Gone, HasStamp, IsUnworn, Frees, Counts}
 
 -- the layers lead each key but this one alike

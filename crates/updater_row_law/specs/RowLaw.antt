@@ -14,7 +14,8 @@ use Rattle.updater_law.specs.Covered.{IsTarget}
 use Rattle.updater_law.specs.Facts.{IsListed}
 use Rattle.updater_law.specs.Lawful.{TurnLawful}
 use Rattle.updater_row_law.specs.Columns.{RowTerms, Ghosts, line_field, node_field, terms_of, facts_in}
-use Rattle.updater_row_law.specs.RowStages.{RowLine, RowTarget, aim_of, RowStage, Reads, Lands, HasTarget, Changes, turn_stage}
+use Rattle.updater_row_law.specs.RowStages.{RowLine, RowTarget, aim_of, RowStage, Reads, Lands, HasTarget, Changes}
+use Rattle.updater_row_law.specs.RowStages.{turn_stage}
 use Rattle.updater_row_law.specs.RowSteps.{RowStep}
 
 -- all words of the layer are durable

@@ -12,7 +12,8 @@ use Rattle.search_layer.specs.ChangeStages.{Changing, Changed, ChangeStep}
 use Rattle.search_layer.specs.Laws.{start_stage}
 use Rattle.updater_row_law.specs.Columns.{RowTerms, line_count, line_word}
 use Rattle.updater_row_law.specs.RowStages.{RowLine, RowTarget, line_read, word_at, aim_of, RowStage, Resting}
-use Rattle.updater_row_law.specs.RowStages.{Between, Reads, Lands, HasTarget, Changes, Stamps, Clears, Sweeps, Gone, HasStamp}
+use Rattle.updater_row_law.specs.RowStages.{Between, Reads, Lands, HasTarget, Changes, Stamps, Clears, Sweeps, Gone}
+use Rattle.updater_row_law.specs.RowStages.{HasStamp}
 use Rattle.updater_row_law.specs.RowStages.{IsUnworn, Frees, Counts, after_line, after_node, after_change}
 
 -- The addresses of the updater lock; of a line's word by line and offset; of a node's volatile word, and of its version

@@ -32,7 +32,8 @@ fn store<L: Ledger>(memory: &mut Memory, word: NodeWord, value: u64, steps: &mut
     ensures layout { memory.new.layout ≡ memory.old.layout }
     ensures stored { at memory.new.layout memory.new.words (Cached (Node word.node word.offset)) ≡ value }
     ensures others { (n o : ℕ) → HasWord memory.old.layout (Node n o) → Node n o ≢ Node word.node word.offset
-        → at memory.new.layout memory.new.words (Cached (Node n o)) ≡ at memory.old.layout memory.old.words (Cached (Node n o)) }
+        → at memory.new.layout memory.new.words (Cached (Node n o)) ≡
+        at memory.old.layout memory.old.words (Cached (Node n o)) }
 {
     let address = cached_twin(&memory.layout(), word);
     memory.act(Action::Store(address, value), steps);

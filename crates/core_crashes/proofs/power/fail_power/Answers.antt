@@ -1,3 +1,6 @@
+use Rattle.recovery.specs.Opened.{IsOpenedFrom}
+use Rattle.recovery.proofs.OpenedCores.{if_ok}
+use Rattle.core_crashes.specs.Power.{IsBehindCrash}
 use Rattle.core_crashes.proofs.Failing.{is_early, is_sound, opened_behind}
 use Rattle.core_crashes.proofs.power.fail_power.Goals as goal
 
@@ -10,7 +13,7 @@ recover_sound-requires-clause-next c =
     is_early c.args.core c.evict_by_seed.new.core c.args.seed c.evict_by_seed.ensures.evicted c.evict_by_seed.ensures.index c.crash-crashed.result.image c.crash-crashed.result.cuts c.crash-crashed.ensures c.requires.next
 
 pub returns : goal.returns
-returns c = elim c.recover_sound.result as (λ r. IfOk r (IsOpenedFrom c.crash-crashed.result.image) → IfOk r (IsBehindCrash c.args.seed c.args.core)) [
-  | Ok next ↦ opened_behind c.args.core c.evict_by_seed.new.core c.args.seed c.evict_by_seed.ensures.evicted c.evict_by_seed.ensures.index c.crash-crashed.result.image c.crash-crashed.result.cuts c.crash-crashed.ensures next
-  | Err fault ↦ λ none. none
-] c.recover_sound.ensures
+returns c =
+    if_ok (IsOpenedFrom c.crash-crashed.result.image) (IsBehindCrash c.args.seed c.args.core) c.recover_sound.result
+    (opened_behind c.args.core c.evict_by_seed.new.core c.args.seed c.evict_by_seed.ensures.evicted c.evict_by_seed.ensures.index c.crash-crashed.result.image c.crash-crashed.result.cuts c.crash-crashed.ensures)
+    c.recover_sound.ensures
