@@ -3,3 +3,4 @@ pub mod Comings
 pub mod StillWalk
 pub mod HopLaw
 pub mod KeyLemmas
+pub mod Loading

@@ -21,7 +21,8 @@ use crate::target::{Next, Target, Walked};
 use cat_key::WORDS;
 use pm_words::codes::status::{GONE, LIVE};
 use pm_words::offsets::{node, volatile};
-use pm_words::{Action, Again, Layout, Machine, Turn};
+use pm_words::{Action, Again, Layout, Machine, Memory, Steps, Turn};
+use std::sync::ledger::Ledger;
 use version_lock::is_free;
 
 /// A walk: it goes from node to node until it is at the one in whose range its key lies.
@@ -130,7 +131,10 @@ impl Walk {
     ghost use Rattle.data_list.specs.Keys.{key_words};
     ghost use Rattle.data_list.specs.declared.walk.WalkAt.TheVariants as WalkAt;
     ghost use Rattle.pm_words.specs.Turns.{AdvancesTo};
-    ghost use Rattle.data_list.specs.Walks.{IsWalk, walk_from, walk_takes, walk_turned, walk_left, target, loads_at};
+    ghost use Rattle.pm_words.specs.declared.machine.Turn.TheVariants.{Done};
+    ghost use Rattle.machine_runs.specs.Runs.{Bursts, MayGo};
+    ghost use Rattle.data_list.specs.Walks.{IsWalk, walk_from, walk_asks, walk_takes, walk_turned, walk_left, target};
+    ghost use Rattle.data_list.specs.Walks.{loads_at};
     ghost use Rattle.data_list.specs.Walks.{landing, hops_to, saw_version, saw_status, saw_anchor, saw_next, saw_high};
 
     /// A walk to the node of a key, in this generation, that begins at the node `hint`.
@@ -207,6 +211,19 @@ impl Walk {
                 second,
             } => self.saw_high(version, low, next, KeyWords::of([first, second, got])),
             WalkAt::Prev => self.hops_to(got),
+        }
+    }
+
+    /// Does what it asks for until it has its answer, with nothing between. `steps` counts the events.
+    pub fn run<L: Ledger>(&mut self, memory: &mut Memory, steps: &mut Steps<L>) -> Walked
+        requires { MayGo walk_asks walk_turned walk_takes memory.old.layout memory.old.words self.old }
+        ensures { Bursts walk_asks walk_turned memory.old memory.new self.old (Done result) steps.old steps.new }
+    {
+        'turns: loop {
+            let got = memory.act(self.action(), steps);
+            if let Some(walked) = self.advance(got) {
+                return walked;
+            }
         }
     }
 

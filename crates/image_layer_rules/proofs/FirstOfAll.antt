@@ -1,15 +1,15 @@
 -- The first of all rules that is broken: one of those on the image's header, list, nodes and log, or else one on its
--- layer.
+-- tree.
 use Rattle.std.proofs.Common.{◌≡◌, ℕ, ◌≤◌, List, Some, refl, arith}
 use Rattle.pm_words.specs.declared.layout.Layout.{Layout}
 use Rattle.pm_words.specs.Locations.{Word, Root, word_number}
 use Rattle.image_rules.specs.declared.broken.Broken.{Broken}
 use Rattle.image_rules.specs.Lowest.{IsLowest}
 use Rattle.image_rules.specs.Sound.{Breaks, in_header, in_versions, leads_out, leads_back, in_anchors, in_names, in_prints, in_apart, in_lines, IsSound, IsFirstBroken}
-use Rattle.image_layer_rules.specs.Rules.{BreaksLayer, has_root, leads_nowhere, has_no_key, share_a_key, has_many, uncovered}
+use Rattle.image_layer_rules.specs.Rules.{BreaksTree, is_wrong, is_reached_twice, reaches_its_root, has_many, is_uncovered}
 use Rattle.image_layer_rules.specs.Sound.{BreaksAny, in_image, in_layer, IsSoundByAll, IsFirstOfAll}
 
--- the rules on the layer come last
+-- the rules on the tree come last
 last_of_image : (l : Layout) (image : List ℕ) (rule position : ℕ) (w : Word) → Breaks l image rule position w → rule ≤ 9
 last_of_image l image rule position w (in_header b) = omega arith
 last_of_image l image rule position w (in_versions b) = omega arith
@@ -21,18 +21,17 @@ last_of_image l image rule position w (in_prints b) = omega arith
 last_of_image l image rule position w (in_apart b) = omega arith
 last_of_image l image rule position w (in_lines b) = omega arith
 
-first_of_layer : (l : Layout) (image : List ℕ) (rule : ℕ) → BreaksLayer l image rule → 10 ≤ rule
-first_of_layer l image rule (has_root b) = omega arith
-first_of_layer l image rule (leads_nowhere leaf b) = omega arith
-first_of_layer l image rule (has_no_key leaf b) = omega arith
-first_of_layer l image rule (share_a_key leaf other b) = omega arith
-first_of_layer l image rule (has_many b) = omega arith
-first_of_layer l image rule (uncovered key node b) = omega arith
+first_of_tree : (l : Layout) (image : List ℕ) (rule : ℕ) → BreaksTree l image rule → 10 ≤ rule
+first_of_tree l image rule (is_wrong q way wrong) = omega arith
+first_of_tree l image rule (is_reached_twice x y a b twice) = omega arith
+first_of_tree l image rule (reaches_its_root x b way some_child same) = omega arith
+first_of_tree l image rule (has_many many) = omega arith
+first_of_tree l image rule (is_uncovered key node differ) = omega arith
 
--- a rule that is none on the layer is one on the rest
+-- a rule that is none on the tree is one on the rest
 of_image : (l : Layout) (image : List ℕ) (rule position : ℕ) (w : Word) → rule ≤ 9 → BreaksAny l image rule position w → Breaks l image rule position w
 of_image l image rule position w small (in_image breaks) = breaks
-of_image l image rule position w small (in_layer breaks) = let least = first_of_layer l image rule breaks in absurd (omega arith)
+of_image l image rule position w small (in_layer breaks) = let least = first_of_tree l image rule breaks in absurd (omega arith)
 
 -- the first word that breaks one on the rest is the first of all
 pub image_first : (l : Layout) (image : List ℕ) (broken : Broken) → IsFirstBroken l image broken → IsFirstOfAll l image broken
@@ -61,13 +60,13 @@ root_number : (l : Layout) (image : List ℕ) → IsSound l image → (rule posi
 root_number l image sound rule position w (in_image breaks) = absurd (sound rule position w breaks)
 root_number l image sound rule position w (in_layer breaks) = refl
 
-of_layer : (l : Layout) (image : List ℕ) → IsSound l image → (rule position : ℕ) (w : Word) → BreaksAny l image rule position w → BreaksLayer l image rule
-of_layer l image sound rule position w (in_image breaks) = absurd (sound rule position w breaks)
-of_layer l image sound rule position w (in_layer breaks) = breaks
+of_tree : (l : Layout) (image : List ℕ) → IsSound l image → (rule position : ℕ) (w : Word) → BreaksAny l image rule position w → BreaksTree l image rule
+of_tree l image sound rule position w (in_image breaks) = absurd (sound rule position w breaks)
+of_tree l image sound rule position w (in_layer breaks) = breaks
 
-pub layer_first : (l : Layout) (image : List ℕ) (rule : ℕ) → IsSound l image → IsLowest (BreaksLayer l image) (Some rule) → IsFirstOfAll l image (record { rule = rule; word = 8 })
-layer_first l image rule sound lowest = record {
-  no_lower_rule = λ other position w lower breaks. lowest.1 other lower (of_layer l image sound other position w breaks);
+pub tree_first : (l : Layout) (image : List ℕ) (rule : ℕ) → IsSound l image → IsLowest (BreaksTree l image) (Some rule) → IsFirstOfAll l image (record { rule = rule; word = 8 })
+tree_first l image rule sound lowest = record {
+  no_lower_rule = λ other position w lower breaks. lowest.1 other lower (of_tree l image sound other position w breaks);
   first = (
     0,
     record {

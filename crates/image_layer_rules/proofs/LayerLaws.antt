@@ -1,48 +1,46 @@
 -- The laws of images that are sound by all rules.
-use Rattle.std.proofs.Common.{ℕ, List, refl, arith}
+use Rattle.std.proofs.Common.{ℕ, List}
 use Rattle.pm_words.specs.declared.layout.Layout.{Layout}
 use Rattle.pm_words.specs.Images.{IsImage}
-use Rattle.pm_words.specs.Locations.{Root, leaf_count}
+use Rattle.pm_words.specs.Locations.{Word, Root}
 use Rattle.image_rules.specs.Sound.{IsSound}
-use Rattle.search_layer.specs.Leaves.{key_in}
-use Rattle.search_layer.proofs.LayerLemmas.{has_made, layer_found}
-use Rattle.search_layer.specs.Rows.{image_layer_words}
-use Rattle.image_layer_rules.specs.Rules.{BreaksLayer, has_root, leads_nowhere, has_no_key, share_a_key, has_many, uncovered}
-use Rattle.image_layer_rules.specs.Sound.{in_image, in_layer}
-use Rattle.image_layer_rules.specs.Laws.{KeepsLayerRules, SoundKeepsLayer, LayerMakesSound, RuleOnCount, RuleOnCover}
-use Rattle.image_layer_rules.proofs.RuleLemmas.{root_if, row_if, keys_if, covered_if, few_if, many_of, covers, words_are}
+use Rattle.image_layer_rules.specs.Rules.{BreaksTree, is_wrong, is_reached_twice, reaches_its_root, has_many, is_uncovered}
+use Rattle.image_layer_rules.specs.Sound.{BreaksAny, IsSoundByAll, in_image, in_layer}
+use Rattle.image_layer_rules.specs.Laws.{KeepsLayerRules, SoundIsKept}
+use Rattle.image_layer_rules.proofs.RightLemmas.{rule_on_tree}
+use Rattle.image_layer_rules.proofs.CountLemmas.{rule_on_count}
+use Rattle.image_layer_rules.proofs.CoverLaw.{keys_if, rule_on_cover, cover_tells_keys}
 
-pub rule_on_count : RuleOnCount
-rule_on_count l image = (few_if l image, λ few breaks. many_of l image breaks few)
+-- which rules on the tree there are
+tree_kept : (l : Layout) (image : List ℕ) → ¬ BreaksTree l image 10 → ¬ BreaksTree l image 11 → ¬ BreaksTree l image 12 → (rule : ℕ) → ¬ BreaksTree l image rule
+tree_kept l image ten eleven twelve rule (is_wrong q way wrong) = ten (is_wrong q way wrong)
+tree_kept l image ten eleven twelve rule (is_reached_twice x y a b twice) = ten (is_reached_twice x y a b twice)
+tree_kept l image ten eleven twelve rule (reaches_its_root x b way some_child same) = ten (reaches_its_root x b way some_child same)
+tree_kept l image ten eleven twelve rule (has_many many) = eleven (has_many many)
+tree_kept l image ten eleven twelve rule (is_uncovered key node differ) = twelve (is_uncovered key node differ)
 
-pub rule_on_cover : RuleOnCover
-rule_on_cover l image sound kept = (covered_if l image kept sound, covers l image)
+keeps_any : (l : Layout) (image : List ℕ) → IsSound l image → ((rule : ℕ) → ¬ BreaksTree l image rule) → (rule position : ℕ) (w : Word) → ¬ BreaksAny l image rule position w
+keeps_any l image sound kept rule position w (in_image breaks) = sound rule position w breaks
+keeps_any l image sound kept rule position w (in_layer breaks) = kept rule breaks
 
-pub sound_keeps_layer : SoundKeepsLayer
-sound_keeps_layer l image all =
-    let kept : (rule : ℕ) → ¬ BreaksLayer l image rule = λ rule breaks. all rule 0 (Root 0) (in_layer breaks) in
-    let sound : IsSound l image = λ rule position w breaks. all rule position w (in_image breaks) in (
+pub sound_keeps_layer : (l : Layout) (image : List ℕ) → IsImage l image → IsSoundByAll l image → IsSound l image × KeepsLayerRules l image
+sound_keeps_layer l image is all =
+    let kept : (rule : ℕ) → ¬ BreaksTree l image rule = λ rule breaks. all rule 0 (Root 0) (in_layer breaks) in
+    let sound : IsSound l image = λ rule position w breaks. all rule position w (in_image breaks) in
+    let order = (rule_on_tree l image is).0 (kept 10) in (
       sound,
       record {
-        root = root_if l image (kept 10);
-        row = row_if l image (kept 10);
-        keys = keys_if l image (kept 10);
-        few = few_if l image (kept 11);
-        covered = covered_if l image (kept 10) sound (kept 12);
+        row = order.lawful;
+        keys = keys_if l image order;
+        few = (rule_on_count l image is (kept 10)).0 (kept 11);
+        covered = (rule_on_cover l image is sound (kept 10)).0 (kept 12);
       },
     )
 
-layer_kept : (l : Layout) (image : List ℕ) → IsImage l image → KeepsLayerRules l image → (rule : ℕ) → ¬ BreaksLayer l image rule
-layer_kept l image is keeps rule (has_root some) = some keeps.root
-layer_kept l image is keeps rule (leads_nowhere leaf nowhere) = let fits = keeps.row.nodes leaf nowhere.within in let past = nowhere.past in omega arith
-layer_kept l image is keeps rule (has_no_key leaf none) =
-    let w = image_layer_words l image in
-    let leads = layer_found (leaf_count l) l.nodes w (key_in w leaf) leaf keeps.row none.within (has_made w leaf (key_in w leaf) none.used refl) in
-    none.wrong (words_are l image leaf is.fits (keeps.keys (key_in w leaf) _ leads))
-layer_kept l image is keeps rule (share_a_key leaf other share) = share.apart (keeps.row.apart leaf other share.within share.other_within share.used share.other_used share.same)
-layer_kept l image is keeps rule (has_many many) = many keeps.few
-layer_kept l image is keeps rule (uncovered key node is_not) = covers l image keeps.covered (uncovered key node is_not)
+pub layer_makes_sound : (l : Layout) (image : List ℕ) → IsImage l image → IsSound l image → KeepsLayerRules l image → IsSoundByAll l image
+layer_makes_sound l image is sound keeps =
+    let ten = (rule_on_tree l image is).1 (cover_tells_keys l image is sound keeps.row keeps.covered) in
+    keeps_any l image sound (tree_kept l image ten ((rule_on_count l image is ten).1 keeps.few) ((rule_on_cover l image is sound ten).1 keeps.covered))
 
-pub layer_makes_sound : LayerMakesSound
-layer_makes_sound l image is sound keeps rule position w (in_image breaks) = sound rule position w breaks
-layer_makes_sound l image is sound keeps rule position w (in_layer breaks) = layer_kept l image is keeps rule breaks
+pub sound_is_kept : SoundIsKept
+sound_is_kept l image is = (sound_keeps_layer l image is, λ both. layer_makes_sound l image is both.0 both.1)

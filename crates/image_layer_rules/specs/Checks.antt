@@ -1,38 +1,31 @@
--- What a program looks for to find out whether the layer is covered: at each leaf, and at each listed node.
-use Rattle.std.specs.Prelude.{◌≡◌, ◌≢◌, ℕ, ◌-◌, ◌<◌, ◌≤◌, ◌↔◌, List}
+-- What a check of the tree looks at: a cell that was read, its form, and its children.
+use Rattle.std.specs.Prelude.{◌≡◌, ◌≢◌, ℕ, ◌<◌, List}
 use Rattle.pm_words.specs.declared.layout.Layout.{Layout}
-use Rattle.pm_words.specs.Locations.{leaf_count}
-use Rattle.image_rules.specs.Nodes.{IsListedNode}
-use Rattle.search_layer.specs.Leaves.{key_in, IsLedBy}
-use Rattle.updater_law.specs.Covers.{IsOpenFor}
-use Rattle.image_rules.specs.declared.node_set.NodeSet.{NodeSet}
-use Rattle.image_layer_rules.specs.Leaves.{image_anchor, image_lines}
-use Rattle.search_layer.specs.Rows.{image_layer_words}
-use Rattle.image_rules.specs.NodeSets.{HasNode}
+use Rattle.radix_nodes.specs.declared.cell.Cell as cells
+use Rattle.radix_nodes.specs.Cells.{IsForm, words_of}
+use Rattle.tree_law.specs.Trees.{Reference, Nothing, Cell, Reaches, IsUnder}
+use Rattle.tree_law.specs.Words.{kind_of}
+use Rattle.image_layer_rules.specs.Faults.{image_tree, image_cell, IsWrong}
 
--- The leaf is in use, and its node has its key as the anchor.
-pub record LeadsToAnchor (l : Layout) (image : List ℕ) (leaf : ℕ) : Type 0 where
-  pub used : image_layer_words l image leaf 3 ≢ 0
-  pub anchor : image_anchor l image (image_layer_words l image leaf 3 - 1) ≡ key_in (image_layer_words l image) leaf
+-- these are the kind and the words of the cell
+pub record IsRead (l : Layout) (image : List ℕ) (x : ℕ) (cell : cells.Cell) : Type 0 where
+  pub kind : cell.kind ≡ kind_of x
+  pub words : (o : ℕ) → words_of cell o ≡ image_cell l image x o
 
--- A leaf in use whose node isn't a listed one with its key as the anchor, and no line exempts the key.
-pub record IsStray (l : Layout) (image : List ℕ) (leaf : ℕ) : Type 0 where
-  pub within : leaf < leaf_count l
-  pub used : image_layer_words l image leaf 3 ≢ 0
-  pub closed : ¬ IsOpenFor (image_lines l image) (key_in (image_layer_words l image) leaf)
-  pub stray : ¬ (IsListedNode l image (image_layer_words l image leaf 3 - 1) × LeadsToAnchor l image leaf)
+abbrev pub HasForm : Layout → List ℕ → ℕ → Type 0
+HasForm l image x = IsForm (kind_of x) (image_cell l image x)
 
--- A listed node to which no leaf leads its anchor, and no line exempts the anchor.
-pub record IsMissed (l : Layout) (image : List ℕ) (n : ℕ) : Type 0 where
-  pub listed : IsListedNode l image n
-  pub closed : ¬ IsOpenFor (image_lines l image) (image_anchor l image n)
-  pub missed : ¬ IsLedBy (leaf_count l) (image_layer_words l image) (image_anchor l image n) n
+-- a branch byte has no child, or one that is under the cell; and some byte has one that isn't
+abbrev pub IsRightChild : Layout → List ℕ → ℕ → ℕ → Type 0
+IsRightChild l image x b = (image_tree l image).child x b ≢ Nothing →
+    IsUnder (image_tree l image) x b ((image_tree l image).child x b)
 
--- The nodes of the set are those to which a leaf leads their anchor.
-abbrev pub AreLed : Layout → List ℕ → NodeSet → Type 0
-AreLed l image set = (n : ℕ) → HasNode set n ↔
-    IsLedBy (leaf_count l) (image_layer_words l image) (image_anchor l image n) n
+abbrev pub HasWrongChild : Layout → List ℕ → ℕ → Type 0
+HasWrongChild l image x = (b : ℕ) × (b < 256) × ¬ IsRightChild l image x b
 
--- No leaf leads past the nodes.
-abbrev pub LeadWithinNodes : Layout → List ℕ → Type 0
-LeadWithinNodes l image = (leaf : ℕ) → leaf < leaf_count l → image_layer_words l image leaf 3 ≤ l.nodes
+abbrev pub IsWrongCell : Layout → List ℕ → ℕ → Type 0
+IsWrongCell l image x = IsWrong l image (Cell x)
+
+-- something that is reached from here is wrong
+abbrev pub IsWrongFrom : Layout → List ℕ → Reference → Type 0
+IsWrongFrom l image r = (q : Reference) × Reaches (image_tree l image) r q × IsWrong l image q

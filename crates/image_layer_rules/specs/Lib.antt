@@ -1,5 +1,12 @@
-pub mod Leaves
-pub mod Rules
+pub mod Anchors
+pub mod Heads
+pub mod Faults
+pub mod Forms
+pub mod Branches
 pub mod Checks
+pub mod Counts
+pub mod Rules
 pub mod Sound
 pub mod Laws
+pub mod Covers
+pub mod Visits

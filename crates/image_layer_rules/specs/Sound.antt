@@ -5,13 +5,13 @@ use Rattle.pm_words.specs.Locations.{Word, Root}
 use Rattle.image_rules.specs.declared.broken.Broken.{Broken}
 use Rattle.image_rules.specs.Lowest.{IsFirst}
 use Rattle.image_rules.specs.Sound.{Breaks}
-use Rattle.image_layer_rules.specs.Rules.{BreaksLayer}
+use Rattle.image_layer_rules.specs.Rules.{BreaksTree}
 
 -- The image breaks the rule of this number, one of all twelve, at a position of its list, at this word: a rule on its
--- header, list, nodes and log, or one on its layer.
+-- header, list, nodes and log, or one on the tree of its layer.
 pub data BreaksAny (l : Layout) (image : List ℕ) : ℕ → ℕ → Word → Type 0 where
   in_image : {rule position : ℕ} {w : Word} → Breaks l image rule position w → BreaksAny l image rule position w
-  in_layer : {rule : ℕ} → BreaksLayer l image rule → BreaksAny l image rule 0 (Root 0)
+  in_layer : {rule : ℕ} → BreaksTree l image rule → BreaksAny l image rule 0 (Root 0)
 
 -- It breaks none.
 abbrev pub IsSoundByAll : Layout → List ℕ → Type 0

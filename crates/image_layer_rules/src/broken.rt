@@ -1,53 +1,53 @@
-//! The first rule that an image breaks, of all of them.
+//! Which of the rules on the tree an image breaks, and the first rule that it breaks of all of them.
 
 ghost use Rattle.std.specs.Prelude.{◌↔◌, IsTrue, IsNone, IfSome};
 ghost use Rattle.image_rules.specs.Lowest.{IsLowest};
 ghost use Rattle.image_rules.specs.Sound.{IsSound};
-ghost use Rattle.image_layer_rules.specs.Rules.{BreaksLayer};
+ghost use Rattle.image_layer_rules.specs.Rules.{BreaksTree};
 ghost use Rattle.image_layer_rules.specs.Sound.{IsSoundByAll, IsFirstOfAll};
 
+use crate::count::room_behind;
 use crate::cover::is_uncovered;
-use crate::leaf::{used_count, wrong_leaf};
-use crate::order::share_a_key;
+use crate::walk::is_wrong_from;
+use crate::words::{ROOT_WORD, root_of};
 use image_rules::{Broken, first_broken};
-use pm_words::offsets::root;
-use pm_words::{Image, LINE_WORDS};
+use pm_words::Image;
 
-/// The numbers of the rules on the layer: on its leaves, on their count, and on where they lead.
-const LEAVES_RULE: u64 = 10;
+/// The number of the rule on the order of the tree.
+const TREE_RULE: u64 = 10;
 
+/// The number of the rule on the count of keys.
 const COUNT_RULE: u64 = 11;
 
+/// The number of the rule on where the tree leads.
 const COVER_RULE: u64 = 12;
 
-/// The number of the root's word, at which each of them breaks.
-const ROOT_WORD: u64 = LINE_WORDS + root::REFERENCE;
-
-/// Whether the image breaks rule 10.
-fn has_wrong_leaves(image: &Image) -> bool
-    ensures { IsTrue result ↔ BreaksLayer image.now.layout image.now.words LEAVES_RULE }
+/// Whether the image breaks rule 10: the tree below its root isn't in order. It takes no memory.
+pub fn has_wrong_tree(image: &Image) -> bool
+    ensures { IsTrue result ↔ BreaksTree image.now.layout image.now.words TREE_RULE }
 {
-    if image.word(ROOT_WORD) != 0 {
+    is_wrong_from(image, root_of(image), 0)
+}
+
+/// Whether the image, which keeps rule 10, breaks rule 11: it has more keys than there are nodes.
+pub fn has_many_keys(image: &Image) -> bool
+    requires { ¬ BreaksTree image.now.layout image.now.words TREE_RULE }
+    ensures { IsTrue result ↔ BreaksTree image.now.layout image.now.words COUNT_RULE }
+{
+    let nodes = image.layout().nodes();
+    let Some(_room) = room_behind(image, root_of(image), 0, nodes) else {
         return true;
-    }
-    wrong_leaf(image).is_some() || share_a_key(image)
+    };
+    false
 }
 
-/// Whether the image breaks rule 11.
-fn has_many_keys(image: &Image) -> bool
-    requires { ¬ BreaksLayer image.now.layout image.now.words LEAVES_RULE }
-    ensures { IsTrue result ↔ BreaksLayer image.now.layout image.now.words COUNT_RULE }
-{
-    used_count(image) > image.layout().nodes()
-}
-
-/// The lowest rule on the layer that is broken, in an image that keeps all others.
+/// The lowest rule on the tree that is broken, in an image that keeps all others.
 fn broken_rule(image: &Image) -> Option<u64>
     requires { IsSound image.now.layout image.now.words }
-    ensures { IsLowest (BreaksLayer image.now.layout image.now.words) result }
+    ensures { IsLowest (BreaksTree image.now.layout image.now.words) result }
 {
-    if has_wrong_leaves(image) {
-        return Some(LEAVES_RULE);
+    if has_wrong_tree(image) {
+        return Some(TREE_RULE);
     }
     if has_many_keys(image) {
         return Some(COUNT_RULE);
@@ -59,8 +59,7 @@ fn broken_rule(image: &Image) -> Option<u64>
 }
 
 /// The first of all rules that the image breaks, at the first word that breaks it, in the order of the list; or `None`
-/// where it is sound by all of them. It takes no memory, and time in proportion to the words of the listed nodes and of
-/// the log, and to the leaves that are in use, which it sorts.
+/// where it is sound by all of them. It takes no memory.
 pub fn first_broken_of_all(image: &Image) -> Option<Broken>
     ensures none { IsNone result ↔ IsSoundByAll image.now.layout image.now.words }
     ensures some { IfSome result (IsFirstOfAll image.now.layout image.now.words) }

@@ -1,104 +1,84 @@
-//! Whether the layer leads keys as the list has them.
+//! Whether the tree leads keys as the list has them.
 
-ghost use Rattle.std.specs.Prelude.{◌<◌, ◌↔◌, IsTrue};
-ghost use Rattle.pm_words.specs.Locations.{leaf_count};
-ghost use Rattle.image_rules.specs.Lowest.{IsLowest};
-ghost use Rattle.image_rules.specs.NodeSets.{AreListed};
+ghost use Rattle.std.specs.Prelude.{◌≡◌, ℕ, ◌↔◌, IsTrue, Some};
 ghost use Rattle.image_rules.specs.Sound.{IsSound};
-ghost use Rattle.image_layer_rules.specs.Checks.{LeadsToAnchor, IsStray, IsMissed, AreLed, LeadWithinNodes};
-ghost use Rattle.image_layer_rules.specs.Rules.{BreaksLayer};
+ghost use Rattle.layer_map.specs.Keys.{key_number};
+ghost use Rattle.layer_map.specs.Keys.{IsKey};
+ghost use Rattle.data_node.specs.Lists.{anchor_words};
+ghost use Rattle.image_rules.specs.NodeSets.{AreListed};
+ghost use Rattle.image_rules.specs.Nodes.{image_spot};
+ghost use Rattle.image_layer_rules.specs.Covers.{IsMissed};
+ghost use Rattle.image_layer_rules.specs.Rules.{BreaksTree, image_map};
 
-use crate::key::is_same;
-use crate::leaf::{key_of, leaf_count, node_word_of};
 use crate::line::is_open_for;
+use crate::look::node_from;
+use crate::stray::is_stray_from;
+use crate::words::root_of;
 use image_rules::read::anchor_of;
 use image_rules::{NodeSet, listed_nodes};
 use pm_words::Image;
+use radix_nodes::Key;
 
-/// Whether a leaf leads its key to a node that has it as its anchor.
-fn leads_to_anchor(image: &Image, leaf: u64) -> bool
-    ensures { IsTrue result ↔ LeadsToAnchor image.now.layout image.now.words leaf }
+/// The words of a node's anchor.
+fn anchor_key(image: &Image, node: u64) -> Key
+    ensures words { result ≡ anchor_words (image_spot image.now.layout image.now.words node) }
+    ensures key { IsKey result }
 {
-    let word = node_word_of(image, leaf);
-    word != 0 && is_same(anchor_of(image, word - 1), key_of(image, leaf))
+    anchor_of(image, node)
 }
 
-/// Whether a leaf leads its key elsewhere than to the listed node that has it as its anchor, if no line exempts the
-/// key.
-fn is_stray(image: &Image, listed: &NodeSet, leaf: u64) -> bool
-    requires listed { AreListed image.now.layout image.now.words listed.now }
-    requires within { LeadWithinNodes image.now.layout image.now.words }
-    requires leaf { leaf < leaf_count image.now.layout }
-    ensures { IsTrue result ↔ IsStray image.now.layout image.now.words leaf }
+/// Whether the tree leads a key to a node.
+fn leads_to(image: &Image, key: &Key, node: u64) -> bool
+    requires right { ¬ BreaksTree image.now.layout image.now.words 10 }
+    requires key { IsKey key.now }
+    ensures { IsTrue result ↔ (image_map image.now.layout image.now.words (key_number key.now) ≡ Some node) }
 {
-    let word = node_word_of(image, leaf);
-    if word == 0 || (listed.contains(word - 1) && leads_to_anchor(image, leaf)) {
+    let Some(found) = node_from(image, root_of(image), 0, key) else {
         return false;
-    }
-    !is_open_for(image, key_of(image, leaf))
+    };
+    found == node
 }
 
-/// The lowest leaf that leads its key elsewhere than the list has it.
-fn stray_leaf(image: &Image, listed: &NodeSet) -> Option<u64>
+/// Whether a node is listed, and the tree doesn't lead its anchor to it, if no line exempts the anchor.
+fn is_missed(image: &Image, listed: &NodeSet, node: u64) -> bool
+    requires right { ¬ BreaksTree image.now.layout image.now.words 10 }
     requires listed { AreListed image.now.layout image.now.words listed.now }
-    requires within { LeadWithinNodes image.now.layout image.now.words }
-    ensures { IsLowest (IsStray image.now.layout image.now.words) result }
-{
-    for leaf in 0..leaf_count(image) {
-        if is_stray(image, listed, leaf) {
-            return Some(leaf);
-        }
-    }
-    None
-}
-
-/// The nodes to which a leaf leads their anchor.
-fn led_nodes(image: &Image) -> NodeSet
-    requires { LeadWithinNodes image.now.layout image.now.words }
-    ensures { AreLed image.now.layout image.now.words result }
-{
-    let mut led = NodeSet::new();
-    for leaf in 0..leaf_count(image) {
-        if leads_to_anchor(image, leaf) {
-            led.insert(node_word_of(image, leaf) - 1);
-        }
-    }
-    led
-}
-
-/// Whether a node is listed, and no leaf leads its anchor to it, if no line exempts the anchor.
-fn is_missed(image: &Image, listed: &NodeSet, led: &NodeSet, node: u64) -> bool
-    requires listed { AreListed image.now.layout image.now.words listed.now }
-    requires led { AreLed image.now.layout image.now.words led.now }
     ensures { IsTrue result ↔ IsMissed image.now.layout image.now.words node }
 {
-    if !listed.contains(node) || led.contains(node) {
+    if !listed.contains(node) {
         return false;
     }
-    !is_open_for(image, anchor_of(image, node))
+    let anchor = anchor_key(image, node);
+    if leads_to(image, &anchor, node) {
+        return false;
+    }
+    !is_open_for(image, anchor)
 }
 
-/// The lowest listed node to which no leaf leads its anchor.
-fn missed_node(image: &Image, listed: &NodeSet, led: &NodeSet) -> Option<u64>
+/// Whether there is such a node.
+fn has_missed(image: &Image, listed: &NodeSet) -> bool
     requires sound { IsSound image.now.layout image.now.words }
+    requires right { ¬ BreaksTree image.now.layout image.now.words 10 }
     requires listed { AreListed image.now.layout image.now.words listed.now }
-    requires led { AreLed image.now.layout image.now.words led.now }
-    ensures { IsLowest (IsMissed image.now.layout image.now.words) result }
+    ensures { IsTrue result ↔ ((n : ℕ) × IsMissed image.now.layout image.now.words n) }
 {
     for node in 0..image.layout().nodes() {
-        if is_missed(image, listed, led, node) {
-            return Some(node);
+        if is_missed(image, listed, node) {
+            return true;
         }
     }
-    None
+    false
 }
 
-/// Whether the image breaks rule 12.
+/// Whether the image, which keeps the rules before it, breaks rule 12.
 pub(crate) fn is_uncovered(image: &Image) -> bool
     requires sound { IsSound image.now.layout image.now.words }
-    requires leaves { ¬ BreaksLayer image.now.layout image.now.words 10 }
-    ensures { IsTrue result ↔ BreaksLayer image.now.layout image.now.words 12 }
+    requires right { ¬ BreaksTree image.now.layout image.now.words 10 }
+    ensures { IsTrue result ↔ BreaksTree image.now.layout image.now.words 12 }
 {
     let listed = listed_nodes(image);
-    stray_leaf(image, &listed).is_some() || missed_node(image, &listed, &led_nodes(image)).is_some()
+    if is_stray_from(image, &listed, root_of(image), 0) {
+        return true;
+    }
+    has_missed(image, &listed)
 }

@@ -2,11 +2,11 @@
 
 ghost use Rattle.std.specs.Prelude.{◌≡◌, ◌↔◌, IsTrue};
 ghost use Rattle.layer_map.specs.Keys.{key_number};
-ghost use Rattle.image_layer_rules.specs.Leaves.{AreKeyWords};
+ghost use Rattle.image_layer_rules.specs.Anchors.{AreKeyWords};
 
 use cat_key::Name;
 use pm_words::KEY;
-use search_layer::Key;
+use radix_nodes::Key;
 
 /// Whether these words are zero, or those of a name.
 pub fn is_key(words: Key) -> bool

@@ -3,14 +3,14 @@
 ghost use Rattle.std.specs.Prelude.{◌↔◌, IsTrue};
 ghost use Rattle.layer_map.specs.Keys.{key_number};
 ghost use Rattle.updater_law.specs.Covers.{IsOpenFor};
-ghost use Rattle.image_layer_rules.specs.Leaves.{image_lines};
+ghost use Rattle.image_layer_rules.specs.Anchors.{image_lines};
 
 use crate::key::is_same;
 use image_rules::read::{line_anchor, line_count, line_word};
 use pm_words::Image;
 use pm_words::codes::state::EMPTY;
 use pm_words::offsets::line;
-use search_layer::Key;
+use radix_nodes::Key;
 
 /// Whether some line that isn't EMPTY has this anchor.
 pub fn is_open_for(image: &Image, key: Key) -> bool

@@ -2,9 +2,9 @@
 use Rattle.std.proofs.Common.{Option, Some, None, ◌≡◌, ◌↔◌, ℕ, suc, ◌+◌, ◌⊎◌, List, [], ◌∷◌, inl, inr, refl, sym, subst, ap, ap₂, ◌∙◌}
 use Rattle.pm_words.specs.declared.layout.Layout.{Layout}
 use Rattle.pm_words.specs.Images.{Row, IsImage}
-use Rattle.pm_words.specs.Locations.{Root, Cached, Durable}
+use Rattle.pm_words.specs.Locations.{Cached, Durable}
 use Rattle.pm_words.specs.Rows.{IsRow, durable_row}
-use Rattle.pm_words.proofs.Made.{durable_row-at, durable_row-image}
+use Rattle.pm_words.proofs.Made.{durable_row-image}
 use Rattle.cat_history.specs.Maps.{Map}
 use Rattle.data_node.specs.Lists.{ListNode, IsMember, IsIn, range_in}
 use Rattle.data_node.specs.Spots.{Spot}
@@ -21,21 +21,18 @@ use Rattle.image_recovery_law.proofs.RowColumns.{crash_has_columns}
 use Rattle.image_recovery_law.proofs.SoundColumns.{columns_keep_maps, spots_are}
 use Rattle.image_recovery_law.proofs.Weighs.{mended_weighs}
 use Rattle.image_recovery.specs.Plans.{columns, list_of}
-use Rattle.image_recovery.specs.MakingLaw.{IsClearBeside}
 use Rattle.image_recovery.specs.Recovered.{IsRecoverable, IsLeftOf, CrashLeavesSound, CrashBetweenLeavesSound}
 use Rattle.image_recovery.specs.declared.making.Making.{Making}
 use Rattle.image_recovery.specs.Recoveries.{IsRecoveringAt, StopLeavesSound, moves_left}
 use Rattle.image_recovery.proofs.MakingLemmas.{makings_are_sure}
 use Rattle.image_recovery.proofs.SoundColumns.{sound_all, list_is}
-use Rattle.search_layer.proofs.RowLemmas.{mix_of_durable}
-use Rattle.search_layer.specs.Rows.{layer_words}
 
 -- the sum over a list where each part is the same
 total_same : (v w : ℕ → ℕ) (here : ℕ) (list : List ListNode) → ((n : ℕ) → (n ≡ here) ⊎ IsMember list n → w n ≡ v n) → total w here list ≡ total v here list
 total_same v w here [] same = same here (inl refl)
 total_same v w here (m ∷ behind) same = ap₂ (λ a b. a + b) (same here (inl refl)) (total_same v w m.node behind (λ n is. same n (inr is)))
 
-module _ (image : Row) (recoverable : IsRecoverable image) (words : List ℕ) (row : IsRow image.layout words) (clear : IsClearBeside image.layout words) (stage : Stage) (sure : RowSure image.layout (list_of image) (columns image) stage words) where
+module _ (image : Row) (recoverable : IsRecoverable image) (words : List ℕ) (row : IsRow image.layout words) (stage : Stage) (sure : RowSure image.layout (list_of image) (columns image) stage words) where
   abbrev l : Layout
   l = image.layout
 
@@ -47,13 +44,13 @@ module _ (image : Row) (recoverable : IsRecoverable image) (words : List ℕ) (r
 
   -- what is durable is a mix of the two rows
   mends : Mends l (list_of image) (columns image) safe
-  mends = crash_mends l (list_of image) (columns image) (columns_in l words Cached) safe safe stage recoverable.sound sure (record {
+  mends = crash_mends l (list_of image) (columns image) (columns_in l words Cached) safe safe stage recoverable.sound sure.sure (record {
     generation = inr refl;
     spare = λ k. inr refl;
     version = λ n. inr refl;
     spot = λ n offset. inr refl;
     line = λ n offset. inr refl;
-    layer = mix_of_durable (layer_words l words Cached) (layer_words l words Durable);
+    layer = λ p. inr refl;
   })
 
   same : image_columns l left ≡ safe
@@ -88,7 +85,7 @@ module _ (image : Row) (recoverable : IsRecoverable image) (words : List ℕ) (r
   pub leaves : IsLeftOf image left
   leaves = record {
     is_image = is_image;
-    sound = sound_all l left is_image (durable_row-at l words (Root 0) ∙ clear.durable_root) (subst (λ (list : List ListNode). IsSound l list (image_columns l left)) (sym list_same) both.0);
+    sound = sound_all l left is_image (subst (λ (list : List ListNode). IsSound l list (image_columns l left)) (sym list_same) both.0);
     same_list = list_same;
     same_map = λ m.
         let there = (columns_keep_maps l image.words m) in
@@ -102,10 +99,10 @@ module _ (image : Row) (recoverable : IsRecoverable image) (words : List ℕ) (r
 pub crash_leaves_sound : CrashLeavesSound
 crash_leaves_sound image rest words making recoverable here =
     let known = makings_are_sure image.layout (list_of image) (columns image) rest words making here in
-    leaves image recoverable words here.row here.clear known.0 known.1
+    leaves image recoverable words here.row known.0 known.1
 
 pub crash_between_leaves_sound : CrashBetweenLeavesSound
-crash_between_leaves_sound image rest words recoverable between = leaves image recoverable words between.row between.clear between.stage between.sure
+crash_between_leaves_sound image rest words recoverable between = leaves image recoverable words between.row between.stage between.sure
 
 pub stop_leaves_sound : StopLeavesSound
 stop_leaves_sound image recovery row recoverable here = at recovery.making here

@@ -5,7 +5,7 @@ use Rattle.std.proofs.lemmas.List.{set-get_or}
 use Rattle.pm_words.specs.declared.layout.Layout.{Layout}
 use Rattle.pm_words.specs.declared.fence.FenceAt.{FenceAt}
 use Rattle.pm_words.specs.declared.fence.FenceAt.TheVariants as fence
-use Rattle.pm_words.specs.Locations.{Word, Location, Root, Cached, Durable, HasWord, HasLocation, IsVolatile, address_of, part_of_address, behind_start, row_parts, image_words, row_words, volatile_words, cached_address, durable_address}
+use Rattle.pm_words.specs.Locations.{Word, Location, Cached, HasWord, HasLocation, IsVolatile, address_of, part_of_address, behind_start, row_parts, image_words, row_words, volatile_words, cached_address, durable_address}
 use Rattle.pm_words.specs.declared.action.Action.TheVariants.{Store}
 use Rattle.pm_words.specs.Rows.{acted, evicted}
 use Rattle.pm_words.proofs.Apart.{address_fits, at-set_other}
@@ -38,40 +38,21 @@ module _ (l : Layout) (words : List ℕ) (word : ℕ) (whole : length words ≡ 
   hand_stays other small fence.Load has = tt
   hand_stays other small (fence.Drain value) has = cached_stays other small ∙ has
 
--- A word that is 0 in both twins stays so, whatever becomes durable,
-zero_evicts : (l : Layout) (words : List ℕ) (word : ℕ) → length words ≡ row_words l → word < image_words l → (k : ℕ) → k < image_words l → slice_index words (cached_address l k) ≡ 0 → slice_index words (durable_address l k) ≡ 0
-    → (slice_index (evicted l words word) (cached_address l k) ≡ 0) × (slice_index (evicted l words word) (durable_address l k) ≡ 0)
-zero_evicts l words word whole within k small cached durable =
-    let still = cached_stays l words word whole within k small ∙ cached in
-    let even = even_still l words word whole within k small (durable ∙ sym cached) in
-    (still, even ∙ still)
-
--- a volatile word stands in front of all twins,
+-- A volatile word stands in front of all twins,
 volatile_before : (l : Layout) (p : Location) → HasLocation l p → IsVolatile p → address_of l p < volatile_words l
 volatile_before l p has volatile = let before = earlier (row_parts l) (part_of_address p) 3 (behind_start l p) 0 (address_fits l p has) volatile in omega arith
 
+-- so that it stays 0, whatever becomes durable,
 pub clear_evicts : (l : Layout) (words : List ℕ) (word : ℕ) → length words ≡ row_words l → word < image_words l → IsClearBeside l words → IsClearBeside l (evicted l words word)
-clear_evicts l words word whole within clear =
-    let roots = zero_evicts l words word whole within 8 (omega arith) clear.cached_root clear.durable_root in
-    record {
-      cached_root = roots.0;
-      durable_root = roots.1;
-      volatile = λ p has volatile.
-          let before = volatile_before l p has volatile in
-          let apart : address_of l p ≢ durable_address l word = omega arith in
-          get_or-set_other words (durable_address l word) (address_of l p) (slice_index words (cached_address l word)) 0 apart ∙ clear.volatile p has volatile;
-    }
+clear_evicts l words word whole within clear p has volatile outside =
+    let before = volatile_before l p has volatile in
+    let apart : address_of l p ≢ durable_address l word = omega arith in
+    get_or-set_other words (durable_address l word) (address_of l p) (slice_index words (cached_address l word)) 0 apart ∙ clear p has volatile outside
 
--- and under a store into another word of the image
-pub clear_stored : (l : Layout) (words : List ℕ) (place : Word) (value : ℕ) → HasWord l place → place ≢ Root 0 → IsClearBeside l words → IsClearBeside l (acted l words (Store (address_of l (Cached place)) value))
-clear_stored l words place value has other clear =
-    let eight : 0 < 8 = omega arith in
-    record {
-      cached_root = at-set_other l words (Cached place) (Cached (Root 0)) value has eight (λ e. other (let same : place ≡ Root 0 = cc in same)) ∙ clear.cached_root;
-      durable_root = at-set_other l words (Cached place) (Durable (Root 0)) value has eight (λ e. cc) ∙ clear.durable_root;
-      volatile = λ p is volatile.
-          at-set_other l words (Cached place) p value has is (λ e. let three : 3 < 3 = subst IsVolatile e volatile in absurd (omega arith)) ∙ clear.volatile p is volatile;
-    }
+-- and under a store into a word of the image
+pub clear_stored : (l : Layout) (words : List ℕ) (place : Word) (value : ℕ) → HasWord l place → IsClearBeside l words → IsClearBeside l (acted l words (Store (address_of l (Cached place)) value))
+clear_stored l words place value has clear p is volatile outside =
+    at-set_other l words (Cached place) p value has is (λ e. let three : 3 < 3 = subst IsVolatile e volatile in absurd (omega arith)) ∙ clear p is volatile outside
 
 -- a load leaves the words
 pub load_leaves : (words : List ℕ) (address : ℕ) → slice_set words address (slice_index words address) ≡ words

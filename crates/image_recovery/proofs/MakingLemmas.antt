@@ -2,24 +2,26 @@
 use Rattle.std.proofs.Common.{◌≡◌, ◌≢◌, ℕ, suc, ◌+◌, ◌<◌, ◌≤◌, List, [], ◌∷◌, refl, sym, subst, ap, ◌∙◌, arith}
 use Rattle.pm_words.specs.declared.layout.Layout.{Layout}
 use Rattle.pm_words.specs.Images.{Row}
-use Rattle.pm_words.specs.Locations.{Header, Node, Cached, Durable, image_words, at, word_number}
+use Rattle.pm_words.specs.Locations.{Header, Node, Cached, image_words, at, word_number}
 use Rattle.pm_words.specs.Rows.{IsRow, CanAct, acted, got, evicted}
 use Rattle.pm_words.proofs.Kept.{evicted_row}
 use Rattle.version_lock.specs.Versions.{IsGeneration}
 use Rattle.data_node.specs.Lists.{ListNode}
-use Rattle.search_layer.specs.Laws.{stage_of, aim_of, start_stage}
-use Rattle.search_layer.specs.ChangeSteps.{change_starts}
+use Rattle.tree_update.specs.Changes.{change_starts}
+use Rattle.tree_update.specs.Stages.{Aim, aim_of}
+use Rattle.search_layer.specs.Kept.{layer_of}
+use Rattle.search_layer.specs.ChangeStages.{stage_of, start_stage}
 use Rattle.updater_row_law.specs.Columns.{line_count, line_word}
-use Rattle.image_recovery_law.specs.Columns.{Columns, IsSound, anchor_of, line_anchor, MendsNodes}
-use Rattle.image_recovery_law.specs.Stages.{Stage, Begins, Raised, Trims, Trimmed, Unsets, Unsetting, Sets, Setting, Empties, Emptied, nodes_of, aim_at, unsets, sets, LacksAnchor}
+use Rattle.image_recovery_law.specs.Columns.{Columns, IsSound, MendsNodes}
+use Rattle.image_recovery_law.specs.Stages.{Stage, Begins, Raised, Trims, Trimmed, Unsetting, Setting, Empties, Emptied, nodes_of, aim_at}
 use Rattle.image_recovery_law.specs.RowMoves.{RowSure, of_generation, of_bits, of_empty}
 use Rattle.image_recovery_law.specs.Rows.{columns_in}
 use Rattle.image_recovery_law.specs.Moves as law
 use Rattle.image_recovery_law.proofs.Mended.{in_image, used_line}
-use Rattle.image_recovery_law.proofs.Plans.{plan_reaches}
+use Rattle.image_recovery_law.proofs.RowPlans.{row_reaches}
+use Rattle.image_recovery_law.proofs.RowChanges.{unset_begins, set_begins}
 use Rattle.image_recovery_law.proofs.RowColumns.{word_if-here, has_line_word, line_here}
 use Rattle.image_recovery_law.proofs.RowMoves.{row_evicts}
-use Rattle.image_recovery_law.proofs.Steps.{steps_keep, anchors_now, lines_now}
 use Rattle.image_recovery.specs.declared.making.Making.{Making}
 use Rattle.image_recovery.specs.declared.moves.Move.{Move}
 use Rattle.image_recovery.specs.declared.moves.Move.TheVariants.{Raise, Trim, Unset, Set, Empty}
@@ -48,16 +50,13 @@ makings_go l list o rest words making sound here = turns making here.fits here.s
   where
     turns : (m : Making) → IsMaking m → SureMaking l list o rest words m → CanAct l words (making_asks m) × IsAfterTurn l list o rest (acted l words (making_asks m)) (making_turned m (got l words (making_asks m)))
     turns m fine (sure_stores storing before after end layout is known) = storing_turns l list o rest words storing before after end layout sound here.row here.clear fine is known
-    turns m fine (sure_unsets change line layout aim known plan) = unset_turn l list o rest words change sound here.row here.clear fine layout line aim known plan
-    turns m fine (sure_sets change line n layout aim known plan) = set_turn l list o rest words change sound here.row here.clear fine layout line n aim known plan
+    turns m fine (sure_unsets change line before layout aim known plan) = unset_turn l list o rest words change sound here.row here.clear fine layout line before aim known plan
+    turns m fine (sure_sets change line n before layout aim known plan) = set_turn l list o rest words change sound here.row here.clear fine layout line n before aim known plan
 
 -- How a move begins.
 module _ (l : Layout) (list : List ListNode) (o : Columns) (rest : List law.Move) (words : List ℕ) (sound : IsSound l list o) (row : IsRow l words) (clear : IsClearBeside l words) where
   abbrev now : Columns
   now = columns_in l words Cached
-
-  abbrev safe : Columns
-  safe = columns_in l words Durable
 
   abbrev here : Row
   here = record { layout = l; words = words }
@@ -68,7 +67,7 @@ module _ (l : Layout) (list : List ListNode) (o : Columns) (rest : List law.Move
   starts_raise : IsGeneration (suc o.generation) → (s : Stage) → law.Takes l list o s law.Raise rest → RowSure l list o s words → Started Raise
   starts_raise generation s (law.raises_now plan) sure =
       let last = generation.fits in
-      let same : generation_at here ≡ o.generation = sure.2 in (
+      let same : generation_at here ≡ o.generation = sure.sure.2 in (
         omega arith,
         λ fits. record {
           row = row;
@@ -117,34 +116,32 @@ module _ (l : Layout) (list : List ListNode) (o : Columns) (rest : List law.Move
   }
 
   starts_unset : (j : ℕ) (s : Stage) → law.Takes l list o s (law.Unset j) rest → RowSure l list o s words → Started (Unset j)
-  starts_unset _ s (law.unsets_now j busy lacks plan) sure =
+  starts_unset _ s (law.unsets_now j busy lacks plan) known =
       let within = used_line l list o sound j busy in
-      let mends = sure.0.cached.nodes in
-      let lacks_now : LacksAnchor list now j = λ n is e. lacks n is (sym (anchors_now l list o sound now safe mends n) ∙ e ∙ lines_now l list o sound now safe mends j) in (
+      let aim = aims j 0 within known.sure.0.cached.nodes in (
         within,
         λ fits. record {
           row = row;
           clear = clear;
           fits = fits;
-          sure = sure_unsets (change_starts l (anchor_at here j) 0) j refl (aims j 0 within mends)
-              (steps_keep l list o now safe now safe (Unsets j) (Unsetting j (start_stage l (aim_at now j 0))) sound sure (unsets j (λ e. busy (sym (sure.1 j) ∙ e)) lacks_now)) plan;
+          sure = sure_unsets (change_starts l (anchor_at here j) 0) j (layer_of l words) refl aim
+              (subst (λ (x : Aim). RowSure l list o (Unsetting j (layer_of l words) (start_stage l x)) words) (sym aim) (unset_begins l list o words j row sound known busy lacks)) plan;
         },
       )
 
   starts_set : (j n : ℕ) (s : Stage) → law.Takes l list o s (law.Set j n) rest → RowSure l list o s words → Started (Set j n)
-  starts_set _ _ s (law.sets_now j n busy is anchor plan) sure =
+  starts_set _ _ s (law.sets_now j n busy is anchor plan) known =
       let within = used_line l list o sound j busy in
       let node = in_image l list o sound n is in
-      let mends = sure.0.cached.nodes in
-      let has_now : anchor_of now n ≡ line_anchor now j = anchors_now l list o sound now safe mends n ∙ anchor ∙ sym (lines_now l list o sound now safe mends j) in
-      let one : n + 1 ≡ suc n = omega arith in (
+      let one : n + 1 ≡ suc n = omega arith in
+      let aim = aims j (n + 1) within known.sure.0.cached.nodes ∙ ap (aim_at o j) one in (
         (within, node),
         λ fits. record {
           row = row;
           clear = clear;
           fits = fits;
-          sure = sure_sets (change_starts l (anchor_at here j) (n + 1)) j n refl (aims j (n + 1) within mends ∙ ap (aim_at o j) one)
-              (steps_keep l list o now safe now safe (Sets j) (Setting j n (start_stage l (aim_at now j (suc n)))) sound sure (sets j n (λ e. busy (sym (sure.1 j) ∙ e)) is has_now)) plan;
+          sure = sure_sets (change_starts l (anchor_at here j) (n + 1)) j n (layer_of l words) refl aim
+              (subst (λ (x : Aim). RowSure l list o (Setting j n (layer_of l words) (start_stage l x)) words) (sym aim) (set_begins l list o words j n row sound known busy is anchor)) plan;
         },
       )
 
@@ -157,7 +154,7 @@ module _ (l : Layout) (list : List ListNode) (o : Columns) (rest : List law.Move
 
 pub makings_begin : MakingsBegin
 makings_begin l list o next rest words sound generation between =
-    let ready = plan_reaches l list o (columns_in l words Cached) (columns_in l words Durable) between.stage (move_of next) rest sound between.sure between.plan in
+    let ready = row_reaches l list o words between.stage (move_of next) rest sound between.sure between.plan in
     starts_move l list o rest words sound between.row between.clear generation next ready.stage ready.takes ready.sure
 
 -- Words that become durable.
@@ -175,8 +172,8 @@ module _ (l : Layout) (list : List ListNode) (o : Columns) (rest : List law.Move
 
   making_evicts : (m : Making) → IsMaking m → SureMaking l list o rest words m → SureMaking l list o rest (evicted l words word) m
   making_evicts m fine (sure_stores storing before after end layout is here) = sure_stores storing before after end layout is (storing_evicts storing before after end layout fine storing.at fine.here here)
-  making_evicts m fine (sure_unsets change line layout aim here plan) = sure_unsets change line layout aim (row_evicts l list o words (Unsetting line (stage_of change)) word row.whole within sound here) plan
-  making_evicts m fine (sure_sets change line n layout aim here plan) = sure_sets change line n layout aim (row_evicts l list o words (Setting line n (stage_of change)) word row.whole within sound here) plan
+  making_evicts m fine (sure_unsets change line before layout aim here plan) = sure_unsets change line before layout aim (row_evicts l list o words (Unsetting line before (stage_of change)) word row.whole within sound here) plan
+  making_evicts m fine (sure_sets change line n before layout aim here plan) = sure_sets change line n before layout aim (row_evicts l list o words (Setting line n before (stage_of change)) word row.whole within sound here) plan
 
 pub makings_evict : MakingsEvict
 makings_evict l list o rest words making word sound within here = record {
@@ -204,5 +201,5 @@ makings_are_sure l list o rest words making here = stage making here.sure
 
     stage : (m : Making) → SureMaking l list o rest words m → (stage : Stage) × RowSure l list o stage words
     stage m (sure_stores storing before after end layout is known) = storing_stage storing before after storing.at known
-    stage m (sure_unsets change line layout aim known plan) = (Unsetting line (stage_of change), known)
-    stage m (sure_sets change line n layout aim known plan) = (Setting line n (stage_of change), known)
+    stage m (sure_unsets change line before layout aim known plan) = (Unsetting line before (stage_of change), known)
+    stage m (sure_sets change line n before layout aim known plan) = (Setting line n before (stage_of change), known)

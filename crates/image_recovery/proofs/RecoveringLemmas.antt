@@ -1,23 +1,34 @@
 -- A recovery from its beginning to its end: what is known of the rows between its moves, and after the last.
-use Rattle.std.proofs.Common.{Option, Some, None, arith, ◌≡◌, ℕ, suc, ◌+◌, ◌<◌, ◌≤◌, List, [], ◌∷◌, map, drop, length, get_or, refl, sym, subst, ap, ◌∙◌}
+use Rattle.std.proofs.Common.{Option, Some, None, true, false, ◌≡◌, ℕ, suc, ◌+◌, ◌<◌, ◌≤◌, List, [], ◌∷◌, map, drop, length, get_or, sym, subst, ap, ◌∙◌}
 use Rattle.std.proofs.lemmas.List.{drop_more, drop_all}
 use Rattle.pm_words.specs.declared.layout.Layout.{Layout}
 use Rattle.pm_words.specs.declared.action.Action.{Action}
 use Rattle.pm_words.specs.declared.machine.Turn.{Turn}
 use Rattle.pm_words.specs.Images.{Row, IsImage}
-use Rattle.pm_words.specs.Locations.{Root, Cached, Durable}
-use Rattle.pm_words.specs.Rows.{CanAct, acted, evicted, got, row_of}
-use Rattle.pm_words.proofs.Made.{row_of-row, row_of-at, row_of-at_volatile}
+use Rattle.pm_words.specs.Locations.{Word, Location, Clock, Updater, Volatile, Mark, Cached, Durable, word_at, at as word_in_row}
+use Rattle.pm_words.specs.Rows.{IsRow, CanAct, acted, evicted, got, row_of}
+use Rattle.pm_words.proofs.Made.{row_of-at, row_of-at_volatile}
 use Rattle.version_lock.specs.Versions.{IsGeneration}
 use Rattle.image_layer_rules.specs.Sound.{IsSoundByAll}
+use Rattle.image_rules.specs.Nodes.{image_list}
+use Rattle.layer_map.specs.Places.{is_of_layer}
+use Rattle.search_layer.specs.Rows.{layer_words, image_layer_words}
+use Rattle.tree_row.specs.RowMarks.{IsNoMark}
+use Rattle.search_layer.specs.Kept.{IsAtRest}
 use Rattle.image_layer_rules.proofs.LayerLaws.{sound_keeps_layer}
-use Rattle.image_recovery_law.specs.Columns.{Columns}
+use Rattle.tree_law.specs.Trees.{IsTree}
+use Rattle.tree_marks.specs.Laws.{IsMarked}
+use Rattle.tree_marks.specs.Marked.{row_tree, row_room, MarksFrom, AreMarked}
+use Rattle.tree_marks.proofs.RestLaw.{marked_by_walk, marked_is_at_rest, marking_keeps_others}
+use Rattle.search_layer.proofs.RowLemmas.{even_are_same}
+use Rattle.image_recovery_law.specs.Columns.{Columns, IsSound}
 use Rattle.image_recovery_law.specs.Stages.{Begins, Sure}
-use Rattle.image_recovery_law.specs.Rows.{columns_in}
+use Rattle.image_recovery_law.specs.Rows.{columns_in, image_columns}
+use Rattle.image_recovery_law.specs.RowMoves.{RowSure}
 use Rattle.image_recovery_law.specs.Moves as law
-use Rattle.image_recovery_law.proofs.Plans.{plan_ends}
+use Rattle.image_recovery_law.proofs.RowPlans.{row_ends}
 use Rattle.image_recovery_law.proofs.Rest.{ends_at_rest}
-use Rattle.image_recovery_law.proofs.RowColumns.{start_has_columns}
+use Rattle.image_recovery_law.proofs.RowColumns.{IsRest, columns_alike}
 use Rattle.image_recovery_law.proofs.Steps.{starts}
 use Rattle.image_recovery.specs.declared.making.Making.{Making}
 use Rattle.image_recovery.specs.declared.stepping.Recovery.{Recovery}
@@ -25,8 +36,8 @@ use Rattle.image_recovery.specs.declared.moves.Move.{Move}
 use Rattle.image_recovery.specs.declared.moves.Move.TheVariants.{Raise}
 use Rattle.image_recovery.specs.Plans.{columns, list_of, move_of, IsPlanOf}
 use Rattle.image_recovery.specs.Makings.{IsMaking, MayMake, making_of, making_asks, making_turned}
-use Rattle.image_recovery.specs.MakingLaw.{IsAtMove, IsAfterTurn, IsBetweenMoves}
-use Rattle.image_recovery.specs.Recovered.{IsRecoverable, IsUnderWay, IsRecoveredTo}
+use Rattle.image_recovery.specs.MakingLaw.{IsClearBeside, IsAtMove, IsAfterTurn, IsBetweenMoves}
+use Rattle.image_recovery.specs.Recovered.{IsRecoverable, IsOpenedOn, IsUnderWay, IsRecoveredTo}
 use Rattle.image_recovery.specs.Recoveries.{IsRecoveringAt, IsRecovering, IsMakingOne, moves_left, EndIsRecovered, RecoveringEvicts}
 use Rattle.image_recovery.proofs.SoundColumns.{all_sound}
 use Rattle.image_recovery.proofs.CrashLemmas.{crash_between_leaves_sound}
@@ -49,7 +60,57 @@ none_left moves i past = ap (map move_of) (drop_all i moves past)
 
 -- an image that is sound by all rules, of a generation that isn't the last
 pub is_recoverable : (image : Row) → IsImage image.layout image.words → IsSoundByAll image.layout image.words → IsGeneration (suc (columns image).generation) → IsRecoverable image
-is_recoverable image is sound next = record { sound = all_sound image.layout image.words is sound; root = (sound_keeps_layer image.layout image.words sound).1.root; next = next }
+is_recoverable image is sound next = record { sound = all_sound image.layout image.words is sound; next = next }
+
+-- A row that is made of the image, whose marks are set: nothing but the marks is another than in the image.
+module _ (l : Layout) (words after : List ℕ) (marked : IsMarked l words after) where
+  no_mark : (p : Location) → is_of_layer p ≡ false → IsNoMark p
+  no_mark Clock outside = tt
+  no_mark Updater outside = tt
+  no_mark (Volatile n o) outside = tt
+  no_mark (Mark kind k) outside = let clash : true ≡ false = outside in cc
+  no_mark (Cached w) outside = tt
+  no_mark (Durable w) outside = tt
+
+  pub marked_clear : IsClearBeside l after
+  marked_clear p has volatile outside = marking_keeps_others l words after marked p has (no_mark p outside) ∙ row_of-at_volatile l words p has volatile
+
+  at_rest : IsAtRest l after × (layer_words l after Cached ≡ image_layer_words l words)
+  at_rest = marked_is_at_rest l words after marked
+
+  twin_columns : (twin : Word → Location) → ((w : Word) → IsRest l w → word_in_row l after (twin w) ≡ word_at l words w) → layer_words l after twin ≡ image_layer_words l words → columns_in l after twin ≡ image_columns l words
+  twin_columns twin same layer = columns_alike l (word_at l words) (λ w. word_in_row l after (twin w)) (image_layer_words l words) (layer_words l after twin) same layer
+
+  cached_columns : columns_in l after Cached ≡ image_columns l words
+  cached_columns = twin_columns Cached (λ w is. marking_keeps_others l words after marked (Cached w) is.0 tt ∙ (row_of-at l words w marked.is is.0).0) at_rest.1
+
+  durable_columns : columns_in l after Durable ≡ image_columns l words
+  durable_columns = twin_columns Durable (λ w is. marking_keeps_others l words after marked (Durable w) is.0 tt ∙ (row_of-at l words w marked.is is.0).1)
+      (even_are_same (layer_words l after Cached) (layer_words l after Durable) at_rest.0.even ∙ at_rest.1)
+
+-- So a recovery of a sound image may begin.
+marked_begins : (l : Layout) (words after : List ℕ) → IsSound l (image_list l words) (image_columns l words) → IsMarked l words after → RowSure l (image_list l words) (image_columns l words) Begins after
+marked_begins l words after sound marked =
+    let o = image_columns l words in
+    let list = image_list l words in
+    record {
+      sure = subst (λ (c : Columns). Sure l list o Begins (columns_in l after Cached) c) (sym (durable_columns l words after marked))
+          (subst (λ (c : Columns). Sure l list o Begins c o) (sym (cached_columns l words after marked)) (starts l list o sound));
+      marks = (at_rest l words after marked).0.tells;
+    }
+
+-- The row on which the walk set the marks is such a row.
+pub opened_on : (image memory after : Row) → IsImage image.layout image.words → IsSoundByAll image.layout image.words → memory ≡ record { layout = image.layout; words = row_of image.layout image.words } → after.layout ≡ memory.layout
+    → MarksFrom memory.layout memory.words (row_tree memory.layout memory.words).root after.words
+    → (IsTree (row_room memory.layout) (row_tree memory.layout memory.words) → AreMarked memory.layout memory.words (row_tree memory.layout memory.words).root after.words) → IsRow after.layout after.words → IsOpenedOn image after
+opened_on image memory after is sound made =
+    subst (λ (m : Row). after.layout ≡ m.layout → MarksFrom m.layout m.words (row_tree m.layout m.words).root after.words
+    → (IsTree (row_room m.layout) (row_tree m.layout m.words) → AreMarked m.layout m.words (row_tree m.layout m.words).root after.words) → IsRow after.layout after.words → IsOpenedOn image after) (sym made)
+    (λ layout marks all row. record {
+      layout = layout;
+      is_row = subst (λ (l : Layout). IsRow l after.words) layout row;
+      marked = marked_by_walk image.layout image.words after.words is (sound_keeps_layer image.layout image.words is sound).1.row marks all;
+    })
 
 module _ (image : Row) (recoverable : IsRecoverable image) where
   abbrev At : List law.Move → List ℕ → Making → Type 0
@@ -79,33 +140,17 @@ module _ (image : Row) (recoverable : IsRecoverable image) where
       (subst (λ (t : Turn Making (Unit {0})). IsAfterTurn image.layout (list_of image) (columns image) rest (acted image.layout row.words (making_asks making)) t) turn_is goes)
 
   -- A row of the image, with a plan.
-  begins_row : IsImage image.layout image.words → (moves : List Move) → IsPlanOf image moves → IsUnderWay image (record { layout = image.layout; words = row_of image.layout image.words }) (map move_of moves)
-  begins_row is moves plan =
-      let o = columns image in
-      let same = start_has_columns image.layout image.words is in
-      let eight : 0 < 8 = omega arith in
-      let twins = row_of-at image.layout image.words (Root 0) is eight in
-      let sure : Sure image.layout (list_of image) o Begins o o = starts image.layout (list_of image) o recoverable.sound in
-      record {
-        layout = refl;
-        between = record {
-          row = row_of-row image.layout image.words is;
-          clear = record {
-            cached_root = twins.0 ∙ recoverable.root;
-            durable_root = twins.1 ∙ recoverable.root;
-            volatile = row_of-at_volatile image.layout image.words;
-          };
-          stage = Begins;
-          sure = subst (λ (c : Columns). Sure image.layout (list_of image) o Begins (columns_in image.layout (row_of image.layout image.words) Cached) c) (sym same.1)
-              (subst (λ (c : Columns). Sure image.layout (list_of image) o Begins c o) (sym same.0) sure);
-          plan = plan;
-        };
-      }
-
-  pub begins_plan : (row : Row) (moves listed : List Move) → IsImage image.layout image.words → IsPlanOf image moves → row ≡ record { layout = image.layout; words = row_of image.layout image.words } → listed ≡ moves
-      → IsUnderWay image row (map move_of listed)
-  begins_plan row moves listed is plan row_is same =
-      subst (λ (r : Row). IsUnderWay image r (map move_of listed)) (sym row_is) (subst (λ (ms : List Move). IsUnderWay image (record { layout = image.layout; words = row_of image.layout image.words }) (map move_of ms)) (sym same) (begins_row is moves plan))
+  pub begins_plan : (row : Row) (moves listed : List Move) → IsOpenedOn image row → IsPlanOf image moves → listed ≡ moves → IsUnderWay image row (map move_of listed)
+  begins_plan row moves listed opened plan same = record {
+    layout = opened.layout;
+    between = record {
+      row = opened.is_row;
+      clear = marked_clear image.layout image.words row.words opened.marked;
+      stage = Begins;
+      sure = marked_begins image.layout image.words row.words recoverable.sound opened.marked;
+      plan = subst (λ (ms : List Move). IsPlanOf image ms) (sym same) plan;
+    };
+  }
 
   -- After the last move.
   pub ends_plan : (row : Row) → IsUnderWay image row [] → IsRecoveredTo image row
@@ -113,12 +158,13 @@ module _ (image : Row) (recoverable : IsRecoverable image) where
       let o = columns image in
       let now : Columns = columns_in image.layout row.words Cached in
       let safe : Columns = columns_in image.layout row.words Durable in
+      let known = row_ends image.layout (list_of image) o row.words under.between.stage recoverable.sound under.between.sure under.between.plan in
       record {
         layout = under.layout;
         is_row = under.between.row;
-        rests = ends_at_rest image.layout (list_of image) o now safe recoverable.sound recoverable.next
-            (plan_ends image.layout (list_of image) o now safe under.between.stage recoverable.sound under.between.sure under.between.plan);
+        rests = ends_at_rest image.layout (list_of image) o now safe recoverable.sound recoverable.next known.sure;
         clear = under.between.clear;
+        marks = known.marks;
         left = crash_between_leaves_sound image [] row.words recoverable under.between;
       }
 

@@ -2,14 +2,13 @@
 use Rattle.std.proofs.Common.{◌≡◌, ℕ, ◌⊎◌, List, inl, inr, refl, sym, subst}
 use Rattle.pm_words.specs.declared.layout.Layout.{Layout}
 use Rattle.pm_words.specs.Images.{IsImage}
-use Rattle.pm_words.specs.Locations.{Root, word_at}
 use Rattle.data_node.specs.Spots.{Spot}
 use Rattle.data_node.specs.Lists.{ListNode, IsIn, MakeList, Rise, anchor_in}
 use Rattle.data_node.proofs.ListLemmas.{members_few, chain_is}
 use Rattle.image_rules.specs.Nodes.{image_spot, image_list}
 use Rattle.updater_law.specs.Covered.{IsCovered}
 use Rattle.updater_law.specs.Covers.{Lines, IsOpenFor}
-use Rattle.image_layer_rules.specs.Leaves as layer
+use Rattle.image_layer_rules.specs.Anchors as layer
 use Rattle.image_layer_rules.specs.Sound.{IsSoundByAll}
 use Rattle.image_layer_rules.proofs.LayerLaws.{sound_keeps_layer, layer_makes_sound}
 use Rattle.image_recovery_law.specs.Columns.{Columns, IsSound, IsNameKey, lines_of, layer_kept}
@@ -30,7 +29,7 @@ module _ (l : Layout) (words : List ℕ) where
 
   pub all_sound : IsImage l words → IsSoundByAll l words → IsSound l (image_list l words) o
   all_sound is sound =
-      let both = sound_keeps_layer l words sound in
+      let both = sound_keeps_layer l words is sound in
       let keeps = both.1 in
       record {
         nodes = sound_nodes l words is both.0;
@@ -48,9 +47,8 @@ module _ (l : Layout) (words : List ℕ) where
   name_keyed key (inl zero) = inl zero
   name_keyed key (inr named) = inr (named.name, named.is_name, named.same)
 
-  pub sound_all : IsImage l words → word_at l words (Root 0) ≡ 0 → IsSound l (image_list l words) o → IsSoundByAll l words
-  sound_all is root sound = layer_makes_sound l words is ((columns_are_sound l words is).0 sound.nodes) (record {
-    root = root;
+  pub sound_all : IsImage l words → IsSound l (image_list l words) o → IsSoundByAll l words
+  sound_all is sound = layer_makes_sound l words is ((columns_are_sound l words is).0 sound.nodes) (record {
     row = sound.layer.row;
     keys = λ key node leads. name_keyed key (sound.layer.keys key node leads);
     few = sound.layer.few;

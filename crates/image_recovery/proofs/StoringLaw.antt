@@ -8,7 +8,7 @@ use Rattle.pm_words.specs.declared.fence.Fence.{Fence}
 use Rattle.pm_words.specs.declared.fence.FenceAt.TheVariants as hand
 use Rattle.pm_words.specs.declared.machine.Turn.TheVariants.{Go}
 use Rattle.pm_words.specs.Fences.{IsFence, FenceTurn, loads, drains, drains_last, fence_start, fence_next}
-use Rattle.pm_words.specs.Locations.{Word, Header, Root, Cached, HasWord, image_words, cached_address, address_of}
+use Rattle.pm_words.specs.Locations.{Word, Header, Cached, HasWord, image_words, cached_address, address_of}
 use Rattle.pm_words.specs.Rows.{IsRow, IsOutsideHeader, CanAct, acted, got, given, evicted, action_address}
 use Rattle.pm_words.proofs.Fencing.{fence_turns, fence_stays}
 use Rattle.pm_words.proofs.Kept.{acted_row, evicted_row, outside_header}
@@ -41,11 +41,6 @@ pub store_other : (l : Layout) (list : List ListNode) (o : Columns) (s t u : Sta
 store_other l list o s t u w value of_generation k small e = let same : 5 ≡ k = cc in omega arith
 store_other l list o s t u w value (of_bits n bits left within is fits) k small e = cc
 store_other l list o s t u w value (of_empty j within) k small e = cc
-
-pub store_no_root : (l : Layout) (list : List ListNode) (o : Columns) (s t u : Stage) (w : Word) (value : ℕ) → MoveStore l list o s w value t u → w ≢ Root 0
-store_no_root l list o s t u w value of_generation e = cc
-store_no_root l list o s t u w value (of_bits n bits left within is fits) e = cc
-store_no_root l list o s t u w value (of_empty j within) e = cc
 
 pub store_has : (l : Layout) (list : List ListNode) (o : Columns) (s t u : Stage) (w : Word) (value : ℕ) → MoveStore l list o s w value t u → HasWord l w
 store_has l list o s t u w value of_generation = omega arith
@@ -80,7 +75,7 @@ module _ (list : List ListNode) (o : Columns) (rest : List law.Move) (words : Li
       (λ i. acted l words (Store (cached_address l (sym is.word i)) (sym is.stored i))) in
       record {
         row = acted_row l words (Store (cached_address l storing.word) storing.value) row store_acts;
-        clear = subst (IsClearBeside l) there (clear_stored l words is.place is.value (store_has l list o before after end is.place is.value is.move) (store_no_root l list o before after end is.place is.value is.move) clear);
+        clear = subst (IsClearBeside l) there (clear_stored l words is.place is.value (store_has l list o before after end is.place is.value is.move) clear);
         fits = record { layout = fits.layout; word = fits.word; value = fits.value; here = record { word = omega arith; value = tt } };
         sure = sure_stores (At (at.Line fence_start)) before after end refl (record { place = is.place; value = is.value; move = is.move; word = is.word; stored = is.stored; plan = is.plan })
             (subst (λ (ws : List ℕ). RowSure l list o after ws) there (move_stores l list o words before after end is.place is.value row.whole sound sure is.move), tt, λ past. absurd (omega arith));

@@ -1,17 +1,20 @@
 -- What is sure of the rows while the moves of a recovery are made, one after another, and between them.
-use Rattle.std.specs.Prelude.{◌≡◌, ℕ, suc, ◌<◌, List, ◌∷◌, slice_index}
+use Rattle.std.specs.Prelude.{◌≡◌, ℕ, suc, ◌<◌, false, List, ◌∷◌, slice_index}
 use Rattle.pm_words.specs.declared.layout.Layout.{Layout}
 use Rattle.pm_words.specs.declared.machine.Turn.{Turn}
 use Rattle.pm_words.specs.declared.machine.Turn.TheVariants.{Go, Done}
 use Rattle.pm_words.specs.declared.fence.FenceAt.{FenceAt}
 use Rattle.pm_words.specs.declared.fence.FenceAt.TheVariants as fence
-use Rattle.pm_words.specs.Locations.{Word, Location, Root, Cached, Durable, HasLocation, IsVolatile, at}
+use Rattle.pm_words.specs.Locations.{Word, Location, HasLocation, IsVolatile, at}
 use Rattle.pm_words.specs.Locations.{word_number, image_words, cached_address, durable_address}
 use Rattle.pm_words.specs.Rows.{IsRow, CanAct, acted, got, evicted}
 use Rattle.version_lock.specs.Versions.{IsGeneration}
 use Rattle.data_node.specs.Lists.{ListNode}
-use Rattle.search_layer.specs.declared.change.Change.{Change}
-use Rattle.search_layer.specs.Laws.{stage_of, aim_of}
+use Rattle.layer_map.specs.Layers.{Layer}
+use Rattle.layer_map.specs.Places.{is_of_layer}
+use Rattle.tree_update.specs.declared.change.Change.{Change}
+use Rattle.tree_update.specs.Stages.{aim_of}
+use Rattle.search_layer.specs.ChangeStages.{stage_of}
 use Rattle.image_recovery_law.specs.Columns.{Columns, IsSound}
 use Rattle.image_recovery_law.specs.Stages.{Stage, Unsets, Unsetting, Sets, Setting, aim_at}
 use Rattle.image_recovery_law.specs.RowMoves.{RowSure, MoveStore}
@@ -57,22 +60,17 @@ pub data SureMaking (l : Layout) (list : List ListNode) (o : Columns) (rest : Li
   sure_stores : (storing : Storing) (before after end : Stage) → storing.layout ≡ l →
       IsStoreOf l list o rest storing before after end →
       SureStoringAt l list o storing before after words storing.at → SureMaking l list o rest words (Stores storing)
-  sure_unsets : (change : Change) (line : ℕ) → change.layout ≡ l → aim_of change ≡ aim_at o line 0 →
-      RowSure l list o (Unsetting line (stage_of change)) words → law.Plan l list o (Unsets (suc line)) rest →
-      SureMaking l list o rest words (Changes change)
-  sure_sets : (change : Change) (line n : ℕ) → change.layout ≡ l → aim_of change ≡ aim_at o line (suc n) →
-      RowSure l list o (Setting line n (stage_of change)) words → law.Plan l list o (Sets (suc line)) rest →
-      SureMaking l list o rest words (Changes change)
+  sure_unsets : (change : Change) (line : ℕ) (before : Layer) → change.layout ≡ l →
+      aim_of change ≡ aim_at o line 0 → RowSure l list o (Unsetting line before (stage_of change)) words →
+      law.Plan l list o (Unsets (suc line)) rest → SureMaking l list o rest words (Changes change)
+  sure_sets : (change : Change) (line n : ℕ) (before : Layer) → change.layout ≡ l →
+      aim_of change ≡ aim_at o line (suc n) → RowSure l list o (Setting line n before (stage_of change)) words →
+      law.Plan l list o (Sets (suc line)) rest → SureMaking l list o rest words (Changes change)
 
--- Each volatile word is 0.
-abbrev pub HasNoVolatile : Layout → List ℕ → Type 0
-HasNoVolatile l words = (p : Location) → HasLocation l p → IsVolatile p → at l words p ≡ 0
-
--- The words that no column tells are 0: the root word, cached and durable, and the volatile ones.
-pub record IsClearBeside (l : Layout) (words : List ℕ) : Type 0 where
-  pub cached_root : at l words (Cached (Root 0)) ≡ 0
-  pub durable_root : at l words (Durable (Root 0)) ≡ 0
-  pub volatile : HasNoVolatile l words
+-- The volatile words are 0, but for the marks of the layer.
+abbrev pub IsClearBeside : Layout → List ℕ → Type 0
+IsClearBeside l words =
+    (p : Location) → HasLocation l p → IsVolatile p → is_of_layer p ≡ false → at l words p ≡ 0
 
 -- A recovery of o is at this move, and these are planned behind it.
 pub record IsAtMove (l : Layout) (list : List ListNode) (o : Columns) (rest : List law.Move) (words : List ℕ)

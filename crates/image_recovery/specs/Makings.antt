@@ -7,8 +7,9 @@ use Rattle.pm_words.specs.declared.machine.Turn.TheVariants.{Go, Done}
 use Rattle.pm_words.specs.Images.{Row}
 use Rattle.pm_words.specs.Locations.{Header, Node, Cached, word_number, at}
 use Rattle.data_node.specs.Spots.{bitmap_offset}
-use Rattle.search_layer.specs.declared.change.Change.{Change}
-use Rattle.search_layer.specs.ChangeSteps.{IsChange, change_starts, change_asks, change_turned, change_left}
+use Rattle.tree_update.specs.declared.change.Change.{Change}
+use Rattle.tree_update.specs.declared.change.Ended.{Ended}
+use Rattle.tree_update.specs.Changes.{IsChange, change_starts, change_asks, change_turned, change_left}
 use Rattle.updater_row_law.specs.Columns.{line_count, line_word}
 use Rattle.image_recovery.specs.declared.making.Making.{Making}
 use Rattle.image_recovery.specs.declared.making.Making.TheVariants.{Stores, Changes}
@@ -51,9 +52,9 @@ abbrev pub of_storing : Turn Storing (Unit {0}) → Turn Making (Unit {0})
 of_storing (Go storing) = Go (Stores storing)
 of_storing (Done answer) = Done answer
 
-abbrev pub of_change : Turn Change (Unit {0}) → Turn Making (Unit {0})
+abbrev pub of_change : Turn Change Ended → Turn Making (Unit {0})
 of_change (Go change) = Go (Changes change)
-of_change (Done answer) = Done answer
+of_change (Done ended) = Done tt
 
 abbrev pub making_turned : Making → ℕ → Turn Making (Unit {0})
 making_turned (Stores storing) got = of_storing (storing_turned storing got)

@@ -1,7 +1,7 @@
 -- A recovery on its way, and what it leaves at its end.
 use Rattle.std.specs.Prelude.{◌≡◌, ◌⊎◌, ◌↔◌, ℕ, suc, List, ◌∷◌}
 use Rattle.pm_words.specs.Images.{Row, IsImage}
-use Rattle.pm_words.specs.Locations.{Root, Cached, Durable, word_at}
+use Rattle.pm_words.specs.Locations.{Cached, Durable}
 use Rattle.pm_words.specs.Rows.{IsRow, durable_row}
 use Rattle.cat_history.specs.Maps.{Map}
 use Rattle.version_lock.specs.Versions.{IsGeneration}
@@ -13,6 +13,8 @@ use Rattle.image_layer_rules.specs.Sound.{IsSoundByAll, IsFirstOfAll}
 use Rattle.image_recovery_law.specs.Columns.{IsSound}
 use Rattle.image_recovery_law.specs.Rest.{Rests}
 use Rattle.image_recovery_law.specs.Rows.{columns_in}
+use Rattle.image_recovery_law.specs.RowMoves.{MarksTellIn}
+use Rattle.tree_marks.specs.Laws.{IsMarked}
 use Rattle.image_recovery_law.specs.Moves as law
 use Rattle.image_recovery.specs.declared.making.Making.{Making}
 use Rattle.image_recovery.specs.declared.recovering.OpenFault.{OpenFault}
@@ -20,11 +22,17 @@ use Rattle.image_recovery.specs.declared.recovering.OpenFault.TheVariants.{Damag
 use Rattle.image_recovery.specs.Plans.{columns, list_of}
 use Rattle.image_recovery.specs.MakingLaw.{IsClearBeside, IsAtMove, IsBetweenMoves}
 
--- The image is sound, its root word is 0, and there is a next generation.
+-- The image is sound, and there is a next generation.
 pub record IsRecoverable (image : Row) : Type 0 where
   pub sound : IsSound image.layout (list_of image) (columns image)
-  pub root : word_at image.layout image.words (Root 0) ≡ 0
   pub next : IsGeneration (suc (columns image).generation)
+
+-- The rows are made of the image, and the marks of all leaves and cells that its root leads to are set: so it is before
+-- the first move.
+pub record IsOpenedOn (image row : Row) : Type 0 where
+  pub layout : row.layout ≡ image.layout
+  pub is_row : IsRow image.layout row.words
+  pub marked : IsMarked image.layout image.words row.words
 
 -- The rows are those of a recovery of the image between two moves, and these moves are left.
 pub record IsUnderWay (image row : Row) (rest : List law.Move) : Type 0 where
@@ -56,13 +64,14 @@ pub record IsLeftOf (image : Row) (left : List ℕ) : Type 0 where
       (header_generation image.layout left ≡ suc (header_generation image.layout image.words))
 
 -- The rows are those of the image once it is recovered: by its columns, cached and durable, and as the image that is
--- durable then; and the root word and each volatile word are 0.
+-- durable then; the marks tell what the layer's root leads to, and each other volatile word is 0.
 pub record IsRecoveredTo (image row : Row) : Type 0 where
   pub layout : row.layout ≡ image.layout
   pub is_row : IsRow image.layout row.words
   pub rests : Rests image.layout (list_of image) (columns image) (columns_in image.layout row.words Cached)
       (columns_in image.layout row.words Durable)
   pub clear : IsClearBeside image.layout row.words
+  pub marks : MarksTellIn image.layout row.words
   pub left : IsLeftOf image (durable_row image.layout row.words)
 
 -- Why an image isn't opened: it isn't sound, and this is the first rule that it breaks and the first word at which it

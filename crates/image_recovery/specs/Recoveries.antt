@@ -4,7 +4,7 @@ use Rattle.pm_words.specs.declared.machine.Turn.{Turn}
 use Rattle.pm_words.specs.declared.machine.Turn.TheVariants.{Go, Done}
 use Rattle.pm_words.specs.Images.{Row}
 use Rattle.pm_words.specs.Locations.{image_words}
-use Rattle.pm_words.specs.Rows.{acted, durable_row, evicted, got, row_of}
+use Rattle.pm_words.specs.Rows.{acted, durable_row, evicted, got}
 use Rattle.image_recovery_law.specs.Moves as law
 use Rattle.image_recovery.specs.declared.making.Making.{Making}
 use Rattle.image_recovery.specs.declared.moves.Move.TheVariants.{Raise}
@@ -13,7 +13,7 @@ use Rattle.image_recovery.specs.declared.stepping.Recovery.{Recovery}
 use Rattle.image_recovery.specs.Plans.{columns, list_of, move_of}
 use Rattle.image_recovery.specs.Makings.{making_asks, making_left, making_of, making_turned}
 use Rattle.image_recovery.specs.MakingLaw.{IsAtMove}
-use Rattle.image_recovery.specs.Recovered.{IsRecoverable, IsUnderWay, IsRecoveredTo, IsLeftOf}
+use Rattle.image_recovery.specs.Recovered.{IsRecoverable, IsOpenedOn, IsUnderWay, IsRecoveredTo, IsLeftOf}
 
 -- The moves that have yet to begin.
 abbrev pub moves_left : Recovery → List law.Move
@@ -45,13 +45,14 @@ pub record MayFinish (row : Row) (making : Making) : Type 0 where
   pub recoverable : IsRecoverable image
   pub one : IsMakingOne image row rest making
 
--- A recovery of the image, and the memory on which it is made: no move has begun, and the words are the image's.
+-- A recovery of the image, and the memory on which it is made: no move has begun, and the words are the image's, but
+-- for the marks of its layer.
 pub record IsBegun (image : Row) (begun : Begun) : Type 0 where
   pub recoverable : IsRecoverable image
   pub recovering : IsRecovering image begun.recovery begun.memory
   pub none : begun.recovery.begun ≡ 0
   pub at_none : begun.recovery.making ≡ None
-  pub untouched : begun.memory ≡ record { layout = image.layout; words = row_of image.layout image.words }
+  pub opened : IsOpenedOn image begun.memory
 
 -- All moves are made.
 abbrev pub HasEnded : Recovery → Type 0

@@ -9,7 +9,7 @@ use crate::storing::Storing;
 use cat_key::WORDS;
 use pm_words::offsets::{header, line, node};
 use pm_words::{Action, LOG_LINES, Layout, Machine, Memory, Turn};
-use search_layer::Change;
+use tree_update::Change;
 
 /// A move of a recovery while it is made.
 #[derive(Clone, Copy)]
@@ -50,7 +50,7 @@ impl Machine for Making {
             },
             Making::Changes(change) => match change.resume(got) {
                 Turn::Go(next) => Turn::Go(Making::Changes(next)),
-                Turn::Done(answer) => Turn::Done(answer),
+                Turn::Done(_) => Turn::Done(()),
             },
         }
     }

@@ -7,7 +7,7 @@ ghost use Rattle.image_layer_rules.specs.Sound.{IsSoundByAll};
 ghost use Rattle.image_recovery_law.specs.Moves as law;
 ghost use Rattle.image_recovery.specs.Plans.{columns, move_of};
 ghost use Rattle.image_recovery.specs.Recovered.{IsRecoverable, IsUnderWay, MayGoOn, MayEnd, IsRecoveredTo};
-ghost use Rattle.image_recovery.specs.Recovered.{IsOpenFault};
+ghost use Rattle.image_recovery.specs.Recovered.{IsOpenFault, IsOpenedOn};
 ghost use Rattle.image_recovery.specs.Recoveries.{IsMakingOne, MayFinish};
 
 use crate::making::Making;
@@ -18,6 +18,7 @@ use pm_words::offsets::header;
 use pm_words::{Image, Machine, Memory, NoMemory, Steps, Turn};
 use std::alloc::Global;
 use std::sync::ledger::Ledger;
+use tree_marks::mark_tree;
 use version_lock::GENERATION_LIMIT;
 
 /// Why an image isn't opened.
@@ -75,6 +76,19 @@ pub fn make_all<L: Ledger>(memory: &mut Memory, moves: &[Move], steps: &mut Step
     }
 }
 
+/// The memory with an image, and with the marks of all leaves and cells that its tree reaches.
+pub(crate) fn opened(alloc: Global, image: Image) -> Result<Memory, NoMemory>
+    requires { IsSoundByAll image.layout image.words }
+    ensures { IfOk result (IsOpenedOn image) }
+{
+    // That the words are an image's, and then a row's, are clauses of these calls.
+    let _of_image = image.layout();
+    let mut memory = Memory::of(alloc, image)?;
+    mark_tree(&mut memory);
+    let _of_row = memory.layout();
+    Ok(memory)
+}
+
 /// The memory with the image once it is recovered, of an image that isn't refused.
 pub fn recovered<L: Ledger>(
     alloc: Global,
@@ -86,7 +100,7 @@ pub fn recovered<L: Ledger>(
     ensures { IfOk result (λ memory. IsRecoveredTo image memory) }
 {
     let moves = plan(alloc, &image)?;
-    let mut memory = Memory::of(alloc, image)?;
+    let mut memory = opened(alloc, image)?;
     make_all(&mut memory, &moves, steps);
     Ok(memory)
 }
@@ -112,8 +126,8 @@ pub fn refusal(image: &Image) -> Option<OpenFault>
 
 /// Recovers an image: the memory then has the same list, the same map and the same weight, in the next generation, with
 /// an empty log, a search layer that is exactly the list's, and no live slot out of its node's range; all of it is
-/// durable, and its volatile words are 0. An image that isn't sound is refused, by the first of all rules that it
-/// breaks, and so is one of the last generation.
+/// durable, and its volatile words are 0 but for the marks of what the layer reaches. An image that isn't sound is
+/// refused, by the first of all rules that it breaks, and so is one of the last generation.
 pub fn recover<L: Ledger>(
     alloc: Global,
     image: Image,

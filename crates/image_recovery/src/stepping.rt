@@ -10,7 +10,7 @@ ghost use Rattle.image_recovery.specs.Recoveries.{IsBegun};
 use crate::making::Making;
 use crate::moves::Move;
 use crate::planning::plan;
-use crate::recovering::{OpenFault, finish, refusal};
+use crate::recovering::{OpenFault, finish, opened, refusal};
 use pm_words::{Image, Machine, Memory, NoMemory, Steps, Turn};
 use std::alloc::Global;
 use std::sync::ledger::Ledger;
@@ -31,14 +31,15 @@ pub struct Begun {
     pub memory: Memory,
 }
 
-/// The recovery of an image that is sound by all rules, and the memory with it. No action is made.
+/// The recovery of an image that is sound by all rules, and the memory with it. No action is made; only the marks of
+/// what the search layer reaches are set.
 pub fn begin_sound(alloc: Global, image: Image) -> Result<Begun, NoMemory>
     requires sound { IsSoundByAll image.layout image.words }
     requires next { IsGeneration (suc (columns image).generation) }
     ensures { IfOk result (IsBegun image) }
 {
     let moves = plan(alloc, &image)?;
-    let memory = Memory::of(alloc, image)?;
+    let memory = opened(alloc, image)?;
     let recovery = Recovery::new(moves);
     Ok(Begun { recovery, memory })
 }

@@ -1,19 +1,15 @@
 -- A fresh image is sound by all rules.
-use Rattle.std.proofs.Common.{◌≡◌, ℕ, cond, List, [], ◌∷◌, Some, None, inl, inr, sym, subst, ap, ◌∙◌, arith}
-use Rattle.std.proofs.lemmas.Bool.{cases_eq, eq-eqb, ne_eqb}
+use Rattle.std.proofs.Common.{◌≡◌, ℕ, cond, List, [], ◌∷◌, Some, None, inl, inr, sym, ap, ◌∙◌, arith}
+use Rattle.std.proofs.lemmas.Bool.{eq-eqb}
 use Rattle.pm_words.specs.declared.layout.Layout.{Layout}
 use Rattle.pm_words.specs.Images.{fresh_words}
 use Rattle.pm_words.specs.Layouts.{IsLayout}
-use Rattle.pm_words.specs.Locations.{Node, Cached}
-use Rattle.pm_words.specs.Rows.{row_of}
+use Rattle.pm_words.specs.Locations.{Node}
 use Rattle.pm_words.proofs.Made.{fresh_at, fresh_image}
 use Rattle.data_node.specs.Spots.{Spot}
 use Rattle.data_node.specs.Lists.{ListNode, next_offset, IsIn, IsChain}
-use Rattle.layer_map.specs.Layers.{HasFew}
-use Rattle.search_layer.specs.Rows.{LayerWords, layer_words, image_layer_words}
-use Rattle.search_layer.specs.Laws.{fresh_layer}
-use Rattle.search_layer.proofs.Fresh.{fresh_is_at_rest}
-use Rattle.search_layer.specs.Kept.{kept, IsKept}
+use Rattle.tree_row.specs.Rows.{image_layer, IsFreshLayer}
+use Rattle.tree_row.proofs.FreshRow.{fresh_keeps}
 use Rattle.updater_law.specs.Covered.{IsCovered}
 use Rattle.updater_law.specs.Covers.{IsOpenFor}
 use Rattle.image_rules.specs.Nodes.{image_spot, image_list}
@@ -22,7 +18,6 @@ use Rattle.image_rules.proofs.WordLemmas.{image_spot-here}
 use Rattle.image_recovery_law.specs.Columns.{Columns, anchor_of, lines_of, layer_kept, NodesAreSound}
 use Rattle.image_recovery_law.specs.Rows.{image_columns}
 use Rattle.image_recovery_law.specs.SoundImages.{FreshHasSoundColumns}
-use Rattle.image_recovery_law.proofs.RowColumns.{start_has_columns}
 use Rattle.image_recovery_law.proofs.SoundColumns.{spots_are, sound_nodes}
 
 -- a list whose node 0 leads nowhere has node 0 alone
@@ -30,12 +25,6 @@ only_zero : (now : ℕ → Spot) (list : List ListNode) (n : ℕ) → IsChain no
 only_zero now list n chain end (inl e) = e
 only_zero now [] n chain end (inr is) = absurd is
 only_zero now (m ∷ behind) n chain end (inr is) = absurd (chain.1 (sym chain.0 ∙ end))
-
-fresh_key : (key node : ℕ) → fresh_layer key ≡ Some node → (key ≡ 0) × (node ≡ 0)
-fresh_key key node leads = elim (cases_eq key 0) [
-  | inl e ↦ (e, let first : Some 0 ≡ Some node = sym (ap (λ b. cond b (Some 0) None) (eq-eqb key 0 e)) ∙ leads in cc)
-  | inr ne ↦ absurd (let no_way : None ≡ Some node = sym (ap (λ b. cond b (Some 0) None) (ne_eqb key 0 ne)) ∙ leads in cc)
-]
 
 module _ (l : Layout) (is : IsLayout l) where
   abbrev words : List ℕ
@@ -47,18 +36,9 @@ module _ (l : Layout) (is : IsLayout l) where
   nodes : NodesAreSound l (image_list l words) i
   nodes = sound_nodes l words (fresh_image l is) (fresh_is_sound l is).0
 
-  -- its layer is that of a fresh row
-  words_are : layer_words l (row_of l words) Cached ≡ image_layer_words l words
-  words_are = ap (λ (c : Columns). c.layer) (start_has_columns l words (fresh_image l is)).0
-
-  row : IsKept l (image_layer_words l words)
-  row = subst (λ (w : LayerWords). IsKept l w) words_are (fresh_is_at_rest l is).0.row
-
-  few : HasFew l.nodes (layer_kept l i)
-  few = subst (λ (w : LayerWords). HasFew l.nodes (kept l w)) words_are (fresh_is_at_rest l is).1
-
-  layer_is : (key : ℕ) → layer_kept l i key ≡ fresh_layer key
-  layer_is key = subst (λ (w : LayerWords). kept l w key ≡ fresh_layer key) words_are ((fresh_is_at_rest l is).2 key)
+  -- its layer is that of an empty catalogue
+  fresh : IsFreshLayer l (image_layer l words)
+  fresh = fresh_keeps l is
 
   only_first : (n : ℕ) → IsIn (image_list l words) n → n ≡ 0
   only_first n among =
@@ -68,15 +48,15 @@ module _ (l : Layout) (is : IsLayout l) where
 
   covered : IsCovered (IsIn (image_list l words)) (anchor_of i) (layer_kept l i) (IsOpenFor (lines_of i))
   covered key node bare = (
-    λ leads. let zeros = fresh_key key node (sym (layer_is key) ∙ leads) in (inl zeros.1, ap (anchor_of i) zeros.1 ∙ nodes.makes.lowest ∙ sym zeros.0),
+    λ leads. let zeros = fresh.first key node leads in (inl zeros.1, ap (anchor_of i) zeros.1 ∙ nodes.makes.lowest ∙ sym zeros.0),
     λ has.
         let first : node ≡ 0 = only_first node has.0 in
         let zero_key : key ≡ 0 = sym has.1 ∙ ap (anchor_of i) first ∙ nodes.makes.lowest in
-        layer_is key ∙ ap (λ b. cond b (Some 0) None) (eq-eqb key 0 zero_key) ∙ ap Some (sym first),
+        fresh.keeps.same key ∙ ap (λ b. cond b (Some 0) None) (eq-eqb key 0 zero_key) ∙ ap Some (sym first),
   )
 
 pub fresh_has_sound_columns : FreshHasSoundColumns
 fresh_has_sound_columns l is = record {
   nodes = nodes l is;
-  layer = record { row = row l is; keys = λ key node leads. inl (fresh_key key node (sym (layer_is l is key) ∙ leads)).0; few = few l is; covered = covered l is };
+  layer = record { row = (fresh l is).keeps.lawful; keys = λ key node leads. inl ((fresh l is).first key node leads).0; few = (fresh l is).few; covered = covered l is };
 }

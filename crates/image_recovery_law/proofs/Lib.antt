@@ -7,7 +7,8 @@ pub mod Rest
 pub mod Plans
 pub mod RowColumns
 pub mod RowStores
-pub mod RowChanges
 pub mod RowMoves
+pub mod RowChanges
+pub mod RowPlans
 pub mod SoundColumns
 pub mod FreshColumns

@@ -4,14 +4,15 @@ use Rattle.std.proofs.lemmas.Bool.{cases_eq}
 use Rattle.pm_words.specs.declared.layout.Layout.{Layout}
 use Rattle.data_node.specs.Spots.{bitmap_offset}
 use Rattle.data_node.specs.Lists.{ListNode}
-use Rattle.layer_map.specs.Layers.{AreSame}
-use Rattle.search_layer.specs.ChangeStages.{Aim, Changing, made_of}
-use Rattle.search_layer.proofs.ChangeLaw.{change_is_backed, change_evicts, layer_is_either, mix_is_either}
+use Rattle.layer_map.specs.Layers.{Layer, AreSame}
+use Rattle.search_layer.specs.Rows.{LayerWords, AreEven, IsLayerMix}
+use Rattle.tree_update.specs.Stages.{Aim, made_of}
+use Rattle.search_layer.specs.ChangeStages.{Changing}
+use Rattle.search_layer.proofs.StageLemmas.{layer_is_either, mix_is_either}
 use Rattle.search_layer.specs.Kept.{kept}
 use Rattle.image_recovery_law.specs.Columns.{Columns, MendsLayer, Mends, IsMix}
-use Rattle.image_recovery_law.specs.Stages.{with_layer, aim_at, Begins, Raised, Trims, Trimmed, Unsets, Unsetting, Sets, Setting, Empties, Emptied, Wakes, Part, Nothing, Generation, Bits, State, IsEvenBut, IsStill, IsChanging}
+use Rattle.image_recovery_law.specs.Stages.{with_layer, aim_at, Begins, Raised, Trims, Trimmed, Unsets, Unsetting, Sets, Setting, Empties, Emptied, Wakes, Part, Nothing, Generation, Bits, State, IsEvenBut, IsStill, ChangesTo, IsChanging}
 use Rattle.image_recovery_law.specs.Laws.{CrashMends, EvictionsKeep}
-use Rattle.search_layer.specs.Rows.{AreEven}
 use Rattle.search_layer.proofs.RowLemmas.{even_are_same, mixes_are_even}
 
 -- columns with the same words are the same
@@ -137,26 +138,44 @@ module _ (now safe mix : Columns) (is : IsMix now safe mix) where
     layer = mixes_are_even now.layer safe.layer mix.layer still.layer is.layer;
   }
 
-module _ (l : Layout) (list : List ListNode) (o : Columns) (aim : Aim) (c : Changing) (now safe mix : Columns) (is : IsMix now safe mix) (ch : IsChanging l list o aim c now safe) where
+-- a mix of the cached words and of such a mix is one of the cached and the durable words
+mix_again : (w s mix more : LayerWords) → IsLayerMix w s mix → IsLayerMix w mix more → IsLayerMix w s more
+mix_again w s mix more one two p = elim (two p) [
+  | inl cached ↦ inl cached
+  | inr mixed ↦ elim (one p) [ inl cached ↦ inl (mixed ∙ cached) | inr durable ↦ inr (mixed ∙ durable) ]
+]
+
+changes_evict : (l : Layout) (aim : Aim) (before : Layer) (c : Changing) (w s mix : LayerWords) → IsLayerMix w s mix → ChangesTo l aim before c w s → ChangesTo l aim before c w mix
+changes_evict l aim before c w s mix is ch = record {
+  backs = record {
+    order = ch.backs.order;
+    cached = ch.backs.cached;
+    row = λ more more_is. ch.backs.row more (mix_again w s mix more is more_is);
+    layer = λ more more_is. ch.backs.layer more (mix_again w s mix more is more_is);
+  };
+  even = λ done. mixes_are_even w s mix (ch.even done) is;
+}
+
+module _ (l : Layout) (list : List ListNode) (o : Columns) (aim : Aim) (before : Layer) (c : Changing) (now safe mix : Columns) (is : IsMix now safe mix) (ch : IsChanging l list o aim before c now safe) where
   layer_mends : MendsLayer l o (kept l mix.layer)
   layer_mends =
-      let backs = change_is_backed l aim ch.before c now.layer safe.layer ch.layer.row ch.word ch.layer.sure ch.layer.at in
-      elim (mix_is_either aim ch.before c (kept l now.layer) (kept l mix.layer) ch.layer.at (backs.layer mix.layer is.layer)) [
-        | inl now_same ↦ elim (layer_is_either aim ch.before c (kept l now.layer) ch.layer.at) [
+      let backs = ch.layer.backs in
+      elim (mix_is_either aim before c (kept l now.layer) (kept l mix.layer) backs.cached (backs.layer mix.layer is.layer)) [
+        | inl now_same ↦ elim (layer_is_either aim before c (kept l now.layer) backs.cached) [
           | inl same ↦ as_before (λ k. now_same k ∙ same k)
-          | inr same ↦ let path : kept l mix.layer ≡ made_of aim ch.before = λ x k. (now_same k ∙ same k) x in subst (MendsLayer l o) (sym path) ch.last
+          | inr same ↦ let path : kept l mix.layer ≡ made_of aim before = λ x k. (now_same k ∙ same k) x in subst (MendsLayer l o) (sym path) ch.last
         ]
         | inr same ↦ as_before same
       ]
     where
-      as_before : AreSame (kept l mix.layer) ch.before → MendsLayer l o (kept l mix.layer)
-      as_before same = let path : kept l mix.layer ≡ ch.before = λ x k. same k x in subst (MendsLayer l o) (sym path) ch.first
+      as_before : AreSame (kept l mix.layer) before → MendsLayer l o (kept l mix.layer)
+      as_before same = let path : kept l mix.layer ≡ before = λ x k. same k x in subst (MendsLayer l o) (sym path) ch.first
 
   mended_layer : Mends l list o (with_layer now mix.layer)
   mended_layer = record {
     nodes = record { generation = ch.nodes.generation; spare = ch.nodes.spare; version = ch.nodes.version; words = ch.nodes.words; bits = ch.nodes.bits; fields = ch.nodes.fields };
     states = λ j. inl (ch.states j);
-    row = (change_is_backed l aim ch.before c now.layer safe.layer ch.layer.row ch.word ch.layer.sure ch.layer.at).row mix.layer is.layer;
+    row = ch.layer.backs.row mix.layer is.layer;
     layer = layer_mends;
   }
 
@@ -171,14 +190,12 @@ module _ (l : Layout) (list : List ListNode) (o : Columns) (aim : Aim) (c : Chan
       refl in
       subst (Mends l list o) (sym same) mended_layer
 
-  pub changing_evicts : IsChanging l list o aim c now mix
+  pub changing_evicts : IsChanging l list o aim before c now mix
   changing_evicts = record {
     nodes = ch.nodes;
     states = ch.states;
-    word = ch.word;
     even = even_mix now safe mix is Nothing ch.even;
-    before = ch.before;
-    layer = record { row = ch.layer.row; sure = change_evicts l aim ch.before c now.layer safe.layer mix.layer is.layer ch.layer.sure; at = ch.layer.at };
+    layer = changes_evict l aim before c now.layer safe.layer mix.layer is.layer ch.layer;
     first = ch.first;
     last = ch.last;
   }
@@ -189,9 +206,9 @@ crash_mends l list o now safe mix Raised sound sure is = still_mends now safe mi
 crash_mends l list o now safe mix (Trims left) sound sure is = still_mends now safe mix is l list o Nothing sure.0
 crash_mends l list o now safe mix (Trimmed n left) sound sure is = still_mends now safe mix is l list o (Bits n) sure.0
 crash_mends l list o now safe mix (Unsets j) sound sure is = still_mends now safe mix is l list o Nothing sure.0
-crash_mends l list o now safe mix (Unsetting j c) sound sure is = changing_mends l list o (aim_at now j 0) c now safe mix is sure.0
+crash_mends l list o now safe mix (Unsetting j before c) sound sure is = changing_mends l list o (aim_at now j 0) before c now safe mix is sure.0
 crash_mends l list o now safe mix (Sets j) sound sure is = still_mends now safe mix is l list o Nothing sure.0
-crash_mends l list o now safe mix (Setting j n c) sound sure is = changing_mends l list o (aim_at now j (suc n)) c now safe mix is sure.0
+crash_mends l list o now safe mix (Setting j n before c) sound sure is = changing_mends l list o (aim_at now j (suc n)) before c now safe mix is sure.0
 crash_mends l list o now safe mix (Empties j) sound sure is = still_mends now safe mix is l list o Nothing sure.0
 crash_mends l list o now safe mix (Emptied j) sound sure is = still_mends now safe mix is l list o (State j) sure.0
 crash_mends l list o now safe mix Wakes sound sure is = still_mends now safe mix is l list o Nothing sure.0
@@ -203,9 +220,9 @@ evictions_keep l list o now safe mix Raised sound sure is = (still_evicts now sa
 evictions_keep l list o now safe mix (Trims left) sound sure is = (still_evicts now safe mix is l list o Nothing sure.0, sure.1, sure.2, sure.3)
 evictions_keep l list o now safe mix (Trimmed n left) sound sure is = (still_evicts now safe mix is l list o (Bits n) sure.0, sure.1, sure.2, sure.3)
 evictions_keep l list o now safe mix (Unsets j) sound sure is = (still_evicts now safe mix is l list o Nothing sure.0, sure.1, sure.2, sure.3, sure.4)
-evictions_keep l list o now safe mix (Unsetting j c) sound sure is = (changing_evicts l list o (aim_at now j 0) c now safe mix is sure.0, sure.1, sure.2, sure.3, sure.4)
+evictions_keep l list o now safe mix (Unsetting j before c) sound sure is = (changing_evicts l list o (aim_at now j 0) before c now safe mix is sure.0, sure.1, sure.2, sure.3, sure.4)
 evictions_keep l list o now safe mix (Sets j) sound sure is = (still_evicts now safe mix is l list o Nothing sure.0, sure.1, sure.2, sure.3, sure.4, sure.5)
-evictions_keep l list o now safe mix (Setting j n c) sound sure is = (changing_evicts l list o (aim_at now j (suc n)) c now safe mix is sure.0, sure.1, sure.2, sure.3, sure.4, sure.5, sure.6, sure.7)
+evictions_keep l list o now safe mix (Setting j n before c) sound sure is = (changing_evicts l list o (aim_at now j (suc n)) before c now safe mix is sure.0, sure.1, sure.2, sure.3, sure.4, sure.5, sure.6, sure.7)
 evictions_keep l list o now safe mix (Empties j) sound sure is = (still_evicts now safe mix is l list o Nothing sure.0, sure.1, sure.2, sure.3, sure.4)
 evictions_keep l list o now safe mix (Emptied j) sound sure is = (still_evicts now safe mix is l list o (State j) sure.0, sure.1, sure.2, sure.3, sure.4)
 evictions_keep l list o now safe mix Wakes sound sure is = (still_evicts now safe mix is l list o Nothing sure.0, sure.1, sure.2, sure.3, sure.4)

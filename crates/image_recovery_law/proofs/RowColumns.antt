@@ -1,9 +1,9 @@
 -- Columns by the words that are read: which words alike make which columns alike.
-use Rattle.std.proofs.Common.{◌≡◌, ℕ, ◌+◌, ◌-◌, ◌*◌, ◌<◌, ◌≤◌, ◌&&◌, ◌⊎◌, Bool, true, false, cond, inl, inr, refl, sym, subst, ap, ◌∙◌, arith}
+use Rattle.std.proofs.Common.{◌≡◌, ◌≢◌, ℕ, ◌+◌, ◌-◌, ◌*◌, ◌<◌, ◌≤◌, ◌&&◌, ◌⊎◌, Bool, true, false, cond, inl, inr, refl, sym, subst, ap, arith}
 use Rattle.std.specs.Prelude.{nat_lt}
 use Rattle.std.proofs.lemmas.Bool.{cases_lt, and_parts, and_from, ltb-true, lt-ltb, false_from_ne_true}
 use Rattle.pm_words.specs.declared.layout.Layout.{Layout}
-use Rattle.pm_words.specs.Locations.{Word, Location, Header, Root, Node, Leaf, Cached, Durable, HasWord, part_of_word, node_words, word_at, at, Line, Cell}
+use Rattle.pm_words.specs.Locations.{Word, Location, Header, Root, Node, Cached, Durable, HasWord, part_of_word, node_words, word_at, at}
 use Rattle.pm_words.specs.Rows.{durable_row, row_of}
 use Rattle.pm_words.proofs.Made.{row_of-at, durable_row-at}
 use Rattle.search_layer.specs.Rows.{LayerWords, layer_words, image_layer_words}
@@ -11,7 +11,6 @@ use Rattle.search_layer.proofs.RowLemmas.{images_alike}
 use Rattle.updater_row_law.specs.Columns.{line_count, line_word}
 use Rattle.image_recovery_law.specs.Rows.{word_if, spare_count, spare_word, columns_by, StartHasColumns, CrashHasColumns}
 use Rattle.image_recovery_law.proofs.Mixes.{columns_path}
-use Rattle.layer_map.specs.Places.{is_layer_word}
 
 pub word_if-alike : (inside : Bool) (x y : ℕ) → (inside ≡ true → x ≡ y) → word_if inside x ≡ word_if inside y
 unfolding word_if
@@ -33,24 +32,20 @@ unfolding word_if
 word_if-either true x a b either = either refl
 word_if-either false x a b either = inl refl
 
--- the words that columns tell by name are those of an image, and none of the layer
 pub not_below : (a b : ℕ) → b ≤ a → nat_lt a b ≡ false
 not_below a b le = false_from_ne_true (nat_lt a b) (λ e. let lt : a < b = ltb-true a b e in omega arith)
 
+-- the words that columns tell by name are those of an image, and neither the root nor words of leaves and cells
 abbrev pub IsRest : Layout → Word → Type 0
-IsRest l w = HasWord l w × (part_of_word w ≤ 3)
+IsRest l w = HasWord l w × (part_of_word w ≤ 3) × (w ≢ Root 0)
 
--- no such word is of the layer
-pub rest_outside : (w : Word) → part_of_word w ≤ 3 → is_layer_word w ≡ false
-rest_outside (Header o) low = refl
-rest_outside (Root o) low = refl
-rest_outside (Node n o) low = refl
-rest_outside (Line c j o) low = refl
-rest_outside (Leaf k o) low = absurd (omega arith)
-rest_outside (Cell kind k o) low = refl
+-- the number of a word of the root's line
+abbrev root_at : Word → ℕ
+root_at (Root o) = o
+root_at _ = 0
 
 pub generation_rest : (l : Layout) → IsRest l (Header 5)
-generation_rest l = let small : 5 < 8 = omega arith in (small, omega arith)
+generation_rest l = let small : 5 < 8 = omega arith in (small, omega arith, λ e. cc)
 
 pub spare_low : (k : ℕ) → k < 2 → spare_word k ≡ Header (6 + k)
 spare_low k low = ap (λ b. cond b (Header (6 + k)) (Root (k - 1))) (lt-ltb k 2 low)
@@ -62,12 +57,12 @@ pub spare_rest : (l : Layout) (k : ℕ) → nat_lt k spare_count ≡ true → Is
 spare_rest l k is =
     let lt : k < 9 = ltb-true k spare_count is in
     elim (cases_lt k 2) [
-      | inl low ↦ subst (IsRest l) (sym (spare_low k low)) (let small : 6 + k < 8 = omega arith in (small, omega arith))
-      | inr high ↦ subst (IsRest l) (sym (spare_high k high)) (let small : k - 1 < 8 = omega arith in (small, omega arith))
+      | inl low ↦ subst (IsRest l) (sym (spare_low k low)) (let small : 6 + k < 8 = omega arith in (small, omega arith, λ e. cc))
+      | inr high ↦ subst (IsRest l) (sym (spare_high k high)) (let small : k - 1 < 8 = omega arith in (small, omega arith, λ e. let none : k - 1 ≡ 0 = ap root_at e in omega arith))
     ]
 
 pub version_rest : (l : Layout) (n : ℕ) → nat_lt n l.nodes ≡ true → IsRest l (Node n 0)
-version_rest l n is = ((ltb-true n l.nodes is, omega arith), omega arith)
+version_rest l n is = ((ltb-true n l.nodes is, omega arith), omega arith, λ e. cc)
 
 abbrev pub has_spot_word : Layout → ℕ → ℕ → Bool
 has_spot_word l n o = nat_lt n l.nodes && (nat_lt 0 o && nat_lt o (node_words l))
@@ -75,7 +70,7 @@ has_spot_word l n o = nat_lt n l.nodes && (nat_lt 0 o && nat_lt o (node_words l)
 pub spot_rest : (l : Layout) (n o : ℕ) → has_spot_word l n o ≡ true → IsRest l (Node n o)
 spot_rest l n o is =
     let parts = and_parts (nat_lt n l.nodes) (nat_lt 0 o && nat_lt o (node_words l)) is in
-    ((ltb-true n l.nodes parts.0, ltb-true o (node_words l) (and_parts (nat_lt 0 o) (nat_lt o (node_words l)) parts.1).1), omega arith)
+    ((ltb-true n l.nodes parts.0, ltb-true o (node_words l) (and_parts (nat_lt 0 o) (nat_lt o (node_words l)) parts.1).1), omega arith, λ e. cc)
 
 pub spot_here : (l : Layout) (n o : ℕ) → n < l.nodes → 0 < o → o < node_words l → has_spot_word l n o ≡ true
 spot_here l n o here some small = and_from (nat_lt n l.nodes) (nat_lt 0 o && nat_lt o (node_words l)) (lt-ltb n l.nodes here) (and_from (nat_lt 0 o) (nat_lt o (node_words l)) (lt-ltb 0 o some) (lt-ltb o (node_words l) small))
@@ -87,7 +82,7 @@ pub line_rest : (l : Layout) (j o : ℕ) → has_line_word l j o ≡ true → Is
 line_rest l j o is =
     let parts = and_parts (nat_lt j (line_count l)) (nat_lt o 8) is in
     let lt : j < 8 * l.callers = ltb-true j (line_count l) parts.0 in
-    ((omega arith, omega arith, ltb-true o 8 parts.1), omega arith)
+    ((omega arith, omega arith, ltb-true o 8 parts.1), omega arith, λ e. cc)
 
 pub line_here : (l : Layout) (j o : ℕ) → j < line_count l → o < 8 → has_line_word l j o ≡ true
 line_here l j o here small = and_from (nat_lt j (line_count l)) (nat_lt o 8) (lt-ltb j (line_count l) here) (lt-ltb o 8 small)

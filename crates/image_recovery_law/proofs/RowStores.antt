@@ -1,13 +1,14 @@
 -- What the stores of a recovery, and evictions, make of the columns of a row.
-use Rattle.std.proofs.Common.{◌≡◌, ◌≢◌, ℕ, ◌+◌, ◌*◌, ◌/◌, ◌%◌, ◌<◌, ◌≤◌, ◌⊎◌, List, length, slice_set, inl, inr, sym, subst, ap, ap₂, ◌∙◌, arith}
+use Rattle.std.proofs.Common.{◌≡◌, ◌≢◌, ℕ, ◌+◌, ◌*◌, ◌/◌, ◌%◌, ◌<◌, ◌≤◌, ◌⊎◌, false, List, length, slice_set, inl, refl, inr, sym, subst, ap, ap₂, ◌∙◌, arith}
 use Rattle.std.specs.Prelude.{nat_lt}
 use Rattle.std.proofs.lemmas.Bool.{cases_eq, cases_lt}
 use Rattle.pm_words.specs.declared.layout.Layout.{Layout}
 use Rattle.pm_words.specs.Locations.{Word, Location, Header, Node, Line, Cached, Durable, HasWord, HasLocation, IsVolatile, part_of_address, part_of_word, row_words, image_words, cached_address, durable_address, address_of, at}
 use Rattle.pm_words.specs.Rows.{evicted}
 use Rattle.pm_words.proofs.Apart.{at-set_other, at-set_same}
+use Rattle.layer_map.specs.Places.{is_layer_word}
 use Rattle.search_layer.specs.Rows.{layer_words}
-use Rattle.search_layer.proofs.RowLemmas.{eviction_mixes, layer_words_stay, rows_alike}
+use Rattle.search_layer.proofs.RowLemmas.{row_eviction_mixes, layer_words_stay, rows_alike}
 use Rattle.updater_row_law.specs.Columns.{line_word}
 use Rattle.updater_row_law.proofs.RowEvicts.{cached, durable}
 use Rattle.image_recovery_law.specs.Columns.{Columns}
@@ -15,7 +16,7 @@ use Rattle.image_recovery_law.specs.Stages.{with_generation, with_bits, with_emp
 use Rattle.image_recovery_law.specs.Rows.{word_if, spare_count, spare_word, columns_in, GenerationStores, BitsStore, EmptyStores, EvictsColumns, EvictionMixesColumns, DrainEvicts, VolatileLeaves}
 use Rattle.image_recovery_law.proofs.Mixes.{columns_path}
 use Rattle.image_recovery_law.proofs.Steps.{bits_word, bits_other, empty_here, empty_other}
-use Rattle.image_recovery_law.proofs.RowColumns.{word_of, word_if-here, word_if-either, IsRest, generation_rest, spare_low, spare_high, spare_rest, version_rest, has_spot_word, spot_rest, spot_here, has_line_word, line_rest, line_here, generation_same, spare_same, version_same, spot_same, line_same, columns_alike, rest_outside}
+use Rattle.image_recovery_law.proofs.RowColumns.{word_of, word_if-here, word_if-either, IsRest, generation_rest, spare_low, spare_high, spare_rest, version_rest, has_spot_word, spot_rest, spot_here, has_line_word, line_rest, line_here, generation_same, spare_same, version_same, spot_same, line_same, columns_alike}
 
 -- numbers by which words are told apart
 abbrev header_at : Word → ℕ
@@ -48,7 +49,7 @@ spare_apart k v late = elim (cases_lt k 2) [
 ]
 
 -- a store into a cached word that is none of the layer
-module _ (l : Layout) (words : List ℕ) (whole : length words ≡ row_words l) (v : Word) (has : HasWord l v) (value : ℕ) (rest : part_of_word v ≤ 3) where
+module _ (l : Layout) (words : List ℕ) (whole : length words ≡ row_words l) (v : Word) (has : HasWord l v) (value : ℕ) (outside : is_layer_word v ≡ false) where
   abbrev words' : List ℕ
   words' = slice_set words (address_of l (Cached v)) value
 
@@ -64,10 +65,10 @@ module _ (l : Layout) (words : List ℕ) (whole : length words ≡ row_words l) 
   durable_columns : columns_in l words' Durable ≡ columns_in l words Durable
   durable_columns = columns_alike l (λ w. at l words (Durable w)) (λ w. at l words' (Durable w)) (layer_words l words Durable) (layer_words l words' Durable)
       (λ w is. durable_same w is.0)
-      (layer_words_stay l words (Cached v) value has (rest_outside v rest)).durable
+      (layer_words_stay l words (Cached v) value has outside).durable
 
   layer_stays : layer_words l words' Cached ≡ layer_words l words Cached
-  layer_stays = (layer_words_stay l words (Cached v) value has (rest_outside v rest)).cached
+  layer_stays = (layer_words_stay l words (Cached v) value has outside).cached
 
   abbrev before : Word → ℕ
   before w = at l words (Cached w)
@@ -97,70 +98,67 @@ pub generation_stores : GenerationStores
 generation_stores l words value whole =
     let v : Word = Header 5 in
     let has : HasWord l (Header 5) = (generation_rest l).0 in
-    let low : part_of_word v ≤ 3 = omega arith in
     record {
       cached = columns_path (with_generation (columns_in l words Cached) value) (columns_in l (slice_set words (address_of l (Cached (Header 5))) value) Cached)
-          (cached_here l words whole v has value low)
-          (spares_kept l words whole v has value low spare_no_generation)
-          (versions_kept l words whole v has value low (λ n e. cc))
-          (λ n o. spot_kept l words whole v has value low n o (λ e. cc))
-          (λ j o. line_kept l words whole v has value low j o (λ e. cc))
-          (layer_stays l words whole v has value low);
-      durable = durable_columns l words whole v has value low;
+          (cached_here l words whole v has value refl)
+          (spares_kept l words whole v has value refl spare_no_generation)
+          (versions_kept l words whole v has value refl (λ n e. cc))
+          (λ n o. spot_kept l words whole v has value refl n o (λ e. cc))
+          (λ j o. line_kept l words whole v has value refl j o (λ e. cc))
+          (layer_stays l words whole v has value refl);
+      durable = durable_columns l words whole v has value refl;
     }
 
 pub bits_store : BitsStore
 bits_store l words n value whole within =
     let v : Word = Node n 1 in
     let has : HasWord l (Node n 1) = (within, omega arith) in
-    let low : part_of_word v ≤ 3 = omega arith in
     let i : Columns = columns_in l words Cached in
     let after : Word → ℕ = λ w. at l (slice_set words (address_of l (Cached (Node n 1))) value) (Cached w) in
     record {
       cached = columns_path (with_bits i n value) (columns_in l (slice_set words (address_of l (Cached (Node n 1))) value) Cached)
-          (generation_kept l words whole v has value low (λ e. cc))
-          (spares_kept l words whole v has value low (λ k. spare_apart k v (omega arith)))
-          (versions_kept l words whole v has value low (λ m e. let same : 0 ≡ 1 = ap offset_at e in omega arith))
+          (generation_kept l words whole v has value refl (λ e. cc))
+          (spares_kept l words whole v has value refl (λ k. spare_apart k v (omega arith)))
+          (versions_kept l words whole v has value refl (λ m e. let same : 0 ≡ 1 = ap offset_at e in omega arith))
           (λ m o. elim (cases_eq m n) [
-            | inr ne ↦ spot_kept l words whole v has value low m o (λ e. ne (ap node_at e)) ∙ sym (bits_other i n value m o (λ e. absurd (ne e)))
+            | inr ne ↦ spot_kept l words whole v has value refl m o (λ e. ne (ap node_at e)) ∙ sym (bits_other i n value m o (λ e. absurd (ne e)))
             | inl e ↦ elim (cases_eq o 1) [
-              | inr ne ↦ spot_kept l words whole v has value low m o (λ f. ne (ap offset_at f)) ∙ sym (bits_other i n value m o (λ f. ne))
+              | inr ne ↦ spot_kept l words whole v has value refl m o (λ f. ne (ap offset_at f)) ∙ sym (bits_other i n value m o (λ f. ne))
               | inl f ↦ subst (λ x. word_if (has_spot_word l x o) (after (Node x o)) ≡ (with_bits i n value).spot x o) (sym e)
                   (subst (λ x. word_if (has_spot_word l n x) (after (Node n x)) ≡ (with_bits i n value).spot n x) (sym f)
                   (word_if-here (has_spot_word l n 1) (after (Node n 1)) (spot_here l n 1 within (omega arith) (omega arith))
-                  ∙ cached_here l words whole v has value low ∙ sym (bits_word i n value)))
+                  ∙ cached_here l words whole v has value refl ∙ sym (bits_word i n value)))
             ]
           ])
-          (λ j o. line_kept l words whole v has value low j o (λ e. cc))
-          (layer_stays l words whole v has value low);
-      durable = durable_columns l words whole v has value low;
+          (λ j o. line_kept l words whole v has value refl j o (λ e. cc))
+          (layer_stays l words whole v has value refl);
+      durable = durable_columns l words whole v has value refl;
     }
 
 pub empty_stores : EmptyStores
 empty_stores l words j whole within =
     let v : Word = line_word 0 j in
     let has : HasWord l (line_word 0 j) = (omega arith, omega arith, omega arith) in
-    let low : part_of_word v ≤ 3 = omega arith in
     let i : Columns = columns_in l words Cached in
     let after : Word → ℕ = λ w. at l (slice_set words (address_of l (Cached (line_word 0 j))) 0) (Cached w) in
     record {
       cached = columns_path (with_empty i j) (columns_in l (slice_set words (address_of l (Cached (line_word 0 j))) 0) Cached)
-          (generation_kept l words whole v has 0 low (λ e. cc))
-          (spares_kept l words whole v has 0 low (λ k. spare_apart k v (omega arith)))
-          (versions_kept l words whole v has 0 low (λ m e. cc))
-          (λ m o. spot_kept l words whole v has 0 low m o (λ e. cc))
+          (generation_kept l words whole v has 0 refl (λ e. cc))
+          (spares_kept l words whole v has 0 refl (λ k. spare_apart k v (omega arith)))
+          (versions_kept l words whole v has 0 refl (λ m e. cc))
+          (λ m o. spot_kept l words whole v has 0 refl m o (λ e. cc))
           (λ k o. elim (cases_eq k j) [
-            | inr ne ↦ line_kept l words whole v has 0 low k o (λ e. let same : 8 * (k / 8) + k % 8 ≡ 8 * (j / 8) + j % 8 = ap line_at e in ne (omega arith)) ∙ sym (empty_other i j k o (λ e. absurd (ne e)))
+            | inr ne ↦ line_kept l words whole v has 0 refl k o (λ e. let same : 8 * (k / 8) + k % 8 ≡ 8 * (j / 8) + j % 8 = ap line_at e in ne (omega arith)) ∙ sym (empty_other i j k o (λ e. absurd (ne e)))
             | inl e ↦ elim (cases_eq o 0) [
-              | inr ne ↦ line_kept l words whole v has 0 low k o (λ f. ne (ap offset_at f)) ∙ sym (empty_other i j k o (λ f. ne))
+              | inr ne ↦ line_kept l words whole v has 0 refl k o (λ f. ne (ap offset_at f)) ∙ sym (empty_other i j k o (λ f. ne))
               | inl f ↦ subst (λ x. word_if (has_line_word l x o) (after (line_word o x)) ≡ (with_empty i j).line x o) (sym e)
                   (subst (λ x. word_if (has_line_word l j x) (after (line_word x j)) ≡ (with_empty i j).line j x) (sym f)
                   (word_if-here (has_line_word l j 0) (after (line_word 0 j)) (line_here l j 0 within (omega arith))
-                  ∙ cached_here l words whole v has 0 low ∙ sym (empty_here i j)))
+                  ∙ cached_here l words whole v has 0 refl ∙ sym (empty_here i j)))
             ]
           ])
-          (layer_stays l words whole v has 0 low);
-      durable = durable_columns l words whole v has 0 low;
+          (layer_stays l words whole v has 0 refl);
+      durable = durable_columns l words whole v has 0 refl;
     }
 
 -- a word that becomes durable
@@ -170,7 +168,7 @@ module _ (l : Layout) (words : List ℕ) (word : ℕ) (whole : length words ≡ 
 
   evicts : EvictsColumns l words (evicted l words word)
   evicts =
-      let layer = eviction_mixes l words word whole within in
+      let layer = row_eviction_mixes l words word whole within in
       let now : Word → ℕ = λ w. at l words (Cached w) in
       let safe : Word → ℕ = λ w. at l words (Durable w) in
       let mix : Word → ℕ = λ w. at l (evicted l words word) (Durable w) in

@@ -5,19 +5,20 @@ use Rattle.pm_words.specs.declared.layout.Layout.{Layout}
 use Rattle.data_node.specs.Spots.{Spot, updated, bitmap_offset}
 use Rattle.data_node.specs.Lists.{ListNode, anchor_in, range_in, IsMember, IsIn, IsChain, StaysIn}
 use Rattle.data_node.proofs.SpotLemmas.{updated-same, updated-other}
-use Rattle.layer_map.specs.Layers.{HasFew, changed_at, node_of}
-use Rattle.search_layer.specs.Rows.{LayerWords}
-use Rattle.search_layer.specs.ChangeStages.{Aim, Changing, Changed, made_of}
-use Rattle.search_layer.proofs.ChangeLaw as layer_law
-use Rattle.search_layer.specs.Laws.{start_stage}
-use Rattle.search_layer.proofs.RowLemmas.{even_are_same, even_with_itself}
+use Rattle.layer_map.specs.Layers.{Layer, HasFew, changed_at, node_of}
+use Rattle.search_layer.specs.Rows.{LayerWords, IsLayerMix}
+use Rattle.tree_update.specs.declared.change.ChangeAt.{ChangeAt}
+use Rattle.tree_update.specs.Stages.{Aim, made_of}
+use Rattle.search_layer.specs.ChangeStages.{Changing, Making, Changed, start_stage}
+use Rattle.search_layer.specs.Kept.{kept, IsKept}
+use Rattle.search_layer.proofs.RowLemmas.{even_are_same, mixes_are_even}
 use Rattle.layer_map.proofs.Pigeons.{different_fit}
 use Rattle.updater_law.specs.Covers.{IsOpenFor}
 use Rattle.updater_law.specs.Covered.{ListHas}
 use Rattle.updater_law.proofs.Columns.{here, other}
 use Rattle.updater_row_law.specs.Columns.{line_count}
 use Rattle.image_recovery_law.specs.Columns.{Columns, anchor_of, line_anchor, lines_of, layer_kept, IsNameKey, IsSound, IsTrim, MendsNodes, MendsLayer, Mends}
-use Rattle.image_recovery_law.specs.Stages.{with_bits, with_empty, with_layer, nodes_behind, nodes_of, IsOneOf, aim_at, Stage, ChangesOn, Step, raises, raised, passes_node, trims, trimmed, all_trimmed, passes_unset, unsets, unsetting, unset, all_unset, passes_set, sets, setting, set, all_set, passes_empty, empties, emptied, all_empty, Nothing, Bits, State, IsStill, IsChanging, AreUntouched, AreListed, Sure}
+use Rattle.image_recovery_law.specs.Stages.{with_bits, with_empty, with_layer, nodes_behind, nodes_of, IsOneOf, aim_at, Stage, ChangesTo, Step, raises, raised, passes_node, trims, trimmed, all_trimmed, passes_unset, unsets, unsetting, unset, all_unset, passes_set, sets, setting, set, all_set, passes_empty, empties, emptied, all_empty, Nothing, Bits, State, IsStill, IsChanging, AreUntouched, AreListed, Sure}
 use Rattle.image_recovery_law.specs.Laws.{Starts, StepsKeep}
 use Rattle.image_recovery_law.proofs.Alike.{anchor_same, anchor_kept, trim_twice}
 use Rattle.image_recovery_law.proofs.Mended.{apart_anchors, in_image, is_open_or_not, used_line, line_named, mends_none}
@@ -95,6 +96,10 @@ here_changed layer key v k e = ap (λ b. cond b v (layer k)) (eq-eqb k key e)
 else_changed : (layer : ℕ → Option ℕ) (key : ℕ) (v : Option ℕ) (k : ℕ) → k ≢ key → changed_at layer key v k ≡ layer k
 else_changed layer key v k ne = ap (λ b. cond b v (layer k)) (ne_eqb k key ne)
 
+-- a change that goes on isn't done
+not_done : (part : ChangeAt) → Making part ≡ Changed → ⊥
+not_done part e = cc
+
 node_suc : (n : ℕ) → node_of (suc n) ≡ Some n
 node_suc n = ap (λ b. cond b None (Some (suc n - 1))) (ne_eqb (suc n) 0 (λ e. omega arith)) ∙ ap Some (omega arith)
 
@@ -159,38 +164,46 @@ module _ (l : Layout) (list : List ListNode) (o : Columns) (sound : IsSound l li
     lines_now nodes j = anchor_same (o.line j) (now.line j) (nodes.fields j 3 (λ e. cc)) (nodes.fields j 4 (λ e. cc)) (nodes.fields j 5 (λ e. cc))
 
     -- the beginning of a change, a step of it, and its end
-    change_begins : (aim : Aim) → aim.word ≤ l.nodes → IsStill l list o Nothing now safe → AreUntouched o now → MendsLayer l o (made_of aim (layer_kept l now))
-        → IsChanging l list o aim (start_stage l aim) now safe
-    change_begins aim word still untouched last = let begun = layer_law.change_begins l (layer_kept l now) aim now.layer safe.layer still.cached.row still.layer (λ k. refl) in record {
-      nodes = still.cached.nodes;
-      states = untouched;
-      word = word;
-      even = still.even;
-      before = layer_kept l now;
-      layer = record { row = still.cached.row; sure = begun.0; at = begun.1 };
-      first = still.cached.layer;
-      last = last;
-    }
+    change_begins : (aim : Aim) → IsStill l list o Nothing now safe → AreUntouched o now → MendsLayer l o (made_of aim (layer_kept l now))
+        → IsChanging l list o aim (layer_kept l now) (start_stage l aim) now safe
+    change_begins aim still untouched last =
+        let same : (mix : LayerWords) → IsLayerMix now.layer safe.layer mix → mix ≡ now.layer =
+        λ mix is. even_are_same now.layer mix (mixes_are_even now.layer safe.layer mix still.layer is) in
+        record {
+          nodes = still.cached.nodes;
+          states = untouched;
+          even = still.even;
+          layer = record {
+            backs = record {
+              order = still.cached.row;
+              cached = λ k. refl;
+              row = λ mix is. subst (IsKept l) (sym (same mix is)) still.cached.row;
+              layer = λ mix is. inl (λ k. ap (λ (w : LayerWords). kept l w k) (same mix is));
+            };
+            even = λ e. absurd (not_done _ e);
+          };
+          first = still.cached.layer;
+          last = last;
+        }
 
-    change_goes : (aim : Aim) (c next : Changing) (w s : LayerWords) → ChangesOn l aim c now.layer safe.layer next w s → IsChanging l list o aim c now safe → IsChanging l list o aim next (with_layer now w) (with_layer safe s)
-    change_goes aim c next w s goes ch = record {
+    change_goes : (aim : Aim) (before : Layer) (c next : Changing) (w s : LayerWords) → ChangesTo l aim before next w s → IsChanging l list o aim before c now safe
+        → IsChanging l list o aim before next (with_layer now w) (with_layer safe s)
+    change_goes aim before c next w s goes ch = record {
       nodes = record { generation = ch.nodes.generation; spare = ch.nodes.spare; version = ch.nodes.version; words = ch.nodes.words; bits = ch.nodes.bits; fields = ch.nodes.fields };
       states = ch.states;
-      word = ch.word;
       even = record { generation = ch.even.generation; spare = ch.even.spare; version = ch.even.version; spot = ch.even.spot; line = ch.even.line };
-      before = ch.before;
-      layer = goes ch.before ch.first.few ch.layer;
+      layer = goes;
       first = ch.first;
       last = ch.last;
     }
 
-    change_ends : (aim : Aim) → IsChanging l list o aim Changed now safe → IsStill l list o Nothing now safe
-    change_ends aim ch =
-        let ends = layer_law.change_ends l ch.before aim now.layer safe.layer ch.layer.sure ch.layer.at in
-        let layer : layer_kept l now ≡ made_of aim ch.before = λ x k. ends.1 k x in
-        let cached : Mends l list o now = record { nodes = ch.nodes; states = λ j. inl (ch.states j); row = ch.layer.row; layer = subst (MendsLayer l o) (sym layer) ch.last } in
-        let same : safe ≡ now = columns_path now safe (ch.even.generation (λ e. cc)) ch.even.spare ch.even.version (λ n k. ch.even.spot n k (λ e. absurd cc)) (λ n k. ch.even.line n k (λ e. absurd cc)) (even_are_same now.layer safe.layer ends.0) in
-        record { cached = cached; durable = subst (Mends l list o) (sym same) cached; even = ch.even; layer = ends.0 }
+    change_ends : (aim : Aim) (before : Layer) → IsChanging l list o aim before Changed now safe → IsStill l list o Nothing now safe
+    change_ends aim before ch =
+        let even = ch.layer.even refl in
+        let layer : layer_kept l now ≡ made_of aim before = λ x k. ch.layer.backs.cached k x in
+        let cached : Mends l list o now = record { nodes = ch.nodes; states = λ j. inl (ch.states j); row = ch.layer.backs.order; layer = subst (MendsLayer l o) (sym layer) ch.last } in
+        let same : safe ≡ now = columns_path now safe (ch.even.generation (λ e. cc)) ch.even.spare ch.even.version (λ n k. ch.even.spot n k (λ e. absurd cc)) (λ n k. ch.even.line n k (λ e. absurd cc)) (even_are_same now.layer safe.layer even) in
+        record { cached = cached; durable = subst (Mends l list o) (sym same) cached; even = ch.even; layer = even }
 
     step : {s s' : Stage} {now' safe' : Columns} → Step l list now safe s s' now' safe' → Sure l list o s now safe → Sure l list o s' now' safe'
     unfolding change_begins change_goes anchor_in
@@ -315,17 +328,17 @@ module _ (l : Layout) (list : List ListNode) (o : Columns) (sound : IsSound l li
     )
     step (unsets j used none) (still, untouched, generation, done, out) =
         let opened : IsOpenFor (lines_of o) (line_anchor now j) = record { line = j; state = λ e. used (untouched j ∙ e); anchor = sym (lines_now still.cached.nodes j) } in
-        (change_begins (aim_at now j 0) (omega arith) still untouched (unset_layer (layer_kept l now) (line_anchor now j) opened still.cached.layer), generation, done, out, λ e. used (untouched j ∙ e))
-    step (unsetting j c next w x goes) (ch, generation, done, out, used) = (change_goes (aim_at now j 0) c next w x goes ch, generation, done, out, used)
-    step (unset j) (ch, generation, done, out, used) =
+        (change_begins (aim_at now j 0) still untouched (unset_layer (layer_kept l now) (line_anchor now j) opened still.cached.layer), generation, done, out, λ e. used (untouched j ∙ e))
+    step (unsetting j before c next w x goes) (ch, generation, done, out, used) = (change_goes (aim_at now j 0) before c next w x goes ch, generation, done, out, used)
+    step (unset j before) (ch, generation, done, out, used) =
         let key : ℕ = line_anchor now j in (
-          change_ends (aim_at now j 0) ch,
+          change_ends (aim_at now j 0) before ch,
           ch.states,
           generation,
           done,
-          λ i lt busy none. ch.layer.at (line_anchor o i) ∙ elim (cases_eq (line_anchor o i) key) [
-            | inl e ↦ here_changed ch.before key None (line_anchor o i) e
-            | inr ne ↦ else_changed ch.before key None (line_anchor o i) ne
+          λ i lt busy none. ch.layer.backs.cached (line_anchor o i) ∙ elim (cases_eq (line_anchor o i) key) [
+            | inl e ↦ here_changed before key None (line_anchor o i) e
+            | inr ne ↦ else_changed before key None (line_anchor o i) ne
                 ∙ out i (let apart : i ≢ j = λ e. ne (ap (line_anchor o) e ∙ sym (lines_now ch.nodes j)) in omega (arith, apart)) busy none
           ],
         )
@@ -365,9 +378,8 @@ module _ (l : Layout) (list : List ListNode) (o : Columns) (sound : IsSound l li
         let busy : o.line j 0 ≢ 0 = λ e. used (untouched j ∙ e) in
         let opened : IsOpenFor (lines_of o) (line_anchor now j) = record { line = j; state = busy; anchor = sym same } in
         let own : anchor_of o n ≡ line_anchor now j = sym (anchors_now still.cached.nodes n) ∙ anchor in
-        let last = set_layer (layer_kept l now) (line_anchor now j) n opened is own (subst IsNameKey (sym same) (line_named l list o sound j busy)) listed still.cached.layer in
-        let within : n < l.nodes = in_image l list o sound n is in (
-          change_begins (aim_at now j (suc n)) (omega arith) still untouched (subst (λ v. MendsLayer l o (changed_at (layer_kept l now) (line_anchor now j) v)) (sym (node_suc n)) last.0),
+        let last = set_layer (layer_kept l now) (line_anchor now j) n opened is own (subst IsNameKey (sym same) (line_named l list o sound j busy)) listed still.cached.layer in (
+          change_begins (aim_at now j (suc n)) still untouched (subst (λ v. MendsLayer l o (changed_at (layer_kept l now) (line_anchor now j) v)) (sym (node_suc n)) last.0),
           generation,
           done,
           listed,
@@ -376,22 +388,22 @@ module _ (l : Layout) (list : List ListNode) (o : Columns) (sound : IsSound l li
           is,
           own ∙ same,
         )
-    step (setting j n c next w x goes) (ch, generation, done, listed, stand, busy, is, own) = (change_goes (aim_at now j (suc n)) c next w x goes ch, generation, done, listed, stand, busy, is, own)
-    step (set j n) (ch, generation, done, listed, stand, busy, is, own) =
+    step (setting j n before c next w x goes) (ch, generation, done, listed, stand, busy, is, own) = (change_goes (aim_at now j (suc n)) before c next w x goes ch, generation, done, listed, stand, busy, is, own)
+    step (set j n before) (ch, generation, done, listed, stand, busy, is, own) =
         let key : ℕ = line_anchor now j in
         let same : key ≡ line_anchor o j = lines_now ch.nodes j in
-        let layer : (k : ℕ) → layer_kept l now k ≡ changed_at ch.before key (Some n) k = λ k. ch.layer.at k ∙ ap (λ v. changed_at ch.before key v k) (node_suc n) in (
-          change_ends (aim_at now j (suc n)) ch,
+        let layer : (k : ℕ) → layer_kept l now k ≡ changed_at before key (Some n) k = λ k. ch.layer.backs.cached k ∙ ap (λ v. changed_at before key v k) (node_suc n) in (
+          change_ends (aim_at now j (suc n)) before ch,
           ch.states,
           generation,
           done,
           λ k node leads. elim (cases_eq k key) [
             | inl e ↦ (n, is, own ∙ sym same ∙ sym e)
-            | inr ne ↦ listed k node (sym (else_changed ch.before key (Some n) k ne) ∙ sym (layer k) ∙ leads)
+            | inr ne ↦ listed k node (sym (else_changed before key (Some n) k ne) ∙ sym (layer k) ∙ leads)
           ],
           λ i m lt used is' anchor. layer (line_anchor o i) ∙ elim (cases_eq (line_anchor o i) key) [
-            | inl e ↦ here_changed ch.before key (Some n) (line_anchor o i) e ∙ ap Some (apart_anchors l list o sound n m is is' (own ∙ sym same ∙ sym e ∙ sym anchor))
-            | inr ne ↦ else_changed ch.before key (Some n) (line_anchor o i) ne
+            | inl e ↦ here_changed before key (Some n) (line_anchor o i) e ∙ ap Some (apart_anchors l list o sound n m is is' (own ∙ sym same ∙ sym e ∙ sym anchor))
+            | inr ne ↦ else_changed before key (Some n) (line_anchor o i) ne
                 ∙ stand i m (let apart : i ≢ j = λ e. ne (ap (line_anchor o) e ∙ sym same) in omega (arith, apart)) used is' anchor
           ],
         )
@@ -507,7 +519,7 @@ starts l list o sound = (
     cached = mends_none l list o sound;
     durable = mends_none l list o sound;
     even = record { generation = λ ne. refl; spare = λ k. refl; version = λ n. refl; spot = λ n k ne. refl; line = λ n k ne. refl };
-    layer = even_with_itself o.layer;
+    layer = λ p. refl;
   },
   λ j. refl,
   refl,

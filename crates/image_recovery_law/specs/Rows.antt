@@ -1,5 +1,5 @@
 -- The columns of an image and of each twin of a row, and what the actions of a recovery do to those.
-use Rattle.std.specs.Prelude.{◌≡◌, ℕ, ◌+◌, ◌-◌, ◌<◌, ◌≤◌, ◌&&◌, nat_lt, Bool, if◌then◌else◌, List, length}
+use Rattle.std.specs.Prelude.{◌≡◌, ℕ, ◌+◌, ◌-◌, ◌<◌, ◌&&◌, nat_lt, Bool, if◌then◌else◌, List, length}
 use Rattle.std.specs.Prelude.{slice_index}
 use Rattle.pm_words.specs.Codes.{empty_state}
 use Rattle.pm_words.specs.declared.layout.Layout.{Layout}
@@ -9,14 +9,13 @@ use Rattle.pm_words.specs.Images.{IsImage}
 use Rattle.pm_words.specs.Locations.{Word, Location, Header, Root, Node, Cached, Durable, HasLocation, IsVolatile}
 use Rattle.pm_words.specs.Locations.{node_words, row_words, image_words, cached_address, address_of, at}
 use Rattle.pm_words.specs.Locations.{word_at}
-use Rattle.pm_words.specs.Rows.{acted, got, evicted, durable_row, row_of}
+use Rattle.pm_words.specs.Rows.{acted, evicted, durable_row, row_of}
 use Rattle.pm_words.specs.Offsets.{version_offset}
 use Rattle.data_node.specs.Spots.{bitmap_offset}
 use Rattle.search_layer.specs.Rows.{LayerWords, layer_words, image_layer_words}
-use Rattle.search_layer.specs.ChangeStages.{Aim, Changing, ChangeStep}
 use Rattle.updater_row_law.specs.Columns.{line_count, line_word}
 use Rattle.image_recovery_law.specs.Columns.{Columns, IsMix}
-use Rattle.image_recovery_law.specs.Stages.{with_generation, with_bits, with_empty, ChangesOn}
+use Rattle.image_recovery_law.specs.Stages.{with_generation, with_bits, with_empty}
 
 -- a word, where it is one of the image
 unfoldable pub word_if : Bool → ℕ → ℕ
@@ -100,10 +99,3 @@ pub record KeepsColumns (l : Layout) (words after : List ℕ) : Type 0 where
 abbrev pub VolatileLeaves : Type 0
 VolatileLeaves = (l : Layout) (words : List ℕ) (p : Location) (value : ℕ) → HasLocation l p → IsVolatile p →
     KeepsColumns l words (acted l words (Store (address_of l p) value))
-
--- The change of the layer by its actions on a row is a change as the stages of a recovery want it.
-abbrev pub ChangesOnRows : Type 0
-ChangesOnRows = (l : Layout) (aim : Aim) (words : List ℕ) (s t : Changing) (a : Action) →
-    length words ≡ row_words l → aim.word ≤ l.nodes → ChangeStep l aim s a (got l words a) t →
-    ChangesOn l aim s (layer_words l words Cached) (layer_words l words Durable) t
-    (layer_words l (acted l words a) Cached) (layer_words l (acted l words a) Durable)

@@ -4,11 +4,11 @@ use Rattle.pm_words.specs.Codes.{empty_state}
 use Rattle.pm_words.specs.declared.layout.Layout.{Layout}
 use Rattle.data_node.specs.Spots.{updated, bitmap_offset}
 use Rattle.data_node.specs.Lists.{ListNode, range_in, IsIn, StaysIn}
-use Rattle.layer_map.specs.Layers.{Layer, HasFew}
+use Rattle.layer_map.specs.Layers.{Layer}
 use Rattle.search_layer.specs.Rows.{LayerWords, AreEven}
-use Rattle.search_layer.specs.ChangeStages.{Aim, Changing, Changed, LayerAt, made_of}
-use Rattle.search_layer.specs.Kept.{kept, IsKept}
-use Rattle.search_layer.specs.Laws.{SureOn, start_stage}
+use Rattle.tree_update.specs.Stages.{Aim, made_of}
+use Rattle.search_layer.specs.ChangeStages.{Changing, Changed, start_stage}
+use Rattle.search_layer.specs.Laws.{BacksLayer}
 use Rattle.updater_law.specs.Covers.{set_at}
 use Rattle.updater_row_law.specs.Columns.{line_count}
 use Rattle.image_recovery_law.specs.Columns.{Columns, anchor_of, line_anchor, layer_kept, IsTrim, MendsNodes}
@@ -60,29 +60,24 @@ pub data Stage : Type 0 where
   -- the bitmap of this node is stored; these nodes come after it
   Trimmed : ℕ → List ℕ → Stage
   -- anchors that the list doesn't have are taken out of the layer, but for those of the lines from this one on; then
-  -- the change that takes out that of this line is here
+  -- the change that takes out that of this line, which began on this layer, is here
   Unsets : ℕ → Stage
-  Unsetting : ℕ → Changing → Stage
+  Unsetting : ℕ → Layer → Changing → Stage
   -- those that the list has are set, but for those of the lines from this one on; then the change that sets that of
-  -- this line, to this node, is here
+  -- this line, to this node, which began on this layer, is here
   Sets : ℕ → Stage
-  Setting : ℕ → ℕ → Changing → Stage
+  Setting : ℕ → ℕ → Layer → Changing → Stage
   -- lines below this one are EMPTY, and durable; then EMPTY of this one is stored
   Empties : ℕ → Stage
   Emptied : ℕ → Stage
   -- all is done, and all words are durable
   Wakes : Stage
 
--- What a change of the layer knows of its words, cached (w) and durable (s), where it began on this layer; and a step
--- of it, from these words to those.
+-- What the words of the layer are, cached (w) and durable (s), while a change is here that began on this layer: in
+-- order, whichever of them are durable, with the layer of its stage; and at its end all are durable.
 pub record ChangesTo (l : Layout) (aim : Aim) (before : Layer) (c : Changing) (w s : LayerWords) : Type 0 where
-  pub row : IsKept l w
-  pub sure : SureOn l before aim c w s
-  pub at : LayerAt aim before c (kept l w)
-
-abbrev pub ChangesOn : Layout → Aim → Changing → LayerWords → LayerWords → Changing → LayerWords → LayerWords → Type 0
-ChangesOn l aim c w s next w' s' =
-    (before : Layer) → HasFew l.nodes before → ChangesTo l aim before c w s → ChangesTo l aim before next w' s'
+  pub backs : BacksLayer l aim before c w s
+  pub even : c ≡ Changed → AreEven w s
 
 -- The kinds of step, from the cached (now) and the durable (safe) columns: to a stage and to the columns afterwards.
 pub data Step (l : Layout) (list : List ListNode) (now safe : Columns) : Stage → Stage → Columns → Columns → Type 0
@@ -102,21 +97,21 @@ pub data Step (l : Layout) (list : List ListNode) (now safe : Columns) : Stage �
     passes_unset : (j : ℕ) → (now.line j 0 ≡ empty_state) ⊎ HasAnchor list now j →
         Step l list now safe (Unsets j) (Unsets (suc j)) now safe
     unsets : (j : ℕ) → now.line j 0 ≢ empty_state → LacksAnchor list now j →
-        Step l list now safe (Unsets j) (Unsetting j (start_stage l (aim_at now j 0))) now safe
-    unsetting : (j : ℕ) (c next : Changing) (w s : LayerWords) →
-        ChangesOn l (aim_at now j 0) c now.layer safe.layer next w s →
-        Step l list now safe (Unsetting j c) (Unsetting j next) (with_layer now w) (with_layer safe s)
-    unset : (j : ℕ) → Step l list now safe (Unsetting j Changed) (Unsets (suc j)) now safe
+        Step l list now safe (Unsets j) (Unsetting j (layer_kept l now) (start_stage l (aim_at now j 0))) now safe
+    unsetting : (j : ℕ) (before : Layer) (c next : Changing) (w s : LayerWords) →
+        ChangesTo l (aim_at now j 0) before next w s →
+        Step l list now safe (Unsetting j before c) (Unsetting j before next) (with_layer now w) (with_layer safe s)
+    unset : (j : ℕ) (before : Layer) → Step l list now safe (Unsetting j before Changed) (Unsets (suc j)) now safe
     all_unset : (j : ℕ) → line_count l ≤ j → Step l list now safe (Unsets j) (Sets 0) now safe
     -- the same of anchors that are to be set
     passes_set : (j : ℕ) → (now.line j 0 ≡ empty_state) ⊎ LacksAnchor list now j →
         Step l list now safe (Sets j) (Sets (suc j)) now safe
     sets : (j n : ℕ) → now.line j 0 ≢ empty_state → IsIn list n → anchor_of now n ≡ line_anchor now j →
-        Step l list now safe (Sets j) (Setting j n (start_stage l (aim_at now j (suc n)))) now safe
-    setting : (j n : ℕ) (c next : Changing) (w s : LayerWords) →
-        ChangesOn l (aim_at now j (suc n)) c now.layer safe.layer next w s →
-        Step l list now safe (Setting j n c) (Setting j n next) (with_layer now w) (with_layer safe s)
-    set : (j n : ℕ) → Step l list now safe (Setting j n Changed) (Sets (suc j)) now safe
+        Step l list now safe (Sets j) (Setting j n (layer_kept l now) (start_stage l (aim_at now j (suc n)))) now safe
+    setting : (j n : ℕ) (before : Layer) (c next : Changing) (w s : LayerWords) →
+        ChangesTo l (aim_at now j (suc n)) before next w s →
+        Step l list now safe (Setting j n before c) (Setting j n before next) (with_layer now w) (with_layer safe s)
+    set : (j n : ℕ) (before : Layer) → Step l list now safe (Setting j n before Changed) (Sets (suc j)) now safe
     all_set : (j : ℕ) → line_count l ≤ j → Step l list now safe (Sets j) (Empties 0) now safe
     passes_empty : (j : ℕ) → now.line j 0 ≡ empty_state →
         Step l list now safe (Empties j) (Empties (suc j)) now safe
@@ -147,13 +142,11 @@ pub record IsStill (l : Layout) (list : List ListNode) (o : Columns) (part : Par
   pub layer : AreEven now.layer safe.layer
 
 -- While it changes: as it was before the change, and as it is to be, it is in order.
-pub record IsChanging (l : Layout) (list : List ListNode) (o : Columns) (aim : Aim) (c : Changing)
+pub record IsChanging (l : Layout) (list : List ListNode) (o : Columns) (aim : Aim) (before : Layer) (c : Changing)
     (now safe : Columns) : Type 0 where
   pub nodes : MendsNodes l list o now
   pub states : (j : ℕ) → now.line j 0 ≡ o.line j 0
-  pub word : aim.word ≤ l.nodes
   pub even : IsEvenBut Nothing now safe
-  pub before : Layer
   pub layer : ChangesTo l aim before c now.layer safe.layer
   pub first : MendsLayer l o before
   pub last : MendsLayer l o (made_of aim before)
@@ -205,15 +198,15 @@ Sure l list o (Trimmed n left) now safe =
 Sure l list o (Unsets j) now safe =
     IsStill l list o Nothing now safe × AreUntouched o now × (now.generation ≡ suc o.generation) ×
     AreTrimmedBut l list [] now × AreUnset list o j (layer_kept l now)
-Sure l list o (Unsetting j c) now safe =
-    (s : IsChanging l list o (aim_at now j 0) c now safe) × (now.generation ≡ suc o.generation) ×
-    AreTrimmedBut l list [] now × AreUnset list o j s.before × (o.line j 0 ≢ empty_state)
+Sure l list o (Unsetting j before c) now safe =
+    IsChanging l list o (aim_at now j 0) before c now safe × (now.generation ≡ suc o.generation) ×
+    AreTrimmedBut l list [] now × AreUnset list o j before × (o.line j 0 ≢ empty_state)
 Sure l list o (Sets j) now safe =
     IsStill l list o Nothing now safe × AreUntouched o now × (now.generation ≡ suc o.generation) ×
     AreTrimmedBut l list [] now × AreListed list o (layer_kept l now) × AreSet list o j (layer_kept l now)
-Sure l list o (Setting j n c) now safe =
-    (s : IsChanging l list o (aim_at now j (suc n)) c now safe) × (now.generation ≡ suc o.generation) ×
-    AreTrimmedBut l list [] now × AreListed list o s.before × AreSet list o j s.before ×
+Sure l list o (Setting j n before c) now safe =
+    IsChanging l list o (aim_at now j (suc n)) before c now safe × (now.generation ≡ suc o.generation) ×
+    AreTrimmedBut l list [] now × AreListed list o before × AreSet list o j before ×
     (o.line j 0 ≢ empty_state) × IsIn list n × (anchor_of o n ≡ line_anchor o j)
 Sure l list o (Empties j) now safe =
     IsStill l list o Nothing now safe × (now.generation ≡ suc o.generation) × AreTrimmedBut l list [] now ×

@@ -6,8 +6,10 @@ ghost use Rattle.image_recovery_law.specs.Rest.{EndsAtRest, RestIsLawful, Broken
 ghost use Rattle.image_recovery_law.specs.Moves.{PlanReaches, PlanEnds, PlannedBitsServe, PlannedNoneServes};
 ghost use Rattle.image_recovery_law.specs.Rows.{StartHasColumns, CrashHasColumns, GenerationStores, BitsStore};
 ghost use Rattle.image_recovery_law.specs.Rows.{EmptyStores};
-ghost use Rattle.image_recovery_law.specs.Rows.{EvictionMixesColumns, DrainEvicts, VolatileLeaves, ChangesOnRows};
-ghost use Rattle.image_recovery_law.specs.RowMoves.{MoveStores, MoveEnds, RowEvicts, UnsetGoes, SetGoes};
+ghost use Rattle.image_recovery_law.specs.Rows.{EvictionMixesColumns, DrainEvicts, VolatileLeaves};
+ghost use Rattle.image_recovery_law.specs.RowMoves.{MoveStores, MoveEnds, RowEvicts, RowReaches, RowEnds};
+ghost use Rattle.image_recovery_law.specs.RowMoves.{ChangesOnRows, UnsetBegins, UnsetGoes, UnsetEnds};
+ghost use Rattle.image_recovery_law.specs.RowMoves.{SetBegins, SetGoes, SetEnds};
 ghost use Rattle.image_recovery_law.specs.SoundImages.{ColumnsAreSound, ColumnsKeepMaps, FreshHasSoundColumns};
 
 /// With a sound image in both rows a recovery may begin, and its steps and words that become durable keep what it is
@@ -57,16 +59,28 @@ pub fn row_law()
     ensures evictions { EvictionMixesColumns }
     ensures drains { DrainEvicts }
     ensures volatile { VolatileLeaves }
-    ensures changes { ChangesOnRows }
 {}
 
-/// The moves of a recovery on a row of words, action by action, keep what it is sure of.
+/// The stores of a recovery on a row of words keep what it is sure of, and so do words that become durable, and the way
+/// from one move to the next and to the end.
 pub fn move_law()
     ensures stores { MoveStores }
     ensures ends { MoveEnds }
     ensures evictions { RowEvicts }
-    ensures unset { UnsetGoes }
-    ensures set { SetGoes }
+    ensures reaches { RowReaches }
+    ensures last { RowEnds }
+{}
+
+/// So do the changes of the layer, which take out the anchors of lines and set them, as they begin, action by action,
+/// and as they end: then the marks tell again what the root leads to.
+pub fn change_law()
+    ensures rows { ChangesOnRows }
+    ensures unset_begins { UnsetBegins }
+    ensures unset_goes { UnsetGoes }
+    ensures unset_ends { UnsetEnds }
+    ensures set_begins { SetBegins }
+    ensures set_goes { SetGoes }
+    ensures set_ends { SetEnds }
 {}
 
 /// The columns of an image keep rules 1 to 9 exactly where the image does, and keep its map. A fresh image is sound by

@@ -1,12 +1,12 @@
 -- A fresh image is sound, and keeps no name.
-use Rattle.std.proofs.Common.{◌≡◌, ℕ, ◌/◌, ◌%◌, ◌<◌, ◌≤◌, List, [], ◌∷◌, Some, None, inl, inr, sym, subst, ◌∙◌, arith}
+use Rattle.std.proofs.Common.{◌≡◌, ℕ, suc, refl, ◌/◌, ◌%◌, ◌<◌, ◌≤◌, List, [], ◌∷◌, Some, None, inl, inr, sym, subst, ◌∙◌, arith}
 use Rattle.std.specs.FinMap.{empty, get-empty}
 use Rattle.std.proofs.lemmas.Bool.{cases_eq}
 use Rattle.cat_key.specs.Names.{name_cmp}
 use Rattle.data_node.specs.Spots.{bitmap_offset, Means}
 use Rattle.data_node.proofs.SpotLemmas.{means_empty}
 use Rattle.pm_words.specs.declared.layout.Layout.{Layout}
-use Rattle.pm_words.specs.Images.{fresh_words}
+use Rattle.pm_words.specs.Images.{fresh_words, fresh_word}
 use Rattle.pm_words.specs.Layouts.{IsLayout}
 use Rattle.pm_words.specs.Locations.{Word, Header, Root, Node, Line, Leaf, Cell, word_at}
 use Rattle.pm_words.proofs.Made.{fresh_at, fresh_image}
@@ -21,6 +21,11 @@ use Rattle.image_rules.specs.Laws.{KeepsRules, FreshIsSound}
 use Rattle.image_rules.proofs.WordLemmas.{image_spot-here}
 use Rattle.image_rules.proofs.TidyLemmas.{keeps_sound}
 
+-- the root's line has no word but the first
+behind_root : (l : Layout) (o : ℕ) → 1 ≤ o → fresh_word l (Root o) ≡ 0
+behind_root l (suc o) some = refl
+behind_root l o some = absurd (omega arith)
+
 fresh_spare : (l : Layout) (w : Word) → IsSpare w → word_at l (fresh_words l) w ≡ 0
 fresh_spare l (Header o) spare =
     elim (cases_eq o 6) as (λ _. word_at l (fresh_words l) (Header o) ≡ 0) [
@@ -29,7 +34,7 @@ fresh_spare l (Header o) spare =
           let seven : o ≡ 7 = omega (arith, spare.0, spare.1) in
           subst (λ k. word_at l (fresh_words l) (Header k) ≡ 0) (sym seven) (fresh_at l (Header 7) (omega arith))
     ]
-fresh_spare l (Root o) spare = fresh_at l (Root o) spare.1
+fresh_spare l (Root o) spare = fresh_at l (Root o) spare.1 ∙ behind_root l o spare.0
 fresh_spare l (Node n o) spare = absurd spare
 fresh_spare l (Line c j o) spare = absurd spare
 fresh_spare l (Leaf k o) spare = absurd spare

@@ -23,6 +23,8 @@ use Rattle.call_stages.specs.declared.once.Placed.{Placed}
 use Rattle.node_ops.specs.Asked.{name_asked}
 use Rattle.node_ops.specs.declared.part.PartWords.{PartWords}
 use Rattle.node_ops.specs.LookupSteps.{is_spent}
+use Rattle.node_ops.specs.Parts.{HasCompared}
+use Rattle.node_ops.specs.Permuting.{PermutationRead}
 use Rattle.node_ops.specs.PartSteps.{IsEarly, early_of, words_placed}
 use Rattle.index_law.specs.Facts.{range_of, version_in}
 use Rattle.index_law.specs.Worlds.{World, facts}
@@ -47,7 +49,7 @@ use Rattle.index_core.specs.declared.party.Whole.TheVariants as whole
 use Rattle.index_core.specs.CoreCalls.{op_of, limit_of, count_of}
 use Rattle.index_core.specs.PartyStates.{party_of, state_counted}
 use Rattle.index_core.specs.Indexes.{Index, world, map_of_index, IsIndex}
-use Rattle.index_core.specs.Lone.{HasNoCalls, IsQuiet, IsStill, FindsNoRoom, HasSameList, SplitsFor, SplitsNothing, MergesFor, MergesNothing, LeavesList, TakesLocks, LoseAtMost, TakesEachLock, names_beside, locks_left, IsWholeAnswer, TriesAlone, RunsAlone, CountsCall, ComesFree, KeepsStamps, IsMadeAgain, NeedsNoTurn, LandsIn, HasShortWays, HopsAreFew, WalksShort, LeavesLog, most_tries, alone_writes, lacks_line, lacks_node, needs_split, node_for, part_whole, taken_nodes, whole_of, state_tried, state_done}
+use Rattle.index_core.specs.Lone.{HasNoCalls, IsQuiet, IsStill, SortsIfStale, FindsNoRoom, HasSameList, SplitsFor, SplitsNothing, MergesFor, MergesNothing, LeavesList, TakesLocks, LoseAtMost, TakesEachLock, names_beside, locks_left, IsWholeAnswer, TriesAlone, RunsAlone, CountsCall, ComesFree, KeepsStamps, IsMadeAgain, NeedsNoTurn, LandsIn, HasShortWays, HopsAreFew, WalksShort, LeavesLog, most_tries, alone_writes, lacks_line, lacks_node, needs_split, node_for, part_whole, taken_nodes, whole_of, state_tried, state_done}
 use Rattle.index_core.specs.Weights.{weight_of, added_by, added_if, added_whole}
 use Rattle.index_core.specs.Listings.{IsPartAt}
 use Rattle.lone_call_law.specs.There.{WalksBy}
@@ -804,8 +806,9 @@ module _ (s0 s : Index) (i : ℕ) (low : List ℕ) (count : ℕ) (is0 : IsIndex 
   part_early (once.Done placed) early t each locks = absurd early
 
   -- and one that lists its names takes place
-  pub part_done : (words : PartWords) → TriesAlone s0 i c s (once.Done (words_placed words)) → words.node ≡ node_for s0 low → IsPartAt s.layout (facts (world s)) None low count words → RunsAlone s0 i c s (whole.Part words)
-  part_done words t node is =
+  pub part_done : (words : PartWords) → TriesAlone s0 i c s (once.Done (words_placed words)) → words.node ≡ node_for s0 low → (reading : Option PermutationRead) → IsPartAt s.layout (facts (world s)) reading low count words
+      → ((names : ℕ) → HasCompared reading names words → SortsIfStale s0 s words.node names words) → RunsAlone s0 i c s (whole.Part words)
+  part_done words t node reading is sorts =
       let kept : HasKeptList (world s0) (world s) = ⊎_elim
       (λ (same : ¬ ⊥ × HasKeptList (world s0) (world s)). same.1)
       (λ (merge : ⊥ × IsMergedSince low (world s0) (world s)). absurd merge.0)
@@ -821,7 +824,7 @@ module _ (s0 s : Index) (i : ℕ) (low : List ℕ) (count : ℕ) (is0 : IsIndex 
         state = t.state;
         there = t.there;
         named = t.named;
-        answer = (t.answered.0.0, whole_part s0 s low count words is0 still0.calls t.base history kept.0 t.named node t.answered.2 t.answered.3 t.answered.1 is);
+        answer = (t.answered.0.0, whole_part s0 s reading low count words is0 still0.calls t.base history kept.0 t.named node t.answered.2 t.answered.3 t.answered.1 is sorts);
         history = t.answered.4;
         states = t.states;
         layout = t.layout;

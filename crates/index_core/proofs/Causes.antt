@@ -39,8 +39,8 @@ use Rattle.pm_alloc.specs.declared.claim.ClaimAt.TheVariants as claim_at
 use Rattle.pm_alloc.specs.declared.claim.Claimed.{Claimed}
 use Rattle.pm_alloc.specs.declared.claim.Claimed.TheVariants as was
 use Rattle.pm_alloc.specs.Claims.{claim_at_turned, claim_from, claim_turned, goes_to, lock_of, passes, saw_free}
-use Rattle.search_layer.specs.declared.floor.Floor.{Floor}
-use Rattle.search_layer.specs.FloorSteps.{floor_turned}
+use Rattle.tree_floor.specs.declared.floor.Floor.{Floor}
+use Rattle.tree_floor.specs.Floors.{floor_turned}
 use Rattle.split_merge.specs.declared.moving.Move.{Move}
 use Rattle.split_merge.specs.declared.splitting.Split.{Split}
 use Rattle.split_merge.specs.declared.splitting.SplitAt.{SplitAt}
@@ -78,7 +78,14 @@ use Rattle.node_ops.specs.LookupSteps.{IsLookupAt, came_by, candidate_turned, fl
 use Rattle.node_ops.specs.GetSteps.{IsGet, get_call, get_looked, get_turned}
 use Rattle.node_ops.specs.PutSteps.{IsPut, put_call, put_filled, put_finished, put_full, put_into, put_looked, put_split, put_turned}
 use Rattle.node_ops.specs.DelSteps.{IsDel, del_call, del_finished, del_hit, del_looked, del_merged, del_slot, del_taken, del_turned, goes_on, merges_at, names_left}
-use Rattle.node_ops.specs.PartSteps.{IsPart, behind_of, early_of, part_call, part_looked, part_turned, part_words, placed_of, reading_turned}
+use Rattle.node_ops.specs.PartSteps.{IsFreely, IsPart, IsReadingAt, after_at, all_loaded, early_of, goes_on as reads_on, low_value, next_at, ordering_turned, part_call, part_held, part_looked, part_ordered, part_turned, part_walked, part_words, placed_of, reading_turned, seen_at, sorted_by, store_on, with_word}
+use Rattle.node_ops.specs.declared.part.Way.{Way}
+use Rattle.node_ops.specs.declared.part.Way.TheVariants as ways
+use Rattle.node_ops.specs.declared.part.Reading.{Reading}
+use Rattle.permutation.specs.declared.load.LoadPermutation.{LoadPermutation}
+use Rattle.permutation.specs.declared.store.StorePermutation.{StorePermutation}
+use Rattle.permutation.specs.Loads.{load_turned}
+use Rattle.permutation.specs.Stores.{store_turned}
 use Rattle.node_ops.specs.FinishSteps.{finish_at_turned, finish_fenced}
 use Rattle.node_ops.specs.FillSteps.{fill_turned}
 use Rattle.node_ops.specs.declared.fill.Fill.{Fill}
@@ -97,7 +104,7 @@ use Rattle.index_core.specs.declared.party.CoreCall.TheVariants as core_call
 use Rattle.index_core.specs.CoreCalls.{machine_of}
 use Rattle.node_ops.specs.RunningSteps.{IsRunning, Sound, running_call, running_turned, wrapped, wrapped_part}
 use Rattle.index_core.specs.Causes.{FoundNoLine, AreInUse, none_yet, one_more, FoundNoNode, HasCause, HasCauseIn}
-use Rattle.index_core.specs.Heard.{EndsFull, TakeHasAt, TakeTold, EndsInUse, EndsSeen, ClaimHasAt, ClaimHas, ClaimTold, SplitHas, SplitTold, WalkHas, WalkTold, HoldHas, LookHas, LookTold, PutHas, DelHas, GetHas, PartHas, RunningHas, RunningTold, CallsHear}
+use Rattle.index_core.specs.Heard.{EndsFull, TakeHasAt, TakeTold, EndsInUse, EndsSeen, ClaimHasAt, ClaimHas, ClaimTold, SplitHas, SplitTold, WalkHas, WalkTold, HoldHas, LookHas, LookTold, PutHas, DelHas, GetHas, PartHas, WayHas, RunningHas, RunningTold, CallsHear}
 
 at_end : (told : List ℕ) (x : ℕ) → Contains (told ++ x ∷ []) x
 at_end told x = Contains-append_right told (x ∷ []) x (0, omega arith, refl)
@@ -555,23 +562,102 @@ early_told l g told (once.Spent clock) so = tt
 early_told l g told (once.Worn node word) so = so
 early_told l g told (once.Again why) so = so
 
+-- once its walk has ended it has its node as it saw it
+saw_told : (told : List ℕ) (next : Lookup) (count : ℕ) (at : LookupAt) → next.at ≡ at → LookHas told next.call.limit next.at → PartHas told (part_walked next count (seen_at at))
+saw_told told next count (look.Floor floor) is has = has
+saw_told told next count (look.Walk walk) is has = has
+saw_told told next count (look.Read seen) is has = subst (LookHas told next.call.limit) is has
+saw_told told next count (look.Lock seen locked) is has = has
+saw_told told next count (look.Clock locked) is has = has
+saw_told told next count (look.Spent hold) is has = has
+saw_told told next count (look.Bitmap hold) is has = has
+saw_told told next count (look.Prints hold bitmap prints k) is has = has
+saw_told told next count (look.Name hold directory left slot k) is has = has
+saw_told told next count (look.Value hold directory slot) is has = has
+
+-- what it was told stands by whichever way it has its node
+way_told : (told : List ℕ) (way : Way) (word : ℕ) → Contains told word → WayHas told way word
+way_told told (ways.Served words) word has = has
+way_told told (ways.Held words) word has = tt
+way_told told ways.Alone word has = has
+
+way_longer : (told : List ℕ) (x : ℕ) (way : Way) (word : ℕ) → WayHas told way word → WayHas (told ++ x ∷ []) way word
+way_longer told x (ways.Served words) word has = Contains-append_left told (x ∷ []) word has
+way_longer told x (ways.Held words) word has = tt
+way_longer told x ways.Alone word has = Contains-append_left told (x ∷ []) word has
+
+sorted_told : (told : List ℕ) (r : Reading) (way : Way) → r.way ≡ way → WayHas told r.way r.hold.locked → WayHas told (sorted_by r way).way (sorted_by r way).hold.locked
+sorted_told told r (ways.Served words) is has = has
+sorted_told told r (ways.Held words) is has = tt
+sorted_told told r ways.Alone is has = has
+
+all_told : (told : List ℕ) (r : Reading) → WayHas told r.way r.hold.locked → WayHas told (all_loaded r).way (all_loaded r).hold.locked
+all_told told r has = sorted_told told (record r { old = low_value r r.call.view.layout.slots }) r.way refl has
+
+reads_told : (told : List ℕ) (r : Reading) (at : ReadingAt) → WayHas told r.way r.hold.locked → WayHas told (reads_on r at).way (reads_on r at).hold.locked
+reads_told told r (reading_at.Load slot word) has = has
+reads_told told r reading_at.Clock has = all_told told r has
+reads_told told r reading_at.Bitmap has = all_told told r has
+reads_told told r reading_at.Check has = all_told told r has
+reads_told told r (reading_at.Store store) has = all_told told r has
+reads_told told r reading_at.Unlock has = all_told told r has
+
 part_told : (p : Part) (told : List ℕ) (x : ℕ) → IsPart p → PartHas told p → RunningTold (part_call p).view.layout (part_call p).view.generation (told ++ x ∷ []) (wrapped_part (part_turned p x))
-part_told (part.Looking lookup count behind) told x here has = on (lookup_turned lookup x) (look_told lookup.call told x lookup.at here.0.here has)
+part_told (part.Looking lookup count) told x here has = on (lookup_turned lookup x) (look_told lookup.call told x lookup.at here.0.here has)
   where
     on : (turn : Turn Lookup Looked) → LookTold lookup.call.view.layout lookup.call.view.generation (told ++ x ∷ []) lookup.call.limit turn
-        → RunningTold lookup.call.view.layout lookup.call.view.generation (told ++ x ∷ []) (wrapped_part (part_looked lookup.call count (behind_of lookup.at behind) turn))
-    on (Go next) so = so
+        → RunningTold lookup.call.view.layout lookup.call.view.generation (told ++ x ∷ []) (wrapped_part (part_looked count turn))
+    on (Go next) so = saw_told (told ++ x ∷ []) next count next.at refl so
     on (Done (looked.Early answer)) so = early_told lookup.call.view.layout lookup.call.view.generation (told ++ x ∷ []) answer so
-    on (Done (looked.Found found)) so = hold_read (told ++ x ∷ []) lookup.call.limit found.hold here.1 so
-part_told (part.Reading reading) told x here has = on reading.at
+    on (Done (looked.Found found)) so = tt
+part_told (part.Ordering call seen count load) told x here has = on (load_turned load x)
   where
-    on : (at : ReadingAt) → RunningTold reading.call.view.layout reading.call.view.generation (told ++ x ∷ []) (wrapped_part (reading_turned reading at x))
-    on (reading_at.Load slot word) = Contains-append_left told (x ∷ []) reading.hold.locked has
-    on reading_at.Check =
+    longer_so : Contains (told ++ x ∷ []) seen.version
+    longer_so = Contains-append_left told (x ∷ []) seen.version has
+
+    ordered : (order : Option (List ℕ)) → PartHas (told ++ x ∷ []) (part_ordered call seen count order)
+    ordered (Some words) = longer_so
+    ordered None = elim (is_worn_word seen.version call.view.generation) as (λ b. PartHas (told ++ x ∷ []) (cond b (part.Dating call seen count ways.Alone)
+        (part.Locking call seen count (locked_word call.view.generation (kept_count seen.version call.view.generation))))) [
+          | true ↦ longer_so
+          | false ↦ longer_so
+        ]
+
+    on : (turn : Turn LoadPermutation (Option (List ℕ))) → RunningTold call.view.layout call.view.generation (told ++ x ∷ []) (wrapped_part (ordering_turned call seen count turn))
+    on (Go next) = longer_so
+    on (Done order) = ordered order
+part_told (part.Locking call seen count locked) told x here has =
+    elim (x == seen.version) as (λ b. (x == seen.version) ≡ b → RunningTold call.view.layout call.view.generation (told ++ x ∷ [])
+    (wrapped_part (cond b (Go (part_held call seen count locked)) (Done (once.Again (again.Moved call.node seen.version x)))))) [
+      | true ↦ λ same. tt
+      | false ↦ λ other. (Contains-append_left told (x ∷ []) seen.version has, at_end told x, eqb-false _ _ other)
+    ] refl
+part_told (part.Dating call seen count way) told x here has = way_told (told ++ x ∷ []) way seen.version (Contains-append_left told (x ∷ []) seen.version has)
+part_told (part.Reading reading) told x here has = on reading.at here.here
+  where
+    longer_so : WayHas (told ++ x ∷ []) reading.way reading.hold.locked
+    longer_so = way_longer told x reading.way reading.hold.locked has
+
+    freely : (way : Way) → IsFreely way → WayHas (told ++ x ∷ []) way reading.hold.locked → Contains (told ++ x ∷ []) reading.hold.locked
+    freely (ways.Served words) free so = so
+    freely (ways.Held words) free so = absurd free
+    freely ways.Alone free so = so
+
+    stored : (turn : Turn StorePermutation (Unit {0})) → PartHas (told ++ x ∷ []) (part.Reading (store_on reading turn))
+    stored (Go store) = longer_so
+    stored (Done nothing) = longer_so
+
+    on : (at : ReadingAt) → IsReadingAt reading at → RunningTold reading.call.view.layout reading.call.view.generation (told ++ x ∷ []) (wrapped_part (reading_turned reading at x))
+    on reading_at.Clock is = longer_so
+    on reading_at.Bitmap is = reads_told (told ++ x ∷ []) (record reading { bitmap = x }) (next_at x 0 reading.call.view.layout.slots) longer_so
+    on (reading_at.Load slot word) is = reads_told (told ++ x ∷ []) (record reading { entries = with_word reading.entries slot word x }) (after_at reading slot word) longer_so
+    on (reading_at.Store store) is = stored (store_turned store x)
+    on reading_at.Unlock is = tt
+    on reading_at.Check is =
         elim (x == reading.hold.locked) as (λ b. (x == reading.hold.locked) ≡ b → HasCauseIn reading.call.view.layout reading.call.view.generation (told ++ x ∷ [])
         (placed_of (cond b (once.Done (part_words reading)) (once.Again (again.Moved reading.call.node reading.hold.locked x))))) [
           | true ↦ λ same. tt
-          | false ↦ λ other. (Contains-append_left told (x ∷ []) reading.hold.locked has, at_end told x, eqb-false _ _ other)
+          | false ↦ λ other. (freely reading.way is.0 longer_so, at_end told x, eqb-false _ _ other)
         ] refl
 
 own_told : (m : Running) (told : List ℕ) (x : ℕ) → IsRunning m → RunningHas (running_call m).view.layout (running_call m).view.generation told m

@@ -20,6 +20,8 @@ use Rattle.node_ops.specs.declared.del.Del.TheVariants as del
 use Rattle.node_ops.specs.declared.single_del.SingleDel.TheVariants as single_del
 use Rattle.node_ops.specs.declared.part.Part.TheVariants as part
 use Rattle.node_ops.specs.declared.part.PartWords.{PartWords}
+use Rattle.node_ops.specs.declared.part.Way.{Way}
+use Rattle.node_ops.specs.declared.part.Way.TheVariants as ways
 use Rattle.node_ops.specs.PartSteps.{early_of}
 use Rattle.node_ops.specs.declared.running.Running.{Running}
 use Rattle.node_ops.specs.declared.running.Running.TheVariants.{Getting, Putting, Deleting, Parting}
@@ -30,9 +32,10 @@ use Rattle.node_ops.specs.RunningSteps.{IsRunning, running_call, running_left, r
 use Rattle.node_ops.proofs.Costs.{puts_spare_splits, walks_end_so}
 use Rattle.index_law.specs.Worlds.{Party, World}
 use Rattle.index_law.proofs.Parties.{set_here}
-use Rattle.lone_call_law.specs.LoneCalls.{FindsFull, IsAnswered, IsLate, IsThere}
+use Rattle.lone_call_law.specs.LoneCalls.{FindsFull, IsAnswered, IsLate, IsThere, WayIsThere}
 use Rattle.lone_call_law.specs.There.{HasCome, LookupStands, WalksBy}
 use Rattle.lone_updater_law.specs.CallLogs.{LeavesLines, ready_lines}
+use Rattle.search_layer.specs.Floors.{floor_most}
 use Rattle.index_core.specs.declared.party.CoreCall.{CoreCall}
 use Rattle.index_core.specs.declared.party.CoreCall.TheVariants as call
 use Rattle.index_core.specs.CoreCalls.{limit_of, machine_of, op_of}
@@ -51,7 +54,7 @@ lone_cost s0 s i c o = ap cost_in (lone_there s0 s i c o)
 
 -- as it begins
 abbrev pub first_left : Layout → CoreCall → ℕ
-first_left l c = 24 * l.nodes + 3 * l.slots + 29 + elim c [
+first_left l c = floor_most l + 20 * l.nodes + 3 * l.slots + 12 + elim c [
   | call.Put name value limit ↦ split_actions
   | call.Get name ↦ 1
   | call.Del name limit ↦ merge_actions
@@ -82,6 +85,12 @@ node_walks : (l : Layout) (words0 words : List ℕ) (limit : Option ℕ) (call :
 node_walks l words0 words None call word come = come.0.hops
 node_walks l words0 words (Some most) call word come = come.0.hops
 
+-- so is a part, whichever way it has its node
+way_walks : (l : Layout) (words0 words : List ℕ) (call : Call) (word : ℕ) (way : Way) → WayIsThere l words0 words call word way → WalksBy l words0 (name_in call) call.hops
+way_walks l words0 words call word (ways.Served order) there = there.0.0.hops
+way_walks l words0 words call word (ways.Held order) there = there.0.0.hops
+way_walks l words0 words call word ways.Alone there = there.0.0.hops
+
 pub look_walks : (l : Layout) (words0 words : List ℕ) (call : Call) (at : LookupAt) → LookupStands l words0 words call at → lookup_landed at ≡ true → WalksBy l words0 (name_in call) call.hops
 look_walks l words0 words call (look.Floor floor) stands landed = absurd (cc)
 look_walks l words0 words call (look.Walk walk) stands landed = absurd (cc)
@@ -109,8 +118,11 @@ landed_walks l words0 words (Deleting (del.Single (single_del.Refusing call hold
 landed_walks l words0 words (Deleting (del.Single (single_del.Clearing call hold bitmap hit line))) there landed = there.0.hops
 landed_walks l words0 words (Deleting (del.Single (single_del.Finishing finish line))) there landed = there.0.hops
 landed_walks l words0 words (Deleting (del.Merging call hold old place merge)) there landed = there.0.hops
-landed_walks l words0 words (Parting (part.Looking lookup count behind)) there landed = look_walks l words0 words lookup.call lookup.at there landed
-landed_walks l words0 words (Parting (part.Reading reading)) there landed = there.0.hops
+landed_walks l words0 words (Parting (part.Looking lookup count)) there landed = look_walks l words0 words lookup.call lookup.at there landed
+landed_walks l words0 words (Parting (part.Ordering call seen count load)) there landed = there.0.0.hops
+landed_walks l words0 words (Parting (part.Locking call seen count locked)) there landed = there.0.0.hops
+landed_walks l words0 words (Parting (part.Dating call seen count way)) there landed = way_walks l words0 words call seen.version way there
+landed_walks l words0 words (Parting (part.Reading reading)) there landed = way_walks l words0 words reading.call reading.hold.locked reading.way there
 
 -- a lone call that ends while it walks finds a worn node
 walks_find_worn : (w0 w : World) (asked : NameOp) (limit : Option ℕ) (p : Party) (answer : Once Placed) → IsAnswered w0 asked limit w p answer → IsUnworn answer → EndsInWalk answer → ⊥

@@ -16,7 +16,6 @@ use Rattle.call_stages.specs.Stages.{Stage}
 use Rattle.call_stages.specs.Kinds.{Step, Split, Merge}
 use Rattle.call_stages.specs.Kinds as kinds
 use Rattle.search_layer.specs.ChangeStages.{Changing, Changed, ChangeStep}
-use Rattle.search_layer.proofs.ChangeSteps.{change_step_keeps}
 use Rattle.index_law.specs.Facts.{Facts, status_in}
 use Rattle.index_law.proofs.Moves.{fact_after, split_after, merge_after}
 use Rattle.index_law.proofs.Rows.{status_in-alike}
@@ -24,7 +23,7 @@ use Rattle.updater_row_law.specs.Columns.{RowTerms, Ghosts, line_count, line_wor
 use Rattle.updater_row_law.specs.RowStages.{RowLine, aim_of, RowStage, Resting, Between, Sweeps, Stamps, Clears, Counts, Changes, IsUnworn, Frees, after_line, after_node, after_change}
 use Rattle.updater_row_law.specs.RowSteps.{line_at, volatile_at, version_at, RowStep, takes_lock, finds_held, passes, sees, reads, has_read, walks, is_turned_back, finds, loses, decides, changes, has_changed, stamps, empties, passes_node, sees_gone, passes_stamp, sees_stamp, passes_worn, sees_unworn, unstamps, frees, counts, leaves_lock}
 use Rattle.updater_row_law.specs.RowLaw.{RowLawful}
-use Rattle.updater_row_law.proofs.RowChanges.{word_within}
+use Rattle.updater_row_law.proofs.RowChanges.{change_kept}
 
 -- ---- of calls
 
@@ -111,8 +110,7 @@ module _ (r : RowTerms) (ghosts : Ghosts) (words : List ℕ) (row : IsRow r.layo
 
   leaves_statuses : (e : RowLine) (word : ℕ) (s t : Changing) (a : Action) → RowLawful r ghosts words (Changes e word s) → ChangeStep l (aim_of e word) s a (got l words a) t → status_in l (acted l words a) m ≡ status_in l words m
   leaves_statuses e word s t a is step =
-      let fits = word_within r ghosts words e word is.law.sure in
-      let keeps = change_step_keeps l (aim_of e word) is.sure.before words s a t row.whole is.order fits (λ some_word. is.sure.few) is.sure.sure is.sure.layer step in
+      let keeps = change_kept r words e word s t a row is.sure step in
       status_in-alike l words (acted l words a) m (λ there. keeps.others (Volatile m 0) (there, omega arith) refl)
 
   pub only_frees : {s : RowStage} {a : Action} {x : ℕ} {t : RowStage} → RowStep r s a x t → x ≡ got l words a → (s ≢ Resting → RowLawful r ghosts words s) → Stays a s
@@ -120,7 +118,7 @@ module _ (r : RowTerms) (ghosts : Ghosts) (words : List ℕ) (row : IsRow r.layo
   only_frees (finds_held taken) told is = let word : ℕ = at l words Updater in inl (apart Updater (cond (word == 0) 1 word) tt (λ e. cc))
   only_frees {s = s} (passes {j = j} here other) told is = loads (line_at l j 0) s
   only_frees {s = s} (sees {j = j} seen here ready size) told is = loads (line_at l j 0) s
-  only_frees {s = s} (reads {j = j} {offset = offset} here some_offset small) told is = loads (line_at l j offset) s
+  only_frees {s = s} (reads {j = j} {offset = offset} here some_offset small named) told is = loads (line_at l j offset) s
   only_frees {s = s} (has_read {j = j} here) told is = loads (line_at l j 6) s
   only_frees {s = s} (walks {address = address} here) told is = loads address s
   only_frees {s = s} (is_turned_back {address = address} here) told is = loads address s
@@ -174,7 +172,7 @@ comes_from r (takes_lock free) n is = absurd cc
 comes_from r (finds_held taken) n is = absurd cc
 comes_from r (passes {j = j} here other) n is = absurd (past_line r j n is)
 comes_from r (sees seen here ready size) n is = absurd cc
-comes_from r (reads here some_offset small) n is = absurd cc
+comes_from r (reads here some_offset small named) n is = absurd cc
 comes_from r (has_read here) n is = absurd cc
 comes_from r (walks here) n is = absurd cc
 comes_from r (is_turned_back {e = e} here) n is = absurd (past_line r e.line n is)

@@ -28,6 +28,7 @@ use Rattle.index_law.specs.Worlds.{World}
 use Rattle.lone_call_law.specs.LoneCalls.{FindsFull, Foresees, IsAnswered, IsThere}
 use Rattle.lone_call_law.specs.There.{LookupStands, WalksBy}
 use Rattle.lone_updater_law.specs.CallLogs.{ready_lines}
+use Rattle.search_layer.specs.Floors.{floor_most}
 use Rattle.lone_hops_law.proofs.Short.{short_stays}
 use Rattle.index_core.specs.declared.party.CoreCall.{CoreCall}
 use Rattle.index_core.specs.declared.party.CoreCall.TheVariants as call
@@ -122,8 +123,14 @@ module _ (l : Layout) (words0 words : List ℕ) (lines : ℕ) where
       let left = has_spared (Deleting (del.Single (single_del.Finishing finish line))) refl there nodes few in omega (arith, left)
   call_left (Deleting (del.Merging call hold old place merge)) here there nodes few =
       let left = has_spared (Deleting (del.Merging call hold old place merge)) refl there nodes few in omega (arith, left)
-  call_left (Parting (part.Looking lookup count behind)) here there nodes few =
+  call_left (Parting (part.Looking lookup count)) here there nodes few =
       let left = look_left l words0 words lookup.call lines nodes few lookup.at here.0.here there in omega (arith, left)
+  call_left (Parting (part.Ordering call seen count load)) here there nodes few =
+      let left = has_spared (Parting (part.Ordering call seen count load)) refl there nodes few in omega (arith, left)
+  call_left (Parting (part.Locking call seen count locked)) here there nodes few =
+      let left = has_spared (Parting (part.Locking call seen count locked)) refl there nodes few in omega (arith, left)
+  call_left (Parting (part.Dating call seen count way)) here there nodes few =
+      let left = has_spared (Parting (part.Dating call seen count way)) refl there nodes few in omega (arith, left)
   call_left (Parting (part.Reading reading)) here there nodes few =
       let left = has_spared (Parting (part.Reading reading)) refl there nodes few in omega (arith, left)
 
@@ -140,7 +147,7 @@ splits_none w (call.Part low count) m of foresees room = omega arith
 splits_none w (call.Recheck node version) m of foresees room = omega arith
 splits_none w (call.Turn stamp release) m of foresees room = omega arith
 
-first_is : (l : Layout) (c : CoreCall) → first_left l c ≡ 24 * l.nodes + 3 * l.slots + 29 + behind_actions l c
+first_is : (l : Layout) (c : CoreCall) → first_left l c ≡ floor_most l + 20 * l.nodes + 3 * l.slots + 12 + behind_actions l c
 first_is l (call.Put name value limit) = refl
 first_is l (call.Get name) = refl
 first_is l (call.Del name limit) = refl

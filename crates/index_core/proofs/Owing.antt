@@ -47,7 +47,11 @@ use Rattle.split_merge.specs.declared.merging.Merged.{Merged}
 use Rattle.split_merge.specs.Merges.{merge_turned}
 use Rattle.node_ops.specs.RunningSteps.{running_turned, wrapped}
 use Rattle.data_list.specs.WalkStages.{live_sight}
-use Rattle.node_ops.specs.CallStages.{behind_sight, stage_of, lookup_stage, finish_stage, part_stage, found_full, has_place}
+use Rattle.node_ops.specs.declared.part.ReadingAt.{ReadingAt}
+use Rattle.node_ops.specs.declared.part.ReadingAt.TheVariants as reading_at
+use Rattle.node_ops.specs.declared.part.Way.{Way}
+use Rattle.node_ops.specs.declared.part.Way.TheVariants as ways
+use Rattle.node_ops.specs.CallStages.{behind_sight, reading_at_held, stage_by, stage_of, lookup_stage, finish_stage, part_stage, found_full, has_place}
 use Rattle.node_ops.proofs.OpLaw.{lookup_counts}
 use Rattle.index_law.specs.Worlds.{written}
 use Rattle.index_core.specs.PartyStates.{owes, machine_owes, owed}
@@ -109,8 +113,21 @@ get_pays (get.Checking call hold old) x = (refl, refl)
 
 -- no turn of a part counts anything
 pub part_counts : (p : Part) → counted (part_stage p) ≡ None
-part_counts (part.Looking lookup count behind) = lookup_counts (behind_sight behind) lookup.call lookup.at
-part_counts (part.Reading reading) = refl
+part_counts (part.Looking lookup count) = lookup_counts (live_sight []) lookup.call lookup.at
+part_counts (part.Ordering call seen count load) = refl
+part_counts (part.Locking call seen count locked) = refl
+part_counts (part.Dating call seen count way) = refl
+part_counts (part.Reading reading) = by_way reading.way reading.at
+  where
+    by_way : (way : Way) (at : ReadingAt) → counted (stage_by way reading.call.node reading.hold.locked (behind_sight reading.behind) (reading_at_held reading at)) ≡ None
+    by_way (ways.Served words) at = refl
+    by_way ways.Alone at = refl
+    by_way (ways.Held words) reading_at.Clock = refl
+    by_way (ways.Held words) reading_at.Bitmap = refl
+    by_way (ways.Held words) (reading_at.Load slot word) = refl
+    by_way (ways.Held words) reading_at.Check = refl
+    by_way (ways.Held words) (reading_at.Store store) = refl
+    by_way (ways.Held words) reading_at.Unlock = refl
 
 part_owes : (turn : Turn Part (Once Placed)) → owes_after (wrapped Parting turn) ≡ 0
 part_owes (Go p) = refl

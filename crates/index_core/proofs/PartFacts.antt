@@ -43,7 +43,10 @@ have_words l words base history row n offset =
     ]
 
 pub sound_call : (p : Part) → IsPart p → IsCall (part_call p)
-sound_call (part.Looking lookup count behind) is = is.0.call
+sound_call (part.Looking lookup count) is = is.0.call
+sound_call (part.Ordering call seen count load) is = is.there.sound
+sound_call (part.Locking call seen count locked) is = is.0.sound
+sound_call (part.Dating call seen count way) is = is.0.sound
 sound_call (part.Reading reading) is = is.call
 
 -- After an action that gives a part's version word its node has that word, and the list is as it was.

@@ -12,7 +12,7 @@ use Rattle.node_ops.specs.declared.running.Running.{Running}
 use Rattle.node_ops.specs.Asked.{op_in, name_asked}
 use Rattle.node_ops.specs.CallStages.{reply_of}
 use Rattle.node_ops.specs.PartSteps.{IsEarly, early_of, words_placed}
-use Rattle.node_ops.specs.RunningSteps.{count_in, listed_in}
+use Rattle.node_ops.specs.RunningSteps.{count_in, listed_in, running_asks}
 use Rattle.node_ops.proofs.OpLaw.{op_told}
 use Rattle.node_ops.proofs.PartListing.{listed_is_answered}
 use Rattle.index_law.specs.Worlds.{facts}
@@ -21,14 +21,15 @@ use Rattle.index_core.specs.declared.party.CoreCall.{CoreCall}
 use Rattle.index_core.specs.declared.party.CoreCall.TheVariants as call
 use Rattle.index_core.specs.declared.party.Whole.{Whole}
 use Rattle.index_core.specs.declared.party.Whole.TheVariants as whole
-use Rattle.index_core.specs.PartyStates.{state_with}
+use Rattle.index_core.specs.PartyStates.{party_of, state_with}
 use Rattle.index_core.specs.Indexes.{Index, room_of, told, world, IsIndex, IsInFlight, TurnsTo}
 use Rattle.index_core.specs.Listings.{IsPartAt, ListsAt}
-use Rattle.index_core.specs.Lone.{HasListed, HasListing, IsQuiet, IsStill, IsWholeAnswer, LoseAtMost, RunsAlone, locks_left, most_tries, part_whole, node_for}
+use Rattle.index_core.specs.Lone.{HasListed, HasListing, IsQuiet, IsStill, IsWholeAnswer, SortsIfStale, LoseAtMost, RunsAlone, locks_left, most_tries, part_whole, node_for}
 use Rattle.index_core.proofs.Alone.{part_early, part_done}
-use Rattle.node_ops.specs.Parts.{Confirms}
-use Rattle.node_ops.specs.Permuting.{PermutationRead, reading_of}
-use Rattle.index_core.proofs.PartsAlone.{listed_node, listed_word, unread}
+use Rattle.node_ops.specs.Parts.{Confirms, HasCompared}
+use Rattle.node_ops.specs.Permuting.{reading_of}
+use Rattle.pm_words.specs.Rows.{acted}
+use Rattle.index_core.proofs.PartsAlone.{listed_node, listed_word, sorts_so}
 use Rattle.pm_words.specs.declared.layout.Layout.{Layout}
 use Rattle.lone_call_law.specs.LoneCalls.{IsThere}
 use Rattle.index_core.proofs.Told.{done_of, is_early}
@@ -83,6 +84,17 @@ module _ (s0 s s' : Index) (i : ℕ) (low : List ℕ) (count : ℕ) (result : Op
   its_word : (words : PartWords) → HasListed s i words → Confirms m (told s m) words
   its_word words h = listed_word s.layout s0.words s.words m words (its_own words h) (subst (λ (l : Layout). IsThere l s0.words s.words m) (sym o.call.trying.layout) o.call.stands) o.call.sound.here o.call.sound.layout
 
+  -- how many names it sorted
+  sorts : (words : PartWords) → HasListed s i words → (names : ℕ) → HasCompared (reading_of m) names words → SortsIfStale s0 s' words.node names words
+  sorts words h names compared =
+      let so = sorts_so (world s0) (world s) i low (party_of (state_with o.state (length s0.history) m)) m (told s m) names words o.call (its_own words h) (its_word words h) compared in
+      let words_are : s'.words ≡ acted s.layout s.words (running_asks m) =
+      ap (λ (v : Index). v.words) t.is ∙ (λ k. acted s.layout s.words (running_asks (turn_machine s0 s s' i c result o t is' room k))) in
+      record {
+        served = λ made. let both = so.served made in (both.0, words_are ∙ both.1);
+        sorted = so.sorted;
+      }
+
   -- its last turn
   pub part_last : (words : PartWords) → HasListed s i words → result ≡ Some (once.Done (words_placed words))
   part_last words h = turn_told s0 s s' i c result o t is' room ∙ ap reply_of (listed_is_answered m words (its_own words h) (told s m) (its_word words h))
@@ -108,11 +120,11 @@ module _ (s0 s s' : Index) (i : ℕ) (low : List ℕ) (count : ℕ) (result : Op
       let lists : ListsAt s'.layout (facts (world s')) m (told s m) = subst (λ (q : Running). ListsAt s'.layout (facts (world s')) q (told s q)) (turn_machine s0 s s' i c result o t is' room) t.lists in
       let of_words : IfSome (count_in m) (λ (n : ℕ). Confirms m (told s m) words → IsPartAt s'.layout (facts (world s')) (reading_of m) (name_asked (op_in m)) n words) =
       subst (λ (found : Option PartWords). IfSome found (λ (w : PartWords). IfSome (count_in m) (λ (n : ℕ). Confirms m (told s m) w → IsPartAt s'.layout (facts (world s')) (reading_of m) (name_asked (op_in m)) n w))) listed lists in
-      let is : IsPartAt s'.layout (facts (world s')) None low count words =
-      subst (λ (q : Option PermutationRead × NameOp). IsPartAt s'.layout (facts (world s')) q.0 (name_asked q.1) count words) (λ k. (unread m k, op_is k))
+      let is : IsPartAt s'.layout (facts (world s')) (reading_of m) low count words =
+      subst (λ (asked : NameOp). IsPartAt s'.layout (facts (world s')) (reading_of m) (name_asked asked) count words) op_is
       (subst (λ (found : Option ℕ). IfSome found (λ (n : ℕ). Confirms m (told s m) words → IsPartAt s'.layout (facts (world s')) (reading_of m) (name_asked (op_in m)) n words)) o.count of_words (its_word words h)) in
       ends_alone (once.Done (words_placed words)) answered (whole.Part words)
-      (part_done s0 s' i low count o.before o.still words (lone_tries s0 s s' i c result o t is' room (once.Done (words_placed words)) answered) node is)
+      (part_done s0 s' i low count o.before o.still words (lone_tries s0 s s' i c result o t is' room (once.Done (words_placed words)) answered) node (reading_of m) is (sorts words h))
 
   -- one that is answered before is told early
   pub part_is_early : (answer : Once Placed) → (HasListing s i → ⊥) → result ≡ Some answer → IsEarly answer

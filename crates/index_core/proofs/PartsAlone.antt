@@ -1,6 +1,6 @@
 -- What a part of a scan lists that is made with no other call in flight: names of the member of its low name, up to the
 -- next member's anchor.
-use Rattle.std.proofs.Common.{◌≡◌, ℕ, ◌<◌, Bool, true, false, not, ◌&&◌, List, [], ◌∷◌, ◌++◌, inl, inr, ◌⊎◌, ⊎_elim, length, map, slice_get, refl, sym, ap, ◌∙◌, subst, arith}
+use Rattle.std.proofs.Common.{◌≡◌, ℕ, ◌+◌, ◌<◌, Bool, true, false, not, ◌&&◌, List, [], ◌∷◌, ◌++◌, inl, inr, ◌⊎◌, ⊎_elim, length, map, slice_get, refl, sym, ap, ◌∙◌, subst, arith}
 use Rattle.std.specs.Prelude.{Option, Some, None, IfSome}
 use Rattle.std.specs.FinMap.{entries, keys}
 use Rattle.std.specs.List.{filter, AllByRecursion}
@@ -13,17 +13,17 @@ use Rattle.cat_history.specs.Scans.{is_under}
 use Rattle.cat_history.specs.Writes.{after, after_all}
 use Rattle.cat_history.specs.declared.op.NameOp.TheVariants as op
 use Rattle.shapes.specs.Anchors as shape
-use Rattle.shapes.specs.Anchors.{Anchors, below, names_at, next_of, target_of}
+use Rattle.shapes.specs.Anchors.{Anchors, below, names_at, next_of}
 use Rattle.shapes.proofs.Orders.{true_or_false, clash, not_itself, not_back, upto-chain, empty_first, neither, same-is}
 use Rattle.shapes.proofs.NameLists.{all_second, filter-keeps, filter-drops}
 use Rattle.shapes.proofs.Targets.{part, target-is, next-is}
 use Rattle.data_node.specs.Lists.{ListNode, key_of, range_in, target_from}
-use Rattle.index_law.specs.Anchors.{anchors_of, text_of_key}
+use Rattle.index_law.specs.Anchors.{anchors_in, anchors_of, text_of_key}
 use Rattle.index_law.specs.Facts.{Facts, list_in, map_now, range_of, version_in}
 use Rattle.index_law.proofs.Rows.{version_in-here}
 use Rattle.index_law.specs.Laws.{IsAtRest}
 use Rattle.index_law.specs.Lawful.{HasNames, IsList}
-use Rattle.index_law.specs.Worlds.{facts}
+use Rattle.index_law.specs.Worlds.{Party, World, facts}
 use Rattle.index_law.proofs.Anchored.{Named, texts, list_has_anchors, ranges_are_members}
 use Rattle.index_law.proofs.AnchorTexts.{key-back}
 use Rattle.index_law.proofs.Cutting.{range-names}
@@ -31,25 +31,33 @@ use Rattle.node_ops.specs.declared.part.PartWords.{PartWords}
 use Rattle.node_ops.specs.declared.part.ReadingAt.{ReadingAt}
 use Rattle.node_ops.specs.declared.part.ReadingAt.TheVariants as reading_at
 use Rattle.node_ops.specs.declared.part.Part.{Part}
+use Rattle.node_ops.specs.declared.part.Reading.{Reading}
+use Rattle.node_ops.specs.declared.part.Way.{Way}
+use Rattle.node_ops.specs.declared.part.Way.TheVariants as ways
+use Rattle.node_ops.specs.declared.call.Call.{Call}
+use Rattle.node_ops.specs.Calls.{name_in}
+use Rattle.permutation_law.specs.Permuted.{made_at}
+use Rattle.lone_call_law.specs.There.{IsAtNode}
+use Rattle.lone_call_law.proofs.Went.{free_come}
 use Rattle.node_ops.specs.declared.part.Part.TheVariants as part_at
 use Rattle.node_ops.specs.declared.running.Running.{Running}
 use Rattle.node_ops.specs.declared.running.Running.TheVariants.{Getting, Putting, Deleting, Parting}
 use Rattle.node_ops.specs.Asked.{IsOf}
-use Rattle.node_ops.specs.PartSteps.{listed_at, part_asks, part_call, part_listed, part_words, reading_at_asks}
-use Rattle.node_ops.specs.Permuting.{reading_of}
+use Rattle.node_ops.specs.PartSteps.{IsFreely, IsPart, IsReading, IsReadingAt, listed_at, part_asks, part_call, part_listed, part_words, reading_at_asks, version_at}
+use Rattle.node_ops.specs.Permuting.{PermutationRead, part_reading, reading_of, way_reading}
 use Rattle.pm_words.specs.declared.action.Action.TheVariants.{Load, Store}
-use Rattle.pm_words.specs.Rows.{got}
+use Rattle.pm_words.specs.Rows.{acted, got}
 use Rattle.call_stages.specs.Kinds.{version_address}
 use Rattle.node_ops.proofs.PartListing.{listed_is_told}
-use Rattle.node_ops.proofs.PartTelling.{parts_hear}
-use Rattle.node_ops.specs.Parts.{Confirms, EndsAt, pairs_in}
+use Rattle.node_ops.specs.Parts.{Confirms, EndsAt, HasCompared, pairs_in}
 use Rattle.node_ops.specs.RunningSteps.{IsRunning, listed_in, running_asks, running_call}
-use Rattle.lone_call_law.specs.LoneCalls.{IsThere, PartIsThere}
+use Rattle.lone_call_law.specs.LoneCalls.{IsMadeNow, IsThere, LoneCall, PartIsThere, WayIsThere}
+use Rattle.lone_call_law.proofs.Served.{lone_parts_are_served}
 use Rattle.index_core.specs.Indexes.{Index, world, map_of_index, IsIndex}
 use Rattle.index_core.specs.Listings.{IsPartAt, ListsRange}
-use Rattle.index_core.specs.Lone.{HasNoCalls, IsWholePart, node_for}
+use Rattle.index_core.specs.Lone.{HasNoCalls, IsWholePart, SortsIfStale, node_for}
 use Rattle.lone_call_law.specs.There.{WalksBy}
-use Rattle.index_core.proofs.PartFacts.{lists_range, sound_call}
+use Rattle.index_core.proofs.PartFacts.{lists_range}
 use Rattle.index_core.proofs.Quiet.{rests}
 
 -- the end of a range is past it
@@ -120,66 +128,110 @@ as_many test (e ∷ es) =
 pairs_are_names : (m : Map) (test : List ℕ → Bool) → length (pairs_in m test) ≡ length (filter test (keys m))
 pairs_are_names m test = length-map (filter (λ (e : List ℕ × ℕ). test e.0) (entries m)) _ ∙ as_many test (entries m)
 
--- the node that a part gives back is the target of its low name
+-- A part that has listed is at its node.
+record IsListing (l : Layout) (words0 words : List ℕ) (p : Part) (listing : PartWords) : Type 0 where
+  reading : Reading
+  is : p ≡ part_at.Reading reading
+  lists : part_words reading ≡ listing
+  there : WayIsThere l words0 words reading.call reading.hold.locked reading.way
+  ends : (reading.at ≡ reading_at.Check) ⊎ (reading.at ≡ reading_at.Unlock)
+
+is_listing : (l : Layout) (words0 words : List ℕ) (p : Part) (listing : PartWords) → part_listed p ≡ Some listing → PartIsThere l words0 words p → IsListing l words0 words p listing
+is_listing l words0 words (part_at.Looking lookup count) listing lists there = absurd (cc)
+is_listing l words0 words (part_at.Ordering call seen count load) listing lists there = absurd (cc)
+is_listing l words0 words (part_at.Locking call seen count locked) listing lists there = absurd (cc)
+is_listing l words0 words (part_at.Dating call seen count way) listing lists there = absurd (cc)
+is_listing l words0 words (part_at.Reading reading) listing lists there = at reading.at refl lists
+  where
+    with_end : part_words reading ≡ listing → (reading.at ≡ reading_at.Check) ⊎ (reading.at ≡ reading_at.Unlock) → IsListing l words0 words (part_at.Reading reading) listing
+    with_end same ends = record { reading = reading; is = refl; lists = same; there = there; ends = ends }
+
+    at : (a : ReadingAt) → reading.at ≡ a → listed_at reading a ≡ Some listing → IsListing l words0 words (part_at.Reading reading) listing
+    at reading_at.Clock is none = absurd (cc)
+    at reading_at.Bitmap is none = absurd (cc)
+    at (reading_at.Load slot word) is none = absurd (cc)
+    at (reading_at.Store store) is none = absurd (cc)
+    at reading_at.Check is some = with_end (cc) (inl is)
+    at reading_at.Unlock is some = with_end (cc) (inr is)
+
+-- the node of it is the target of its low name
+way_node : (l : Layout) (words0 words : List ℕ) (call : Call) (word : ℕ) (way : Way) → WayIsThere l words0 words call word way → IsAtNode l words0 call
+way_node l words0 words call word (ways.Served order) there = there.0.0
+way_node l words0 words call word (ways.Held order) there = there.0.0
+way_node l words0 words call word ways.Alone there = there.0.0
+
 pub listed_node : (l : Layout) (words0 words : List ℕ) (low : List ℕ) (m : Running) (listing : PartWords) → listed_in m ≡ Some listing → IsOf (op.Get low) m → IsThere l words0 words m → listing.node ≡ target_from 0 (list_in l words0) (key_of low)
 listed_node l words0 words low (Getting get) listing none of there = absurd (cc)
 listed_node l words0 words low (Putting put) listing none of there = absurd (cc)
 listed_node l words0 words low (Deleting del) listing none of there = absurd (cc)
-listed_node l words0 words low (Parting (part_at.Looking lookup count behind)) listing none of there = absurd (cc)
-listed_node l words0 words low (Parting (part_at.Reading reading)) listing some of there =
-    elim reading.at as (λ (a : ReadingAt). listed_at reading a ≡ Some listing → listing.node ≡ target_from 0 (list_in l words0) (key_of low)) [
-      | reading_at.Load slot word ↦ λ none. absurd (cc)
-      | reading_at.Check ↦ λ is.
-          let same : part_words reading ≡ listing = cc in
-          sym (ap (λ (w : PartWords). w.node) same) ∙ there.0.node ∙ ap (λ (name : List ℕ). target_from 0 (list_in l words0) (key_of name)) of
-    ] some
+listed_node l words0 words low (Parting p) listing some of there =
+    let listed = is_listing l words0 words p listing some there in
+    let named : name_in listed.reading.call ≡ low = ap (λ (q : Part). name_in (part_call q)) (sym listed.is) ∙ of in
+    sym (ap (λ (w : PartWords). w.node) listed.lists) ∙ (way_node l words0 words listed.reading.call listed.reading.hold.locked listed.reading.way listed.there).node ∙ ap (λ (name : List ℕ). target_from 0 (list_in l words0) (key_of name)) named
 
--- and its version word is still the one that it saw
-word_stands : (l : Layout) (words0 words : List ℕ) (p : Part) (listing : PartWords) → part_listed p ≡ Some listing → PartIsThere l words0 words p → version_in l words listing.node ≡ listing.version
-word_stands l words0 words (part_at.Looking lookup count behind) listing none there = absurd (cc)
-word_stands l words0 words (part_at.Reading reading) listing some there =
-    elim reading.at as (λ (a : ReadingAt). listed_at reading a ≡ Some listing → version_in l words listing.node ≡ listing.version) [
-      | reading_at.Load slot word ↦ λ none. absurd (cc)
-      | reading_at.Check ↦ λ is.
-          let same : part_words reading ≡ listing = cc in
-          subst (λ (w : PartWords). version_in l words w.node ≡ w.version) same (ap (λ (ws : List ℕ). version_in l ws reading.call.node) there.1 ∙ sym there.2)
-    ] some
-
--- The action of one that has listed loads the node's version word again, or stores it.
-listed_gives : (p : Part) (listing : PartWords) → part_listed p ≡ Some listing
-    → (part_asks p ≡ Load (version_address (part_call p).view.layout listing.node)) ⊎ (part_asks p ≡ Store (version_address (part_call p).view.layout listing.node) listing.version)
-listed_gives (part_at.Looking lookup count behind) listing none = absurd (cc)
-listed_gives (part_at.Reading reading) listing some =
-    elim reading.at as (λ (a : ReadingAt). listed_at reading a ≡ Some listing → (reading_at_asks reading.call a ≡ Load (version_address reading.call.view.layout listing.node))
-    ⊎ (reading_at_asks reading.call a ≡ Store (version_address reading.call.view.layout listing.node) listing.version)) [
-      | reading_at.Load slot word ↦ λ none. absurd (cc)
-      | reading_at.Check ↦ λ is.
-          let same : part_words reading ≡ listing = cc in
-          inl (ap (λ (w : PartWords). Load (version_address reading.call.view.layout w.node)) same)
-    ] some
-
--- so it is told that, or stores it
+-- without the lock it tells the word that it saw, which it loads again; with it the word that it stores
 pub listed_word : (l : Layout) (words0 words : List ℕ) (m : Running) (listing : PartWords) → listed_in m ≡ Some listing → IsThere l words0 words m → IsRunning m → (running_call m).view.layout ≡ l → Confirms m (got l words (running_asks m)) listing
 listed_word l words0 words (Getting get) listing lists there sound layout = absurd (cc)
 listed_word l words0 words (Putting put) listing lists there sound layout = absurd (cc)
 listed_word l words0 words (Deleting del) listing lists there sound layout = absurd (cc)
-listed_word l words0 words (Parting p) listing lists there sound layout = ⊎_elim
-    (λ (loads : part_asks p ≡ Load (version_address (part_call p).view.layout listing.node)).
-    let hears = parts_hear p listing.version listing (listed_is_told p listing lists listing.version (inl (loads, refl))) in
-    let here : listing.node < l.nodes = subst (λ (n : ℕ). n < l.nodes) (sym hears.node) (subst (λ (m : Layout). (part_call p).node < m.nodes) layout (sound_call p sound).node) in
-    let loads_here : part_asks p ≡ Load (version_address l listing.node) = loads ∙ ap (λ (m : Layout). Load (version_address m listing.node)) layout in
-    inl (loads, ap (got l words) loads_here ∙ sym (version_in-here l words listing.node here) ∙ word_stands l words0 words p listing lists there))
-    (λ stores. inr stores)
-    (listed_gives p listing lists)
+listed_word l words0 words (Parting p) listing lists there sound layout =
+    let listed = is_listing l words0 words p listing lists there in
+    subst (λ (q : Part). Confirms (Parting q) (got l words (part_asks q)) listing) (sym listed.is)
+    (by listed (subst IsPart listed.is sound) (ap (λ (q : Part). (part_call q).view.layout) (sym listed.is) ∙ layout))
+  where
+    by : (listed : IsListing l words0 words p listing) → IsReading listed.reading → listed.reading.call.view.layout ≡ l → Confirms (Parting (part_at.Reading listed.reading)) (got l words (reading_at_asks listed.reading.call listed.reading.hold listed.reading.at)) listing
+    by listed sound here =
+        let r = listed.reading in
+        let node : listing.node ≡ r.call.node = sym (ap (λ (w : PartWords). w.node) listed.lists) in
+        let version : listing.version ≡ version_at r.hold.locked r.at = sym (ap (λ (w : PartWords). w.version) listed.lists) in
+        let within : r.call.node < l.nodes = subst (λ (m : Layout). r.call.node < m.nodes) here sound.call.node in
+        ⊎_elim
+        (λ (checks : r.at ≡ reading_at.Check).
+        let free : IsFreely r.way = (subst (IsReadingAt r) checks sound.here).0 in
+        let come = free_come l words0 words r.call r.hold.locked r.way free listed.there in
+        let loads : reading_at_asks r.call r.hold r.at ≡ Load (version_address r.call.view.layout listing.node) = ap (reading_at_asks r.call r.hold) checks ∙ ap (λ (n : ℕ). Load (version_address r.call.view.layout n)) (sym node) in
+        let loads_here : reading_at_asks r.call r.hold r.at ≡ Load (version_address l r.call.node) = loads ∙ (λ k. Load (version_address (here k) (node k))) in
+        inl (loads, ap (got l words) loads_here ∙ ap (λ (ws : List ℕ). got l ws (Load (version_address l r.call.node))) come.1 ∙ sym (version_in-here l words0 r.call.node within) ∙ sym come.2 ∙ sym (version ∙ ap (version_at r.hold.locked) checks)))
+        (λ (unlocks : r.at ≡ reading_at.Unlock).
+        let word : version_at r.hold.locked r.at ≡ r.hold.locked + 1 = ap (version_at r.hold.locked) unlocks in
+        inr (ap (reading_at_asks r.call r.hold) unlocks ∙ (λ k. Store (version_address r.call.view.layout (sym node k)) ((sym word ∙ sym version) k))))
+        listed.ends
 
--- and it has read no permutation
-pub unread : (m : Running) → reading_of m ≡ None
-unread (Getting get) = refl
-unread (Putting put) = refl
-unread (Deleting del) = refl
-unread (Parting p) = refl
+-- where its node's permutation was made at another version word, it sorts all names
+way_sorts : (l : Layout) (words0 words : List ℕ) (call : Call) (word names : ℕ) (way : Way) (listing : PartWords) → WayIsThere l words0 words call word way → ¬ IsMadeNow l words0 call
+    → HasCompared (way_reading call word way) names listing → listing.compared ≡ names
+way_sorts l words0 words call word names (ways.Served order) listing there older compared = absurd (older there.1)
+way_sorts l words0 words call word names (ways.Held order) listing there older compared = compared
+way_sorts l words0 words call word names ways.Alone listing there older compared = compared
 
-module _ (s0 s : Index) (low : List ℕ) (count : ℕ) (words : PartWords) (is0 : IsIndex s0) (none : HasNoCalls s0) where
+part_sorts : (l : Layout) (words0 words : List ℕ) (p : Part) (names : ℕ) (listing : PartWords) → part_listed p ≡ Some listing → PartIsThere l words0 words p → HasCompared (part_reading p) names listing
+    → ¬ (made_at l words0 listing.node ≡ version_in l words0 listing.node) → listing.compared ≡ names
+part_sorts l words0 words p names listing lists there compared older =
+    let listed = is_listing l words0 words p listing lists there in
+    way_sorts l words0 words listed.reading.call listed.reading.hold.locked names listed.reading.way listing listed.there
+    (λ made. older (subst (λ (n : ℕ). made_at l words0 n ≡ version_in l words0 n) (ap (λ (w : PartWords). w.node) listed.lists) made))
+    (subst (λ (q : Part). HasCompared (part_reading q) names listing) listed.is compared)
+
+-- How many names a lone part has sorted, by whether its node's permutation was made at the node's version word.
+pub record SortsSo (w0 w : World) (m : Running) (names : ℕ) (listing : PartWords) : Type 0 where
+  pub served : made_at w0.layout w0.words listing.node ≡ version_in w0.layout w0.words listing.node → (listing.compared ≡ 0) × (acted w.layout w.words (running_asks m) ≡ w0.words)
+  pub sorted : ¬ (made_at w0.layout w0.words listing.node ≡ version_in w0.layout w0.words listing.node) → listing.compared ≡ names
+
+pub sorts_so : (w0 w : World) (i : ℕ) (low : List ℕ) (party : Party) (m : Running) (x names : ℕ) (listing : PartWords) → LoneCall w0 i (op.Get low) None w party m → listed_in m ≡ Some listing → Confirms m x listing
+    → HasCompared (reading_of m) names listing → SortsSo w0 w m names listing
+sorts_so w0 w i low party (Getting get) x names listing o lists confirms compared = absurd (cc)
+sorts_so w0 w i low party (Putting put) x names listing o lists confirms compared = absurd (cc)
+sorts_so w0 w i low party (Deleting del) x names listing o lists confirms compared = absurd (cc)
+sorts_so w0 w i low party (Parting p) x names listing o lists confirms compared =
+    let node = listed_node w0.layout w0.words w.words low (Parting p) listing lists o.of o.stands in
+    record {
+      served = λ made.
+          (lone_parts_are_served w0 i (op.Get low) None w party p o (subst (λ (n : ℕ). made_at w0.layout w0.words n ≡ version_in w0.layout w0.words n) node made)).ends
+          x listing (listed_is_told p listing lists x confirms);
+      sorted = part_sorts w0.layout w0.words w.words p names listing lists o.stands compared;
+    }
+
+module _ (s0 s : Index) (reading : Option PermutationRead) (low : List ℕ) (count : ℕ) (words : PartWords) (is0 : IsIndex s0) (none : HasNoCalls s0) where
   abbrev l : Layout
   l = s0.layout
 
@@ -195,10 +247,14 @@ module _ (s0 s : Index) (low : List ℕ) (count : ℕ) (words : PartWords) (is0 
   inside : range_of l f n low ≡ true
   inside = eq-eqb n n refl
 
+  -- as many names as it may sort by what it has read
+  abbrev SortsAs : Option PermutationRead → Type 0
+  SortsAs reading = (names : ℕ) → HasCompared reading names words → SortsIfStale s0 s words.node names words
+
   -- where the map and the list are as before
   pub whole_part : s.base ≡ s0.base → s.history ≡ s0.history → (facts (world s)).list ≡ f.list → IsName low → words.node ≡ n → words.place ≡ length s0.history → WalksBy s0.layout s0.words low words.hops → words.old ≡ at (map_of_index s0) low
-      → IsPartAt s.layout (facts (world s)) None low count words → IsWholePart s0 low count s words
-  whole_part base history list named node place hops old is =
+      → IsPartAt s.layout (facts (world s)) reading low count words → SortsAs reading → IsWholePart s0 low count s words
+  whole_part base history list named node place hops old is sorts =
       let map_is : after (map_of s.base) s.history words.place ≡ map_of_index s0 =
       (λ k. after (map_of (base k)) (history k) (place k)) ∙ ap (after_all (map_of s0.base)) (take_all (length s0.history) s0.history (omega arith)) in
       let now_is : map_now (facts (world s)) ≡ map_of_index s0 = (λ k. after_all (map_of (base k)) (history k)) in
@@ -212,9 +268,11 @@ module _ (s0 s : Index) (low : List ℕ) (count : ℕ) (words : PartWords) (is0 
         hops = hops;
         old = old;
         high = ends_once (range_of l f n) low words.high (next_of (anchors_of f.list) low) ends (next_ends l f n low rest.list named inside);
-        lists = subst (λ (m : Map). ListsRange m low count words) map_is (lists_range s.layout (facts (world s)) None low count words named names is);
-        compared = is.compared
-            ∙ (λ k. length (pairs_in (now_is k) (range k)))
+        lists = subst (λ (m : Map). ListsRange m low count words) map_is (lists_range s.layout (facts (world s)) reading low count words named names is);
+        compared =
+            let names : length (pairs_in (map_now (facts (world s))) (range_of s.layout (facts (world s)) words.node)) ≡ length (names_at (map_of_index s0) (anchors_in (world s0)) low) =
+            (λ k. length (pairs_in (now_is k) (range k)))
             ∙ pairs_are_names (map_of_index s0) (range_of l f n)
-            ∙ ap length (range-names l f rest.list rest.named n low named inside);
+            ∙ ap length (range-names l f rest.list rest.named n low named inside) in
+            sorts _ (subst (λ (m : ℕ). HasCompared reading m words) names is.compared);
       }

@@ -114,6 +114,6 @@ machine_of view (call.Put name value limit) =
 machine_of view (call.Get name) = Getting (get.Looking (starts (new_call view name None)))
 machine_of view (call.Del name limit) =
     Deleting (del.Single (single_del.Looking (starts (new_call view name (Some limit)))))
-machine_of view (call.Part low count) = Parting (part.Looking (starts (new_call view low None)) count None)
+machine_of view (call.Part low count) = Parting (part.Looking (starts (new_call view low None)) count)
 machine_of view (call.Recheck node version) = Getting (get.Looking (starts (new_call view [] None)))
 machine_of view (call.Turn stamp release) = Getting (get.Looking (starts (new_call view [] None)))

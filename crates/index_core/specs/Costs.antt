@@ -6,6 +6,7 @@ use Rattle.call_stages.specs.declared.once.Once.{Once}
 use Rattle.call_stages.specs.declared.once.Once.TheVariants as once
 use Rattle.call_stages.specs.declared.once.Placed.{Placed}
 use Rattle.lone_updater_law.specs.CallLogs.{ready_lines}
+use Rattle.search_layer.specs.Floors.{floor_most}
 use Rattle.index_core.specs.declared.party.CoreCall.{CoreCall}
 use Rattle.index_core.specs.declared.party.CoreCall.TheVariants as call
 use Rattle.index_core.specs.declared.party.Whole.{Whole}
@@ -13,13 +14,13 @@ use Rattle.index_core.specs.declared.party.Whole.TheVariants as whole
 use Rattle.index_core.specs.Indexes.{Index, world}
 use Rattle.index_core.specs.Lone.{HasShortWays, NeedsNoTurn}
 
--- Those of a look-up, whose walk makes so many hops: those of the floor in the search layer, ten for each hop, and
--- three for each slot.
+-- Those of a look-up, whose walk makes so many hops: those of the floor in the search layer, ten for each hop, three
+-- for each slot, and a few more.
 abbrev pub look_actions : Layout → ℕ → ℕ
-look_actions l hops = 4 * l.nodes + 3 * l.slots + 10 * hops + 40
+look_actions l hops = floor_most l + 3 * l.slots + 10 * hops + 23
 
--- Those of a put into its node, and of one that splits its node; those of a delete, which may merge two; and what a
--- part loads of its node.
+-- Those of a put into its node, and of one that splits its node; those of a delete, which may merge two; and those of a
+-- part at its node.
 abbrev pub fill_actions : ℕ
 fill_actions = 57
 
@@ -98,12 +99,12 @@ ActsWithin s caller c result before after = HasShortWays s → NeedsNoTurn calle
 abbrev pub WithMost : Index → ℕ → CoreCall → (ℕ → Type 0) → Type 0
 WithMost s caller c P = HasShortWays s → NeedsNoTurn caller c s → P (most_actions s.layout c (ready_lines (world s)))
 
--- In plain numbers, for the largest layout: fewer than 20480 for a get or a part of a scan, than 65536 for a put or a
--- delete, and 32 or 64 for each line that is READY.
+-- In plain numbers, for any layout: at most 16384 for a get or a part of a scan, 65536 for a put or a delete, and 32 or
+-- 64 more for each line that is READY.
 abbrev pub AreFewActions : CoreCall → ℕ → ℕ → Type 0
 AreFewActions (call.Put name value limit) lines actions = actions ≤ 65536 + 64 * lines
 AreFewActions (call.Del name limit) lines actions = actions ≤ 65536 + 64 * lines
-AreFewActions _ lines actions = actions ≤ 20480 + 32 * lines
+AreFewActions _ lines actions = actions ≤ 16384 + 32 * lines
 
 abbrev pub ActionsAreFew : Type 0
 ActionsAreFew = (l : Layout) (c : CoreCall) (lines : ℕ) → IsLayout l → AreFewActions c lines (most_actions l c lines)

@@ -37,6 +37,8 @@ use Rattle.node_ops.specs.declared.get.Get.{Get}
 use Rattle.node_ops.specs.declared.get.Get.TheVariants as get
 use Rattle.node_ops.specs.declared.part.Part.{Part}
 use Rattle.node_ops.specs.declared.part.Part.TheVariants as part
+use Rattle.node_ops.specs.declared.part.Way.{Way}
+use Rattle.node_ops.specs.declared.part.Way.TheVariants as ways
 use Rattle.node_ops.specs.declared.del.Del.{Del}
 use Rattle.node_ops.specs.declared.del.Del.TheVariants as del
 use Rattle.node_ops.specs.declared.put.Put.{Put}
@@ -178,9 +180,17 @@ abbrev pub GetHas : List ℕ → Get → Type 0
 GetHas told (get.Looking lookup) = LookHas told lookup.call.limit lookup.at
 GetHas told (get.Checking call hold old) = Contains told hold.locked
 
+-- A part without a lock was told the version word that it saw.
+abbrev pub WayHas : List ℕ → Way → ℕ → Type 0
+WayHas told (ways.Held words) word = Unit {0}
+WayHas told _ word = Contains told word
+
 abbrev pub PartHas : List ℕ → Part → Type 0
-PartHas told (part.Looking lookup count behind) = LookHas told lookup.call.limit lookup.at
-PartHas told (part.Reading reading) = Contains told reading.hold.locked
+PartHas told (part.Looking lookup count) = LookHas told lookup.call.limit lookup.at
+PartHas told (part.Ordering call seen count load) = Contains told seen.version
+PartHas told (part.Locking call seen count locked) = Contains told seen.version
+PartHas told (part.Dating call seen count way) = Contains told seen.version
+PartHas told (part.Reading reading) = WayHas told reading.way reading.hold.locked
 
 -- What a call in flight has been told.
 abbrev pub RunningHas : Layout → ℕ → List ℕ → Running → Type 0

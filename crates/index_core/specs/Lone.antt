@@ -23,6 +23,7 @@ use Rattle.version_lock.specs.Versions.{IsWorn}
 use Rattle.index_law.specs.Facts.{version_in}
 use Rattle.index_law.specs.Anchors.{anchors_in, gone_nodes}
 use Rattle.index_law.specs.Worlds.{facts, written}
+use Rattle.permutation_law.specs.Permuted.{made_at}
 use Rattle.lone_call_law.specs.Rooms.{target_node}
 use Rattle.lone_call_law.specs.Merging.{NextIsWorn, TriesMerge}
 use Rattle.lone_call_law.specs.LoneCalls.{FindsWorn, IsAnswered}
@@ -187,6 +188,13 @@ IsWornNode tries s caller c new node word =
     ⊎ (IsMadeAgain caller c s × (locks_left s < tries) × (HasSameList s new ⊎ SplitsFor c s new) ×
     (node ≡ node_for new (name_asked (op_of c))) × IsWorn word s.generation)
 
+-- A part of a scan of this node sorts none of its names and changes no word, where the node's permutation was made at
+-- its version word; and else it sorts them all.
+pub record SortsIfStale (s new : Index) (node names : ℕ) (words : PartWords) : Type 0 where
+  pub served : made_at s.layout s.words node ≡ version_in s.layout s.words node →
+      (words.compared ≡ 0) × (new.words ≡ s.words)
+  pub sorted : (made_at s.layout s.words node ≡ version_in s.layout s.words node → ⊥) → words.compared ≡ names
+
 -- A part of a scan from this low name on lists the names of the map that belong to the low one's node, up to the next
 -- node's anchor.
 pub record IsWholePart (s : Index) (low : List ℕ) (count : ℕ) (new : Index) (words : PartWords) : Type 0 where
@@ -197,7 +205,7 @@ pub record IsWholePart (s : Index) (low : List ℕ) (count : ℕ) (new : Index) 
   pub old : words.old ≡ at (map_of_index s) low
   pub high : words.high ≡ next_of (anchors_in (world s)) low
   pub lists : ListsRange (map_of_index s) low count words
-  pub compared : words.compared ≡ length (names_at (map_of_index s) (anchors_in (world s)) low)
+  pub compared : SortsIfStale s new words.node (length (names_at (map_of_index s) (anchors_in (world s)) low)) words
 
 -- The call needs no turn of the updater: it is a get or a part of a scan, or its caller has a log line that is EMPTY
 -- and, for a put, some node is FREE that can be locked.

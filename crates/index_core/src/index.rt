@@ -253,7 +253,7 @@ impl Core {
         let machine = self.states[party as usize].machine.running();
         let count = machine.count();
         let listed = machine.listed();
-        match self.turn(party, steps) {
+        match self.step_call(party, steps) {
             None => Stepped::Going,
             Some(answer) => Stepped::Answered(CoreReply::of(count, listed, answer)),
         }
@@ -261,7 +261,7 @@ impl Core {
 
     /// Takes one step of the party's call on a name, which is in flight, and returns its answer, if it is answered.
     /// What a part lists its machine tells before this.
-    pub(crate) fn turn<L: Ledger>(
+    pub(crate) fn step_call<L: Ledger>(
         &mut self,
         party: u64,
         steps: &mut Steps<L>,

@@ -221,7 +221,7 @@ pub fn stepped_turn_law()
 
 ghost use Rattle.index_core.specs.Costs.{ActionsAreFew};
 
-/// How many actions a lone call makes at most, in plain numbers for the largest layout.
+/// How many actions a lone call makes at most, in plain numbers for any layout.
 pub fn actions_law()
     ensures { ActionsAreFew }
 {}

@@ -44,8 +44,8 @@ impl Core {
     /// state changes.
     ///
     /// It makes at least one step, which `steps` counts, as do the calls below. On an index whose ways are short a call
-    /// that needs no turn, and isn't answered that a node is worn, makes no more than `most_actions`: on the largest
-    /// layout some 16,600 for a get and 63,400 for a put, and ten or twenty more for each log line that is READY.
+    /// that needs no turn, and isn't answered that a node is worn, makes no more than `most_actions`: on any layout some
+    /// 14,100 for a get and 58,400 for a put, and ten or twenty more for each log line that is READY.
     pub fn run_alone<L: Ledger>(
         &mut self,
         caller: u64,
@@ -122,7 +122,8 @@ impl Core {
     }
 
     /// A whole part of a scan, as `run_alone` makes it: it lists the first `count` names from the low one on, of those
-    /// that belong to the low one's node. It is answered `Done`: it takes no lock, so no node is too worn for it.
+    /// that belong to the low one's node. It is answered `Done`: where its node can't be locked any more it goes
+    /// without, so no node is too worn for it.
     pub fn part_alone<L: Ledger>(
         &mut self,
         caller: u64,
@@ -147,10 +148,10 @@ impl Core {
         'steps: loop {
             if self.has_listed(caller) {
                 let words = self.listing(caller);
-                self.turn(caller, steps);
+                self.step_call(caller, steps);
                 return Once::Done(words);
             }
-            if let Some(answer) = self.turn(caller, steps) {
+            if let Some(answer) = self.step_call(caller, steps) {
                 return Part::early(answer);
             }
         }
@@ -203,7 +204,7 @@ impl Core {
             unreachable!()
         };
         'steps: loop {
-            if let Some(answer) = self.turn(caller, steps) {
+            if let Some(answer) = self.step_call(caller, steps) {
                 return answer;
             }
         }

@@ -176,10 +176,10 @@ impl Core {
             *budget -= 1;
             if self.has_listed(caller) {
                 let words = self.listing(caller);
-                self.turn(caller, steps);
+                self.step_call(caller, steps);
                 return Some(Once::Done(words));
             }
-            if let Some(answer) = self.turn(caller, steps) {
+            if let Some(answer) = self.step_call(caller, steps) {
                 return Some(Part::early(answer));
             }
         }
@@ -292,7 +292,7 @@ impl Core {
                 return None;
             }
             *budget -= 1;
-            if let Some(answer) = self.turn(caller, steps) {
+            if let Some(answer) = self.step_call(caller, steps) {
                 return Some(answer);
             }
         }

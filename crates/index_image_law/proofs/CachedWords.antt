@@ -12,7 +12,7 @@ use Rattle.index_law.specs.Lines.{line_in}
 use Rattle.index_law.proofs.Rows.{in_spot, in_spot-true}
 use Rattle.search_layer.specs.Rows.{layer_words, image_layer_words}
 use Rattle.updater_row_law.specs.Columns.{lines_in}
-use Rattle.image_layer_rules.specs.Leaves.{image_lines}
+use Rattle.image_layer_rules.specs.Anchors.{image_lines}
 use Rattle.index_image_law.proofs.TwinWords.{AreTwinWords}
 use Rattle.index_image_law.proofs.TwinWords as twin
 

@@ -1,8 +1,8 @@
 -- The image of the durable words is sound by all rules.
-use Rattle.std.proofs.Common.{◌≡◌, ℕ, List, subst, ◌∙◌, arith}
+use Rattle.std.proofs.Common.{◌≡◌, ℕ, List, subst}
 use Rattle.pm_words.specs.declared.layout.Layout.{Layout}
 use Rattle.pm_words.specs.Images.{IsImage}
-use Rattle.pm_words.specs.Locations.{Root, Durable}
+use Rattle.pm_words.specs.Locations.{Durable}
 use Rattle.pm_words.specs.Rows.{durable_row}
 use Rattle.pm_words.proofs.Made.{durable_row-at, durable_row-image}
 use Rattle.data_node.specs.Lists.{anchor_in, members_from, IsIn}
@@ -23,9 +23,9 @@ use Rattle.index_layer_law.specs.Turnings.{terms_of, ghosts_of}
 use Rattle.index_layer_law.proofs.CrashCover.{crash_leads_as_listed}
 use Rattle.image_layer_rules.specs.Laws.{KeepsLayerRules, IsCoveredImage}
 use Rattle.image_rules.specs.Nodes.{image_list}
-use Rattle.image_layer_rules.specs.Leaves.{image_anchor, image_lines}
+use Rattle.image_layer_rules.specs.Anchors.{image_anchor, image_lines}
 use Rattle.image_layer_rules.proofs.LayerLaws.{layer_makes_sound}
-use Rattle.image_layer_rules.proofs.RuleLemmas.{cover_tells_keys}
+use Rattle.image_layer_rules.proofs.CoverLaw.{cover_tells_keys, keys_if}
 use Rattle.index_image_law.specs.Crash.{CrashLeavesSoundByAll}
 use Rattle.index_image_law.proofs.TwinWords.{AreTwinWords}
 use Rattle.index_image_law.proofs.TwinWords as twin
@@ -69,11 +69,13 @@ module _ (z : Layered) (is : IsLayered z) where
   safe : IsSafeLayer (terms_of w is.active.1) w.words
   safe = layer_is_safe (terms_of w is.active.1) (ghosts_of w is.holder) w.words is.active.1.stage (is.rows is.active.0 is.active.1 is.active.2 is.active.3)
 
+  in_order : IsKept l (image_layer_words l image)
+  in_order = subst (IsKept l) layer_is safe.order
+
   keeps : KeepsLayerRules l image
   keeps = record {
-    root = durable_row-at l w.words (Root 0) ∙ lawful.durable_front.blank (Root 0) (omega arith);
-    row = subst (IsKept l) layer_is safe.order;
-    keys = cover_tells_keys l image is_image sound covered;
+    row = in_order;
+    keys = keys_if l image (cover_tells_keys l image is_image sound in_order covered);
     few = subst (λ (v : LayerWords). HasFew l.nodes (kept l v)) layer_is safe.few;
     covered = covered;
   }

@@ -1,8 +1,8 @@
 -- The image keeps the rules on its search layer.
-use Rattle.std.proofs.Common.{◌≡◌, ℕ, ◌∙◌, sym, subst, arith}
-use Rattle.pm_words.specs.Locations.{Root, Cached}
+use Rattle.std.proofs.Common.{◌≡◌, ℕ, ◌∙◌, sym, subst}
+use Rattle.pm_words.specs.Locations.{Cached}
 use Rattle.pm_words.specs.Rows.{cached_row}
-use Rattle.pm_words.proofs.Made.{cached_row-at, cached_row-image}
+use Rattle.pm_words.proofs.Made.{cached_row-image}
 use Rattle.data_node.specs.Lists.{anchor_in, members_from, IsIn}
 use Rattle.image_rules.specs.Sound.{IsSound}
 use Rattle.index_law.specs.Facts.{IsListed}
@@ -11,7 +11,7 @@ use Rattle.index_law.specs.Worlds.{World, facts}
 use Rattle.layer_map.specs.Layers.{HasFew, LeadsApart}
 use Rattle.search_layer.specs.Rows.{LayerWords, layer_words}
 use Rattle.search_layer.specs.Kept.{layer_of, IsInOrder, kept, IsKept}
-use Rattle.search_layer.proofs.CountLemmas.{kept_leads_below}
+use Rattle.search_layer.proofs.RowLemmas.{kept_leads_below}
 use Rattle.layer_map.proofs.FewLemmas.{few_apart}
 use Rattle.updater_law.specs.Covered.{IsCovered}
 use Rattle.updater_law.specs.Covers.{IsOpenFor}
@@ -21,7 +21,7 @@ use Rattle.updater_law.specs.TurnStages.{Resting}
 use Rattle.updater_row_law.specs.Columns.{lines_in}
 use Rattle.index_layer_law.proofs.FactTies.{rest_in, known}
 use Rattle.image_layer_rules.specs.Laws.{KeepsLayerRules, IsCoveredImage}
-use Rattle.image_layer_rules.proofs.RuleLemmas.{cover_tells_keys}
+use Rattle.image_layer_rules.proofs.CoverLaw.{cover_tells_keys, keys_if}
 use Rattle.index_image_law.proofs.CachedWords.{spots_are, layer_is, lines_are}
 
 -- what the law of turns says of an index at rest, and what the image then is by the rules on its list, nodes and log
@@ -56,10 +56,10 @@ module _ {w : World} {holder : ℕ → ℕ} {terms : TurnTerms} (is : IsLayerAtR
       let l = w.layout in
       let words = w.words in
       let layer = layer_is l words in
+      let in_order = subst (IsKept l) layer is.order in
       record {
-        root = cached_row-at l words (Root 0) (omega arith) ∙ is.rest.front.blank (Root 0) (omega arith);
-        row = subst (IsKept l) layer is.order;
-        keys = cover_tells_keys l (cached_row l words) (cached_row-image l words is.rest.row) is.sound covered;
+        row = in_order;
+        keys = keys_if l (cached_row l words) (cover_tells_keys l (cached_row l words) (cached_row-image l words is.rest.row) is.sound in_order covered);
         few = subst (λ (v : LayerWords). HasFew l.nodes (kept l v)) layer few;
         covered = covered;
       }

@@ -50,7 +50,7 @@ lines_fit l words fit line here =
 -- words that have no use are blank
 blank : (l : Layout) (words : List ℕ) → ((w : Word) → IsBlank w → at l words (Cached w) ≡ 0) → (w : Word) → IsSpare w → word_at l (cached_row l words) w ≡ 0
 blank l words none (Header o) is = cached_row-at l words (Header o) is.1 ∙ none (Header o) is
-blank l words none (Root o) is = cached_row-at l words (Root o) is.1 ∙ none (Root o) is.1
+blank l words none (Root o) is = cached_row-at l words (Root o) is.1 ∙ none (Root o) is
 blank l words none (Node n o) is = absurd is
 blank l words none (Line c j o) is = absurd is
 blank l words none (Leaf k o) is = absurd is

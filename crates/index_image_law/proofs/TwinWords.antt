@@ -8,7 +8,7 @@ use Rattle.layer_map.specs.Keys.{key_of}
 use Rattle.search_layer.specs.Rows.{layer_words, image_layer_words}
 use Rattle.search_layer.proofs.RowLemmas.{images_alike}
 use Rattle.updater_row_law.specs.Columns.{column, line_field, lines_in}
-use Rattle.image_layer_rules.specs.Leaves.{image_lines, line_word}
+use Rattle.image_layer_rules.specs.Anchors.{image_lines, line_word}
 
 -- each word of the image is that of this twin
 abbrev pub AreTwinWords : Layout → List ℕ → (Word → Location) → List ℕ → Type 0

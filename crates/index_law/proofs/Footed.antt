@@ -8,11 +8,10 @@ use lib.ListN.{get_elem?}
 use Rattle.pm_words.specs.Codes.{live_status}
 use Rattle.pm_words.specs.declared.layout.Layout.{Layout}
 use Rattle.pm_words.specs.Layouts.{IsLayout}
-use Rattle.pm_words.specs.Images.{fresh_words}
 use Rattle.pm_words.specs.Locations.{Location, Node, Line, Clock, Volatile, Cached, Durable, HasWord, HasLocation, at, address_of}
-use Rattle.pm_words.specs.Rows.{evicted, row_of}
+use Rattle.pm_words.specs.Rows.{evicted}
 use Rattle.pm_words.proofs.Apart.{at-set_other}
-use Rattle.pm_words.proofs.Made.{fresh_at, fresh_image, row_of-at, row_of-at_volatile}
+use Rattle.pm_words.proofs.Made.{fresh_at}
 use Rattle.data_node.specs.Spots.{Spot}
 use Rattle.data_node.specs.Lists.{next_offset}
 use Rattle.call_stages.specs.Stages.{Stage, Idle, HoldsNode, Tells}
@@ -21,7 +20,8 @@ use Rattle.call_stages.specs.Lines.{HeldLine}
 use Rattle.index_law.specs.Facts.{Facts, facts_of, map_now, IsListed, status_in, spot_in}
 use Rattle.index_law.specs.Worlds.{Party, World, facts}
 use Rattle.index_law.specs.Lawful.{Lawful}
-use Rattle.index_law.specs.Laws.{fresh_row, fresh_world, next_round}
+use Rattle.index_law.specs.Laws.{marked_row, fresh_row, fresh_world, next_round}
+use Rattle.index_law.proofs.MarkedRow.{marked-at, marked-at_volatile}
 use Rattle.index_law.specs.Lines.{line_in, safe_line, AreFit, SureLine, IsGiven, IsWaiting}
 use Rattle.call_stages.specs.Orders.{AreInOrder}
 use Rattle.index_law.specs.Prevs.{prev_in, IsOwed, IsGone}
@@ -204,42 +204,42 @@ module _ (l : Layout) (layout : IsLayout l) where
   first_here = let least = layout.nodes in omega arith
 
   -- only node 0's status is stored
-  stays_zero : (p : Location) → HasLocation l p → p ≢ Volatile 0 0 → at l (row_of l (fresh_words l)) p ≡ 0 → at l (fresh_row l) p ≡ 0
-  stays_zero p has other zero = at-set_other l (row_of l (fresh_words l)) (Volatile 0 0) p live_status (first_here, omega arith) has other ∙ zero
+  stays_zero : (p : Location) → HasLocation l p → p ≢ Volatile 0 0 → at l (marked_row l) p ≡ 0 → at l (fresh_row l) p ≡ 0
+  stays_zero p has other zero = at-set_other l (marked_row l) (Volatile 0 0) p live_status (first_here, omega arith) has other ∙ zero
 
   -- so the lines are EMPTY, both twins,
   empty_line : (c j : ℕ) → line_in l (fresh_row l) c j 0 ≡ 0
   unfolding line_in
   empty_line c j = guarded_twice _ _ (at l (fresh_row l) (Cached (Line c j 0))) (λ here low.
       let has : HasWord l (Line c j 0) = (ltb-true c l.callers here, ltb-true j 8 low, omega arith) in
-      stays_zero (Cached (Line c j 0)) has (λ e. cc) ((row_of-at l (fresh_words l) (Line c j 0) (fresh_image l layout) has).0 ∙ fresh_at l (Line c j 0) has))
+      stays_zero (Cached (Line c j 0)) has (λ e. cc) ((marked-at l (Line c j 0) layout has).0 ∙ fresh_at l (Line c j 0) has))
 
   empty_safe : (c j : ℕ) → safe_line l (fresh_row l) c j 0 ≡ 0
   unfolding safe_line
   empty_safe c j = guarded_twice _ _ (at l (fresh_row l) (Durable (Line c j 0))) (λ here low.
       let has : HasWord l (Line c j 0) = (ltb-true c l.callers here, ltb-true j 8 low, omega arith) in
-      stays_zero (Durable (Line c j 0)) has (λ e. cc) ((row_of-at l (fresh_words l) (Line c j 0) (fresh_image l layout) has).1 ∙ fresh_at l (Line c j 0) has))
+      stays_zero (Durable (Line c j 0)) has (λ e. cc) ((marked-at l (Line c j 0) layout has).1 ∙ fresh_at l (Line c j 0) has))
 
   -- the prevs 0,
   zero_prev : (n : ℕ) → prev_in l (fresh_row l) n ≡ 0
   unfolding prev_in
   zero_prev n = guarded _ (at l (fresh_row l) (Volatile n 1)) (λ here.
       let has : HasLocation l (Volatile n 1) = (ltb-true n l.nodes here, omega arith) in
-      stays_zero (Volatile n 1) has (λ e. let no : 1 ≡ 0 = ap offset_of e in omega arith) (row_of-at_volatile l (fresh_words l) (Volatile n 1) has (omega arith)))
+      stays_zero (Volatile n 1) has (λ e. let no : 1 ≡ 0 = ap offset_of e in omega arith) (marked-at_volatile l (Volatile n 1) has (omega arith) (λ e. cc)))
 
   -- the other nodes FREE,
   zero_status : (n : ℕ) → n ≢ 0 → status_in l (fresh_row l) n ≡ 0
   unfolding status_in
   zero_status n other = guarded _ (at l (fresh_row l) (Volatile n 0)) (λ here.
       let has : HasLocation l (Volatile n 0) = (ltb-true n l.nodes here, omega arith) in
-      stays_zero (Volatile n 0) has (λ e. other (ap node_of e)) (row_of-at_volatile l (fresh_words l) (Volatile n 0) has (omega arith)))
+      stays_zero (Volatile n 0) has (λ e. other (ap node_of e)) (marked-at_volatile l (Volatile n 0) has (omega arith) (λ e. cc)))
 
   -- and no node leads to another
   zero_next : (n : ℕ) → n < l.nodes → spot_in l (fresh_row l) n next_offset ≡ 0
   zero_next n here =
       let has : HasWordAt l n 2 = (here, omega arith) in
       spot_in-here l (fresh_row l) n 2 has (omega arith)
-      ∙ stays_zero (Cached (Node n 2)) has (λ e. cc) ((row_of-at l (fresh_words l) (Node n 2) (fresh_image l layout) has).0 ∙ fresh_at l (Node n 2) has)
+      ∙ stays_zero (Cached (Node n 2)) has (λ e. cc) ((marked-at l (Node n 2) layout has).0 ∙ fresh_at l (Node n 2) has)
 
 pub fresh_footed : FreshIsFooted
 fresh_footed l parties lines debts layout free since =

@@ -1,5 +1,5 @@
 -- In the row of a fresh image nothing is in flight, and its node means the empty map.
-use Rattle.std.proofs.Common.{◌≡◌, ◌≢◌, ℕ, ◌+◌, ◌*◌, ◌^◌, ◌<◌, ◌≤◌, ◌==◌, Bool, true, false, cond, List, [], slice_index, inl, inr, ⊎_elim, refl, sym, ap, ◌∙◌, subst, arith}
+use Rattle.std.proofs.Common.{◌≡◌, ◌≢◌, ℕ, zero, suc, ◌+◌, ◌*◌, ◌^◌, ◌<◌, ◌≤◌, ◌==◌, Bool, true, false, cond, List, [], slice_index, inl, inr, ⊎_elim, refl, sym, ap, ◌∙◌, subst, arith}
 use Rattle.std.specs.Prelude.{if◌then◌else◌, Some, None}
 use Rattle.std.specs.FinMap.{empty, get-empty}
 use Rattle.cat_key.specs.Names.{name_cmp}
@@ -7,13 +7,13 @@ use Rattle.std.proofs.lemmas.Bool.{cases_eq, eq-eqb, ne_eqb}
 use Rattle.pm_words.specs.Codes.{gone_status, live_status}
 use Rattle.pm_words.specs.declared.layout.Layout.{Layout}
 use Rattle.pm_words.specs.Layouts.{IsLayout}
-use Rattle.pm_words.specs.Images.{fresh_words, fresh_word}
+use Rattle.pm_words.specs.Images.{fresh_word}
 use Rattle.pm_words.specs.Locations.{Word, Header, Root, Node, Line, Leaf, Cell, Volatile, Cached, Durable, Clock, HasWord, at}
-use Rattle.pm_words.specs.Rows.{row_of, CanAct}
+use Rattle.pm_words.specs.Rows.{CanAct}
 use Rattle.pm_words.specs.declared.action.Action.TheVariants.{Store}
 use Rattle.pm_words.proofs.Apart.{addresses_within, at-set_other}
 use Rattle.pm_words.proofs.Kept.{acted_row}
-use Rattle.pm_words.proofs.Made.{fresh_at, fresh_image, row_of-at, row_of-at_volatile, row_of-row}
+use Rattle.pm_words.proofs.Made.{fresh_at}
 use Rattle.version_lock.specs.Versions.{generation_of, IsFree}
 use Rattle.data_node.proofs.SpotLemmas.{means_empty}
 use Rattle.call_stages.specs.Kinds.{HasWordAt, word_address, status_address}
@@ -26,32 +26,33 @@ use Rattle.index_law.specs.Twins.{IsBlank, IsFront}
 use Rattle.data_node.proofs.ListLemmas.{chain_is}
 use Rattle.index_law.proofs.Actions.{status_outside}
 use Rattle.index_law.proofs.Twins.{IsNearer, nearer, store_closer, closer_spot, closer_versions, closer_front, cached_front}
-use Rattle.index_law.specs.Laws.{fresh_row, FreshIsAtRest, fresh_world}
+use Rattle.index_law.specs.Laws.{marked_row, fresh_row, FreshIsAtRest, fresh_world}
+use Rattle.index_law.proofs.MarkedRow.{marked-at, marked-at_volatile, marked_row-row}
 use Rattle.index_law.proofs.Rows.{in_spot, in_spot-true, version_in-here, status_in-here, spot_in-here, with_status, facts-status}
 
 -- each word of a node is 0
-fresh_zero : (l : Layout) (n offset : ℕ) → IsLayout l → HasWordAt l n offset → slice_index (row_of l (fresh_words l)) (word_address l n offset) ≡ 0
-fresh_zero l n offset layout has = (row_of-at l (fresh_words l) (Node n offset) (fresh_image l layout) has).0 ∙ fresh_at l (Node n offset) has
+fresh_zero : (l : Layout) (n offset : ℕ) → IsLayout l → HasWordAt l n offset → slice_index (marked_row l) (word_address l n offset) ≡ 0
+fresh_zero l n offset layout has = (marked-at l (Node n offset) layout has).0 ∙ fresh_at l (Node n offset) has
 
-fresh_version : (l : Layout) (n : ℕ) → IsLayout l → n < l.nodes → version_in l (row_of l (fresh_words l)) n ≡ 0
-fresh_version l n layout here = version_in-here l (row_of l (fresh_words l)) n here ∙ fresh_zero l n 0 layout (here, omega arith)
+fresh_version : (l : Layout) (n : ℕ) → IsLayout l → n < l.nodes → version_in l (marked_row l) n ≡ 0
+fresh_version l n layout here = version_in-here l (marked_row l) n here ∙ fresh_zero l n 0 layout (here, omega arith)
 
 -- both twins of each word are the image's
-fresh_cached : (l : Layout) (w : Word) → IsLayout l → HasWord l w → at l (row_of l (fresh_words l)) (Cached w) ≡ fresh_word l w
-fresh_cached l w layout has = (row_of-at l (fresh_words l) w (fresh_image l layout) has).0 ∙ fresh_at l w has
+fresh_cached : (l : Layout) (w : Word) → IsLayout l → HasWord l w → at l (marked_row l) (Cached w) ≡ fresh_word l w
+fresh_cached l w layout has = (marked-at l w layout has).0 ∙ fresh_at l w has
 
-fresh_durable : (l : Layout) (w : Word) → IsLayout l → HasWord l w → at l (row_of l (fresh_words l)) (Durable w) ≡ fresh_word l w
-fresh_durable l w layout has = (row_of-at l (fresh_words l) w (fresh_image l layout) has).1 ∙ fresh_at l w has
+fresh_durable : (l : Layout) (w : Word) → IsLayout l → HasWord l w → at l (marked_row l) (Durable w) ≡ fresh_word l w
+fresh_durable l w layout has = (marked-at l w layout has).1 ∙ fresh_at l w has
 
 -- the twins of a node's words are alike
-fresh_twins : (l : Layout) (n offset : ℕ) → IsLayout l → durable_spot l (row_of l (fresh_words l)) n offset ≡ spot_in l (row_of l (fresh_words l)) n offset
+fresh_twins : (l : Layout) (n offset : ℕ) → IsLayout l → durable_spot l (marked_row l) n offset ≡ spot_in l (marked_row l) n offset
 unfolding durable_spot spot_in
 fresh_twins l n offset layout =
     elim (in_spot l n offset) as (λ b. in_spot l n offset ≡ b
-    → cond b (at l (row_of l (fresh_words l)) (Durable (Node n offset))) 0 ≡ cond b (at l (row_of l (fresh_words l)) (Cached (Node n offset))) 0) [
+    → cond b (at l (marked_row l) (Durable (Node n offset))) 0 ≡ cond b (at l (marked_row l) (Cached (Node n offset))) 0) [
       | true ↦ λ is.
           let has = (in_spot-true l n offset is).0 in
-          let both = row_of-at l (fresh_words l) (Node n offset) (fresh_image l layout) has in
+          let both = marked-at l (Node n offset) layout has in
           both.1 ∙ sym both.0
       | false ↦ λ is. refl
     ] refl
@@ -65,26 +66,27 @@ blank_zero l (Header o) is = (
     | inr other ↦ subst (λ (i : ℕ). fresh_word l (Header i) ≡ 0) (let seven : 7 ≡ o = omega (arith, other) in seven) refl
   ],
 )
-blank_zero l (Root o) is = (is, refl)
+blank_zero l (Root zero) is = absurd (let no : 1 ≤ 0 = is.0 in omega arith)
+blank_zero l (Root (suc o)) is = (is.1, refl)
 blank_zero l (Node n o) is = absurd is
 blank_zero l (Line c j o) is = absurd is
 blank_zero l (Leaf k o) is = absurd is
 blank_zero l (Cell kind k o) is = absurd is
 
 -- each status is 0
-fresh_status : (l : Layout) (n : ℕ) → IsLayout l → n < l.nodes → status_in l (row_of l (fresh_words l)) n ≡ 0
-fresh_status l n layout here = status_in-here l (row_of l (fresh_words l)) n here ∙ row_of-at_volatile l (fresh_words l) (Volatile n 0) (here, omega arith) (omega arith)
+fresh_status : (l : Layout) (n : ℕ) → IsLayout l → n < l.nodes → status_in l (marked_row l) n ≡ 0
+fresh_status l n layout here = status_in-here l (marked_row l) n here ∙ marked-at_volatile l (Volatile n 0) (here, omega arith) (omega arith) (λ e. cc)
 
 module _ (l : Layout) (parties : List Party) (layout : IsLayout l) where
   abbrev row : List ℕ
-  row = row_of l (fresh_words l)
+  row = marked_row l
 
   some : 0 < l.nodes
   some = let least = layout.nodes in omega arith
 
   -- the facts: node 0 is LIVE
   same : facts (fresh_world l parties) ≡ with_status (facts_of l row empty []) 0 live_status
-  same = facts-status l row empty [] 0 live_status (row_of-row l (fresh_words l) (fresh_image l layout)).whole some
+  same = facts-status l row empty [] 0 live_status (marked_row-row l layout).whole some
 
   next_zero : spot_in l row 0 next_offset ≡ 0
   next_zero =
@@ -153,10 +155,10 @@ module _ (l : Layout) (parties : List Party) (layout : IsLayout l) where
 pub fresh_law : FreshIsAtRest
 fresh_law l parties layout idle begun =
     let w = fresh_world l parties in
-    let row = row_of l (fresh_words l) in
+    let row = marked_row l in
     let here : 0 < l.nodes = some l parties layout in
     let is = same_lit l parties layout in
-    let whole = row_of-row l (fresh_words l) (fresh_image l layout) in
+    let whole = marked_row-row l layout in
     let can : CanAct l row (Store (status_address l 0) live_status) = ((addresses_within l (Volatile 0 0) (here, omega arith), status_outside l 0 here), omega arith) in
     let near = closer l parties layout in
     let known : AreKnown l 1 (facts_of l row empty []) = λ n below. subst (λ (v : ℕ). generation_of v ≤ 1) (sym (fresh_version l n layout below)) (omega arith) in
@@ -170,7 +172,7 @@ fresh_law l parties layout idle begun =
       live = subst (AreLive l 1) (sym is) (live_lit l parties layout);
       run = record { least = omega arith; fits = omega arith };
       row = acted_row l row (Store (status_address l 0) live_status) whole can;
-      clock = at-set_other l row (Volatile 0 0) Clock live_status (here, omega arith) tt (λ e. cc) ∙ row_of-at_volatile l (fresh_words l) Clock tt (omega arith);
+      clock = at-set_other l row (Volatile 0 0) Clock live_status (here, omega arith) tt (λ e. cc) ∙ marked-at_volatile l Clock tt (omega arith) (λ e. cc);
       versions = subst (AreKnown l 1) (sym is) known;
       free = λ n below. subst (λ (f : Facts). IsFree (f.version n) 1) (sym is) (subst (λ (v : ℕ). IsFree v 1) (sym (fresh_version l n layout below)) (inl (omega arith)));
       settled = subst (λ (f : Facts). (n : ℕ) → IsListed f n → IsSettled l f n) (sym is) (settled_lit l parties layout);
@@ -200,12 +202,12 @@ fresh_list l layout = ap (λ (f : Facts). f.list) (same_lit l [] layout)
 
 pub fresh_statuses : (l : Layout) → IsLayout l → (n : ℕ) → n < l.nodes → (facts (fresh_world l [])).status n ≢ gone_status
 fresh_statuses l layout n here gone =
-    let is : (facts (fresh_world l [])).status n ≡ (if n == 0 then live_status else status_in l (row_of l (fresh_words l)) n) = ap (λ (f : Facts). f.status n) (same_lit l [] layout) in
+    let is : (facts (fresh_world l [])).status n ≡ (if n == 0 then live_status else status_in l (marked_row l) n) = ap (λ (f : Facts). f.status n) (same_lit l [] layout) in
     ⊎_elim
     (λ (e : n ≡ 0).
-    let live : live_status ≡ gone_status = sym (ap (λ (b : Bool). cond b live_status (status_in l (row_of l (fresh_words l)) n)) (eq-eqb n 0 e)) ∙ sym is ∙ gone in
+    let live : live_status ≡ gone_status = sym (ap (λ (b : Bool). cond b live_status (status_in l (marked_row l) n)) (eq-eqb n 0 e)) ∙ sym is ∙ gone in
     omega arith)
     (λ (other : n ≢ 0).
-    let free : 0 ≡ gone_status = sym (ap (λ (b : Bool). cond b live_status (status_in l (row_of l (fresh_words l)) n)) (ne_eqb n 0 other) ∙ fresh_status l n layout here) ∙ sym is ∙ gone in
+    let free : 0 ≡ gone_status = sym (ap (λ (b : Bool). cond b live_status (status_in l (marked_row l) n)) (ne_eqb n 0 other) ∙ fresh_status l n layout here) ∙ sym is ∙ gone in
     omega arith)
     (cases_eq n 0)

@@ -71,7 +71,7 @@ lines_fit l words fit line here =
 -- words that have no use are blank
 spare_blank : (w : Word) → IsSpare w → IsBlank w
 spare_blank (Header o) is = is
-spare_blank (Root o) is = is.1
+spare_blank (Root o) is = is
 spare_blank (Node n o) is = is
 spare_blank (Line c j o) is = is
 spare_blank (Leaf k o) is = is

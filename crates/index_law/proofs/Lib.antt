@@ -17,6 +17,7 @@ pub mod Locks
 pub mod Listing
 pub mod Law
 pub mod Starts
+pub mod MarkedRow
 pub mod Fresh
 pub mod Rounds
 pub mod Twins

@@ -1,29 +1,22 @@
 -- What stands of a node while its version word does.
 use Rattle.std.proofs.Common.{◌≡◌, ℕ, ◌<◌, ◌≤◌, ◌⊎◌, inl, inr, ⊎_elim, leb, Bool, true, false, List, ◌++◌, length, refl, sym, ap, ◌∙◌, subst, arith}
-use Rattle.std.specs.Prelude.{Option, Some, None, IfSome}
+use Rattle.std.specs.Prelude.{Option, None, IfSome}
 use Rattle.std.proofs.lemmas.Bool.{leb-true, leb-false}
-use Rattle.std.proofs.lemmas.List.{length-append, append-nil}
-use mathlib.Core.Option.{some}
-use lib.ListN.{get_elem?}
+use Rattle.std.proofs.lemmas.List.{length-append}
 use Rattle.pm_words.specs.declared.layout.Layout.{Layout}
-use Rattle.pm_words.specs.declared.action.Action.{Action}
-use Rattle.pm_words.specs.Rows.{got}
 use Rattle.version_lock.specs.Versions.{IsFree}
 use Rattle.cat_history.specs.Maps.{Map, at}
 use Rattle.cat_history.specs.Writes.{after, after_all}
 use Rattle.cat_history.specs.declared.op.Write.{Write}
-use Rattle.call_stages.specs.declared.once.Once.{Once}
-use Rattle.call_stages.specs.declared.once.Placed.{Placed}
-use Rattle.call_stages.specs.Stages.{Stage}
-use Rattle.call_stages.specs.AnySteps.{AnyStep, on_nodes, beside}
-use Rattle.index_law.specs.Facts.{Facts, map_now, range_of}
-use Rattle.index_law.specs.Worlds.{Party, World, facts, stepped}
-use Rattle.index_law.specs.Lawful.{IsTime, Lawful}
-use Rattle.index_law.specs.Standing.{IsAsBefore, StandLaw, FreeNodesStand, IsUnchanged, StandsSince, StandingIsKept, ReadsStand}
+use Rattle.call_stages.specs.AnySteps.{on_nodes, beside}
+use Rattle.index_law.specs.Facts.{Facts, range_of}
+use Rattle.index_law.specs.Worlds.{facts, stepped}
+use Rattle.index_law.specs.Lawful.{IsTime}
+use Rattle.index_law.specs.Standing.{IsAsBefore, FreeNodesStand, IsUnchanged, StandsSince, StandingIsKept, ReadsStand}
 use Rattle.index_law.proofs.Maps.{after-whole, after-longer}
-use Rattle.index_law.proofs.Moves.{fact_after, gives, facts_step}
+use Rattle.index_law.proofs.Moves.{gives, facts_step}
 use Rattle.index_law.proofs.Own.{mine}
-use Rattle.index_law.proofs.Bystanders.{IsLater, IsCalm}
+use Rattle.index_law.proofs.Bystanders.{IsLater}
 use Rattle.index_law.proofs.Locks.{calm, goes_on}
 use Rattle.index_law.proofs.AnySteps.{beside_keeps}
 

@@ -24,8 +24,9 @@ use Rattle.index_law.proofs.Rows.{in_spot, in_spot-true, version_in-here}
 abbrev pub IsCloser : Layout → List ℕ → List ℕ → Type 0
 IsCloser l words words' = (w : Word) → HasWord l w → (at l words' (Durable w) ≡ at l words (Durable w)) ⊎ (at l words' (Durable w) ≡ at l words (Cached w))
 
--- so are those but of log lines
+-- so are those but of log lines and of the search layer
 abbrev pub IsAside : Word → Type 0
+IsAside (Root offset) = (offset ≡ 0)
 IsAside (Line c j offset) = Unit {0}
 IsAside (Leaf k offset) = Unit {0}
 IsAside (Cell kind k offset) = Unit {0}
@@ -160,17 +161,17 @@ module _ (l : Layout) (words words' : List ℕ) (base : Map) (history : List Wri
 -- blank words are words, and no node's
 pub blank_word : (l : Layout) (w : Word) → IsBlank w → HasWord l w × ((n offset : ℕ) → w ≡ Node n offset → ⊥)
 blank_word l (Header o) is = (is.1, λ n offset e. cc)
-blank_word l (Root o) is = (is, λ n offset e. cc)
+blank_word l (Root o) is = (is.1, λ n offset e. cc)
 blank_word l (Node n o) is = absurd is
 blank_word l (Line c j o) is = absurd is
 blank_word l (Leaf k o) is = absurd is
 blank_word l (Cell kind k o) is = absurd is
 
--- nor a line's
+-- nor a line's or the layer's
 pub aside_blank : (l : Layout) (w : Word) → IsBlank w → IsAside w → ⊥
 aside_blank l (Line c j o) is line = is
 aside_blank l (Header o) is line = line
-aside_blank l (Root o) is line = line
+aside_blank l (Root o) is line = let some_offset : 1 ≤ o = is.0 in let none : o ≡ 0 = line in omega arith
 aside_blank l (Node n o) is line = line
 aside_blank l (Leaf k o) is line = is
 aside_blank l (Cell kind k o) is line = is

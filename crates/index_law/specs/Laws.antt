@@ -12,7 +12,7 @@ use Rattle.pm_words.specs.declared.again.Again.{Again}
 use Rattle.pm_words.specs.declared.again.Again.TheVariants as again
 use Rattle.pm_words.specs.Layouts.{IsLayout}
 use Rattle.pm_words.specs.Images.{fresh_words}
-use Rattle.pm_words.specs.Locations.{Cached, Durable, image_words}
+use Rattle.pm_words.specs.Locations.{Mark, Cached, Durable, image_words, address_of}
 use Rattle.pm_words.specs.Rows.{IsRow, MayName, CanAct, acted, got, row_of}
 use Rattle.version_lock.specs.Versions.{IsFree, IsWorn, IsGeneration}
 use Rattle.cat_key.specs.Names.{IsName}
@@ -318,9 +318,12 @@ NextRoundIsAtRest = (w : World) (parties : List Party) → IsAtRest w → Each (
     HaveBegun [] parties →
     IsAtRest (next_round w parties)
 
--- The row of a fresh image, whose first node is LIVE.
+-- The row of a fresh image, in which the first leaf of the search layer is marked as in use; and its first node LIVE.
+abbrev pub marked_row : Layout → List ℕ
+marked_row l = acted l (row_of l (fresh_words l)) (Store (address_of l (Mark 1 0)) 1)
+
 abbrev pub fresh_row : Layout → List ℕ
-fresh_row l = acted l (row_of l (fresh_words l)) (Store (status_address l 0) live_status)
+fresh_row l = acted l (marked_row l) (Store (status_address l 0) live_status)
 
 -- The index on that row, without names, in its first run.
 abbrev pub fresh_world : Layout → List Party → World

@@ -1,7 +1,7 @@
 -- What the durable twins of an index's words are between any two steps.
 use Rattle.std.specs.Prelude.{◌≡◌, ◌≢◌, ℕ, ◌<◌, ◌≤◌, ◌⊎◌, List}
 use Rattle.pm_words.specs.declared.layout.Layout.{Layout}
-use Rattle.pm_words.specs.Locations.{Word, Header, Root, Location, at}
+use Rattle.pm_words.specs.Locations.{Word, Header, Location, at}
 use Rattle.version_lock.specs.Versions.{generation_of, IsFree}
 use Rattle.data_node.specs.Spots.{Spot, Means, bitmap_offset}
 use Rattle.data_node.specs.Lists.{next_offset}
@@ -94,11 +94,9 @@ AreDurable l g f words = (n : ℕ) → n < l.nodes → IsFree (f.version n) g �
 abbrev pub AreDurablyKnown : Layout → ℕ → List ℕ → Type 0
 AreDurablyKnown l g words = (n : ℕ) → n < l.nodes → generation_of (durable_version l words n) ≤ g
 
--- The words in front of the nodes that are always 0: those that have no use, and the root.
+-- The words in front of the nodes that are always 0: those that have no use.
 abbrev pub IsBlank : Word → Type 0
-IsBlank (Header o) = IsSpare (Header o)
-IsBlank (Root o) = o < 8
-IsBlank _ = ⊥
+IsBlank w = IsSpare w
 
 -- One twin of the words in front of the nodes, but for those that the layout tells. It reads these words.
 pub record IsFront (l : Layout) (g : ℕ) (words : List ℕ) (twin : Word → Location) : Type 0 where

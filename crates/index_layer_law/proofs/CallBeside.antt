@@ -54,7 +54,7 @@ pub record Besides (w : World) (holder : ℕ → ℕ) (words : List ℕ) : Type 
 
 -- where the words are the same
 same_besides : (w : World) (holder : ℕ → ℕ) (words : List ℕ) → words ≡ w.words → Besides w holder words
-same_besides w holder words same = subst (Besides w holder) (sym same) (record { layer = record { cached = refl; durable = refl }; lines = λ j two o small. refl; lock = refl; moved = inl refl })
+same_besides w holder words same = subst (Besides w holder) (sym same) (record { layer = record { cached = refl; durable = refl; marks = refl; root = refl }; lines = λ j two o small. refl; lock = refl; moved = inl refl })
 
 -- listed nodes have different anchors
 apart_anchors : (z : Layered) → IsLayered z → (n m : ℕ) → IsListed (facts z.whole.world) n → IsListed (facts z.whole.world) m → anchor_in ((facts z.whole.world).now n) ≡ anchor_in ((facts z.whole.world).now m) → n ≡ m

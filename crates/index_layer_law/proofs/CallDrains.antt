@@ -63,6 +63,8 @@ module _ (l : Layout) (words : List ℕ) (row : IsRow l words) (e : HeldLine) (s
         safe_line = lines_in l drained Durable;
         layer = layer_stay.cached k;
         safe_layer = layer_stay.durable k;
+        marks = layer_stay.marks k;
+        root = layer_stay.root k;
       }
 
   -- the word is the cached one, or the state READY of a line that waits

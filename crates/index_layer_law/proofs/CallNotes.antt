@@ -97,6 +97,8 @@ module _ (l : Layout) (words : List ℕ) (row : IsRow l words) (e : HeldLine) (s
         safe_line = lines_same l words stored Durable safe_same k;
         layer = layer_same.cached k;
         safe_layer = layer_same.durable k;
+        marks = layer_same.marks k;
+        root = layer_same.root k;
       }
 
   abbrev lines : Lines

@@ -1,25 +1,25 @@
 -- The row of a turn beside the steps of calls.
-use Rattle.std.proofs.Common.{◌≡◌, ℕ, zero, suc, ◌<◌, inl, inr, List, refl, sym, ◌∙◌, subst, arith}
+use Rattle.std.proofs.Common.{◌≡◌, ◌≢◌, ℕ, zero, suc, ◌<◌, inl, inr, List, None, refl, sym, ◌∙◌, subst, arith}
 use Rattle.pm_words.specs.Codes.{ready_state}
-use Rattle.pm_words.specs.Locations.{Cached, Durable}
-use Rattle.search_layer.specs.Rows.{LayerWords, layer_words, AreEven, HasSameLayer}
+use Rattle.pm_words.specs.Locations.{Cached}
+use Rattle.search_layer.specs.Rows.{LayerWords, HasSameLayer}
 use Rattle.search_layer.specs.ChangeStages.{LayerAt}
 use Rattle.search_layer.specs.Kept.{kept, IsKept}
-use Rattle.search_layer.specs.Laws.{SureOn}
+use Rattle.search_layer.proofs.BesideLemmas.{sure_stays, rest_stays}
+use Rattle.search_layer.proofs.RootLemmas.{root_outlasts}
 use Rattle.updater_law.specs.Facts.{TurnFacts}
 use Rattle.updater_law.specs.Lawful.{SureTurn, TurnLawful}
 use Rattle.updater_law.proofs.Others.{other_keeps}
 use Rattle.updater_row_law.specs.Columns.{RowTerms, Ghosts, line_field, terms_of, facts_in}
 use Rattle.updater_row_law.specs.RowStages.{RowLine, RowTarget, RowStage, Resting, Between, Reads, Lands, HasTarget, Changes, Stamps, Clears, Sweeps, Gone, HasStamp, IsUnworn, Frees, Counts, reading_stage, turn_stage, aim_of}
-use Rattle.updater_row_law.specs.RowLaw.{AreDurable, HasLoaded, IsTargetFor, SureRow, RowLawful}
+use Rattle.updater_row_law.specs.RowLaw.{LayerRests, HasLoaded, IsTargetFor, SureRow, RowLawful}
 use Rattle.index_layer_law.proofs.CallMoves.{Moved}
 
 -- A row of words in which those of the layer are those of another, as are the READY lines.
 module _ (r : RowTerms) (ghosts ghosts' : Ghosts) (words words' : List ℕ) (same : HasSameLayer r.layout words words')
     (lines : (j : ℕ) → line_field r.layout words Cached 0 j ≡ ready_state → (o : ℕ) → o < 8 → line_field r.layout words' Cached o j ≡ line_field r.layout words Cached o j) where
-  even_after : AreDurable r words → AreDurable r words'
-  even_after even = subst (λ (v : LayerWords). AreEven v (layer_words r.layout words' Durable)) (sym same.cached)
-      (subst (λ (d : LayerWords). AreEven (layer_words r.layout words Cached) d) (sym same.durable) even)
+  even_after : LayerRests r words → LayerRests r words'
+  even_after rests = rest_stays r.layout words words' same rests
 
   -- a line that is being read is READY
   being_read : (f : TurnFacts) (t : ℕ) (offset j : ℕ) (seen : List ℕ) → SureTurn (terms_of r) f (reading_stage j offset seen) → f.line.state j ≡ ready_state
@@ -32,6 +32,7 @@ module _ (r : RowTerms) (ghosts ghosts' : Ghosts) (words words' : List ℕ) (sam
   loaded_after j offset seen ready has = record {
     size = has.size;
     most = has.most;
+    named = has.named;
     same = λ k before. let most = has.most in lines j ready k (omega arith) ∙ has.same k before;
   }
 
@@ -44,8 +45,10 @@ module _ (r : RowTerms) (ghosts ghosts' : Ghosts) (words words' : List ℕ) (sam
   sure_after (Changes e word s) turn shown sure = record {
     before = sure.before;
     few = sure.few;
-    sure = subst (λ (w : LayerWords). SureOn r.layout sure.before (aim_of e word) s w (layer_words r.layout words' Durable)) (sym same.cached)
-        (subst (SureOn r.layout sure.before (aim_of e word) s (layer_words r.layout words Cached)) (sym same.durable) sure.sure);
+    rooted = sure.rooted;
+    zero = sure.zero;
+    holds = root_outlasts r.layout words words' s same sure.holds;
+    sure = sure_stays r.layout sure.before (aim_of e word) s words words' same sure.sure;
     layer = subst (λ (w : LayerWords). LayerAt (aim_of e word) sure.before s (kept r.layout w)) (sym same.cached) sure.layer;
   }
   sure_after (Stamps e) turn shown sure = even_after sure
@@ -62,6 +65,7 @@ module _ (r : RowTerms) (ghosts ghosts' : Ghosts) (words words' : List ℕ) (sam
       → RowLawful r ghosts words s → RowLawful r ghosts' words' s
   row_after s moved shown is = record {
     order = subst (λ (w : LayerWords). IsKept r.layout w) (sym same.cached) is.order;
+    rooted = subst (λ (w : LayerWords). kept r.layout w 0 ≢ None) (sym same.cached) is.rooted;
     sure = sure_after s is.law.sure shown is.sure;
     law = elim moved [
       | inl known ↦ subst (λ (f : TurnFacts). TurnLawful (terms_of r) f (turn_stage s)) (sym known) is.law

@@ -15,9 +15,9 @@ use Rattle.index_law.specs.Worlds.{World, facts}
 use Rattle.index_law.proofs.Beside.{nodes_leave_others}
 use Rattle.layer_map.specs.Keys.{key_of}
 use Rattle.layer_map.specs.Places.{is_of_layer}
-use Rattle.search_layer.specs.Rows.{LayerWords, layer_words, HasSameLayer}
+use Rattle.search_layer.specs.Rows.{LayerWords, Marks, layer_words, layer_marks, root_words, HasSameLayer}
 use Rattle.search_layer.specs.Kept.{kept}
-use Rattle.search_layer.proofs.RowLemmas.{rows_alike}
+use Rattle.search_layer.proofs.RowLemmas.{layer_alike}
 use Rattle.updater_law.specs.Covers.{Lines}
 use Rattle.updater_law.specs.Facts.{TurnFacts}
 use Rattle.updater_row_law.specs.Columns.{column, node_field, volatile_field, line_field, line_word, line_count, lines_in}
@@ -34,6 +34,8 @@ pub record Rest : Type 0 where
   pub safe_line : Lines
   pub layer : LayerWords
   pub safe_layer : LayerWords
+  pub marks : Marks
+  pub root : ℕ → ℕ
 
 abbrev pub rest_in : Layout → List ℕ → Rest
 rest_in l words = record {
@@ -42,6 +44,8 @@ rest_in l words = record {
   safe_line = lines_in l words Durable;
   layer = layer_words l words Cached;
   safe_layer = layer_words l words Durable;
+  marks = layer_marks l words;
+  root = root_words l words;
 }
 
 -- what it has of an index with these facts, whose nodes these parties hold
@@ -135,11 +139,18 @@ rest_same l words words' stays =
       safe_line = safe i;
       layer = stays.layer.cached i;
       safe_layer = stays.layer.durable i;
+      marks = stays.layer.marks i;
+      root = stays.layer.root i;
     }
 
 -- with the same rest the layer has the same words
 pub rest_layer : (l : Layout) (words words' : List ℕ) → rest_in l words' ≡ rest_in l words → HasSameLayer l words words'
-rest_layer l words words' same = record { cached = ap (λ (r : Rest). r.layer) same; durable = ap (λ (r : Rest). r.safe_layer) same }
+rest_layer l words words' same = record {
+  cached = ap (λ (r : Rest). r.layer) same;
+  durable = ap (λ (r : Rest). r.safe_layer) same;
+  marks = ap (λ (r : Rest). r.marks) same;
+  root = ap (λ (r : Rest). r.root) same;
+}
 
 -- what a call does on nodes leaves the rest
 pub node_rest : (l : Layout) (words : List ℕ) (s : Stage) (a : Action) → Allowed l s a → rest_in l (acted l words a) ≡ rest_in l words
@@ -147,10 +158,7 @@ node_rest l words s a allowed = rest_same l words (acted l words a) (record {
   stamp = λ n here. nodes_leave_others l words s a (Volatile n 2) (here, omega arith) (record { clock = λ e. cc; status = λ m e. let no : 2 ≡ 0 = ap offset_of e in omega arith; cached = λ m o e. cc; durable = λ m o e. cc }) allowed;
   line = λ j o here small. nodes_leave_others l words s a (Cached (line_word o j)) (omega arith, omega arith, small) (record { clock = λ e. cc; status = λ m e. cc; cached = λ m o e. cc; durable = λ m o e. cc }) allowed;
   safe_line = λ j o here small. nodes_leave_others l words s a (Durable (line_word o j)) (omega arith, omega arith, small) (record { clock = λ e. cc; status = λ m e. cc; cached = λ m o e. cc; durable = λ m o e. cc }) allowed;
-  layer = record {
-    cached = rows_alike l words (acted l words a) Cached Cached (λ w place. nodes_leave_others l words s a (Cached w) place.there (elsewhere (Cached w) place.of_layer) allowed);
-    durable = rows_alike l words (acted l words a) Durable Durable (λ w place. nodes_leave_others l words s a (Durable w) place.there (elsewhere (Durable w) place.of_layer) allowed);
-  };
+  layer = layer_alike l words (acted l words a) (λ p has of_layer. nodes_leave_others l words s a p has (elsewhere p of_layer) allowed);
 })
   where
     offset_of : Location → ℕ

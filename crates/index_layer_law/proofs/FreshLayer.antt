@@ -1,25 +1,29 @@
 -- A fresh index has its search layer.
-use Rattle.std.proofs.Common.{◌≡◌, ◌≢◌, ℕ, ◌<◌, ◌==◌, ◌||◌, Bool, true, false, cond, List, refl, sym, ap, ◌∙◌, subst, inl, inr, arith}
+use Rattle.std.proofs.Common.{◌≡◌, ◌≢◌, ℕ, ◌<◌, ◌==◌, ◌||◌, Bool, true, false, cond, List, None, refl, sym, ap, ◌∙◌, subst, inl, inr, arith}
 use Rattle.std.specs.Prelude.{not, nat_lt}
 use Rattle.std.proofs.lemmas.Bool.{cases_eq, ne_eqb, cond_both, lt-ltb, ltb-true}
 use Rattle.pm_words.specs.Codes.{free_status, live_status}
 use Rattle.pm_words.specs.declared.layout.Layout.{Layout}
 use Rattle.pm_words.specs.Layouts.{IsLayout}
 use Rattle.pm_words.specs.Images.{fresh_words, fresh_word}
-use Rattle.pm_words.specs.Locations.{Word, Location, Node, Updater, Volatile, Cached, Durable, HasLocation, HasWord, at}
+use Rattle.pm_words.specs.Locations.{Word, Location, Node, Updater, Volatile, Mark, Cached, Durable, HasLocation, HasWord, at}
 use Rattle.pm_words.specs.Rows.{row_of}
 use Rattle.pm_words.proofs.Apart.{at-set_other, at-set_same}
-use Rattle.pm_words.proofs.Made.{fresh_at, fresh_image, row_of-at, row_of-at_volatile, row_of-row}
+use Rattle.pm_words.proofs.Made.{fresh_at, fresh_image, row_of-row}
 use Rattle.version_lock.specs.Versions.{is_free_word, is_worn_word}
-use Rattle.index_law.specs.Laws.{fresh_row, fresh_world}
+use Rattle.index_law.specs.Laws.{marked_row, fresh_row, fresh_world}
 use Rattle.index_law.specs.Worlds.{Party, facts}
 use Rattle.index_law.proofs.Fresh.{fresh_list}
+use Rattle.index_law.proofs.MarkedRow.{mark_has, marked-else, marked-at, marked-at_volatile, marked_row-row}
 use Rattle.layer_map.specs.Keys.{key_of}
-use Rattle.layer_map.specs.Places.{is_of_layer}
-use Rattle.search_layer.specs.Laws.{fresh_layer}
-use Rattle.search_layer.specs.Rows.{LayerWords, layer_words, AreEven}
-use Rattle.search_layer.proofs.Fresh.{fresh_is_at_rest}
-use Rattle.search_layer.specs.Kept.{kept, IsKept}
+use Rattle.layer_map.specs.Layers.{Layer}
+use Rattle.tree_law.specs.Trees.{Leaf}
+use Rattle.tree_law.specs.Marking.{IsMarkSet}
+use Rattle.tree_row.proofs.MarkLaw.{mark_is_set, store_leaves_marks}
+use Rattle.search_layer.specs.Fresh.{fresh_layer, HasFreshLayer}
+use Rattle.search_layer.specs.Rows.{LayerWords, Marks, layer_words, layer_marks, AreEven}
+use Rattle.search_layer.proofs.FreshLemmas.{fresh_is_at_rest}
+use Rattle.search_layer.specs.Kept.{kept, IsKept, MarksTell, IsAtRest}
 use Rattle.search_layer.proofs.RowLemmas.{even_are_same, rows_alike}
 use Rattle.updater_law.specs.Facts.{TurnFacts}
 use Rattle.updater_law.specs.Fresh.{no_lines, fresh_facts}
@@ -37,7 +41,7 @@ use Rattle.index_layer_law.proofs.TurnRests.{rest_is_layered}
 
 module _ (l : Layout) (layout : IsLayout l) where
   abbrev row : List ℕ
-  row = row_of l (fresh_words l)
+  row = marked_row l
 
   abbrev words : List ℕ
   words = fresh_row l
@@ -51,7 +55,7 @@ module _ (l : Layout) (layout : IsLayout l) where
 
   twin_zero : (v : Word) → HasWord l v → fresh_word l v ≡ 0 → (at l words (Cached v) ≡ 0) × (at l words (Durable v) ≡ 0)
   twin_zero v has zero =
-      let both = row_of-at l (fresh_words l) v (fresh_image l layout) has in
+      let both = marked-at l v layout has in
       let none = fresh_at l v has ∙ zero in
       (elsewhere (Cached v) has (λ e. cc) ∙ both.0 ∙ none, elsewhere (Durable v) has (λ e. cc) ∙ both.1 ∙ none)
 
@@ -71,7 +75,7 @@ module _ (l : Layout) (layout : IsLayout l) where
   )
 
   stamp_zero : volatile_field l words 2 ≡ (λ n. 0)
-  stamp_zero = zero_column l.nodes (λ n. Volatile n 2) (λ n here. elsewhere (Volatile n 2) (here, omega arith) (λ e. let no : 2 ≡ 0 = ap offset_of e in omega arith) ∙ row_of-at_volatile l (fresh_words l) (Volatile n 2) (here, omega arith) (omega arith))
+  stamp_zero = zero_column l.nodes (λ n. Volatile n 2) (λ n here. elsewhere (Volatile n 2) (here, omega arith) (λ e. let no : 2 ≡ 0 = ap offset_of e in omega arith) ∙ marked-at_volatile l (Volatile n 2) (here, omega arith) (omega arith) (λ e. cc))
     where
       offset_of : Location → ℕ
       offset_of (Volatile n o) = o
@@ -85,10 +89,10 @@ module _ (l : Layout) (layout : IsLayout l) where
       λ n. elim (cases_eq n 0) [
         | inl first ↦
             subst (λ m. volatile_field l words 0 m ≡ cond (m == 0) live_status free_status) (sym first)
-            (ap (λ b. cond b (at l words (Volatile 0 0)) 0) (lt-ltb 0 l.nodes some) ∙ at-set_same l row (Volatile 0 0) live_status (row_of-row l (fresh_words l) (fresh_image l layout)).whole (some, omega arith))
+            (ap (λ b. cond b (at l words (Volatile 0 0)) 0) (lt-ltb 0 l.nodes some) ∙ at-set_same l row (Volatile 0 0) live_status (marked_row-row l layout).whole (some, omega arith))
         | inr other ↦
             cond_both (nat_lt n l.nodes) (at l words (Volatile n 0)) 0 (λ (x : ℕ). x ≡ 0)
-            (λ here. let lt = ltb-true n l.nodes here in elsewhere (Volatile n 0) (lt, omega arith) (λ e. other (ap number_of e)) ∙ row_of-at_volatile l (fresh_words l) (Volatile n 0) (lt, omega arith) (omega arith))
+            (λ here. let lt = ltb-true n l.nodes here in elsewhere (Volatile n 0) (lt, omega arith) (λ e. other (ap number_of e)) ∙ marked-at_volatile l (Volatile n 0) (lt, omega arith) (omega arith) (λ e. cc))
             (λ past. refl)
             ∙ sym (ap (λ b. cond b live_status free_status) (ne_eqb n 0 other))
       ] in
@@ -98,18 +102,45 @@ module _ (l : Layout) (layout : IsLayout l) where
       number_of (Volatile n o) = n
       number_of _ = 0
 
-  layer_same : layer_words l words Cached ≡ layer_words l row Cached
-  layer_same = rows_alike l row words Cached Cached (λ w place. elsewhere (Cached w) place.there (λ e. let no : true ≡ false = sym place.of_layer ∙ ap is_of_layer e in cc))
+  -- the layer is that of the image, whose first leaf has its mark now
+  abbrev image_row : List ℕ
+  image_row = row_of l (fresh_words l)
 
-  safe_layer_same : layer_words l words Durable ≡ layer_words l row Durable
-  safe_layer_same = rows_alike l row words Durable Durable (λ w place. elsewhere (Durable w) place.there (λ e. let no : true ≡ false = sym place.of_layer ∙ ap is_of_layer e in cc))
+  fresh : HasFreshLayer l image_row
+  fresh = fresh_is_at_rest l layout
+
+  image_else : (p : Location) → HasLocation l p → p ≢ Volatile 0 0 → p ≢ Mark 1 0 → at l words p ≡ at l image_row p
+  image_else p has other unmarked = elsewhere p has other ∙ marked-else l p has unmarked
+
+  layer_same : layer_words l words Cached ≡ layer_words l image_row Cached
+  layer_same = rows_alike l image_row words Cached Cached (λ w place. image_else (Cached w) place.there (λ e. cc) (λ e. cc))
+
+  safe_layer_same : layer_words l words Durable ≡ layer_words l image_row Durable
+  safe_layer_same = rows_alike l image_row words Durable Durable (λ w place. image_else (Durable w) place.there (λ e. cc) (λ e. cc))
 
   even : AreEven (layer_words l words Cached) (layer_words l words Durable)
   even = subst (λ (v : LayerWords). AreEven v (layer_words l words Durable)) (sym layer_same)
-      (subst (λ (d : LayerWords). AreEven (layer_words l row Cached) d) (sym safe_layer_same) (fresh_is_at_rest l layout).0.even)
+      (subst (λ (d : LayerWords). AreEven (layer_words l image_row Cached) d) (sym safe_layer_same) fresh.even)
+
+  marks_are : IsMarkSet (layer_marks l image_row) (layer_marks l words) (Leaf 0) 1
+  marks_are =
+      let set = mark_is_set l image_row 1 0 1 (row_of-row l (fresh_words l) (fresh_image l layout)).whole (mark_has l) in
+      let same : layer_marks l words ≡ layer_marks l row = store_leaves_marks l row (Volatile 0 0) live_status (some, omega arith) tt in
+      record {
+        may = tt;
+        here = ap (λ (m : Marks). m 1 0) same ∙ set.here;
+        others = λ kind n other. ap (λ (m : Marks). m kind n) same ∙ set.others kind n other;
+      }
+
+  rests : IsAtRest l words
+  rests = record {
+    lawful = subst (λ (w : LayerWords). IsKept l w) (sym layer_same) fresh.order;
+    even = even;
+    tells = subst (λ (w : LayerWords). MarksTell l (layer_marks l words) w) (sym layer_same) (fresh.tells (layer_marks l words) marks_are);
+  }
 
   layer_is : kept l (layer_words l words Cached) ≡ fresh_layer
-  layer_is = (λ k. kept l (layer_same k)) ∙ (λ k key. (fresh_is_at_rest l layout).2 key k)
+  layer_is = (λ k. kept l (layer_same k)) ∙ (λ k key. fresh.layer key k)
 
   safe_layer_is : kept l (layer_words l words Durable) ≡ fresh_layer
   safe_layer_is = (λ k. kept l (even_are_same (layer_words l words Cached) (layer_words l words Durable) even k)) ∙ layer_is
@@ -153,10 +184,14 @@ module _ (l : Layout) (layout : IsLayout l) where
         safe_layer = safe_layer_is k;
       }
 
+  zero_leads : fresh_layer 0 ≡ None → ⊥
+  zero_leads e = cc
+
   pub fresh_row_is : (parties : List Party) (t : Turning) → t.stamp ≢ 0 → RowLawful (terms_of (fresh_world l parties) t) (ghosts_of (fresh_world l parties) (λ n. 0)) words Resting
   fresh_row_is parties t stamp = record {
-    order = subst (λ (w : LayerWords). IsKept l w) (sym layer_same) (fresh_is_at_rest l layout).0.row;
-    sure = even;
+    order = rests.lawful;
+    rooted = λ none. zero_leads (sym (ap (λ (layer : Layer). layer 0) layer_is) ∙ none);
+    sure = rests;
     law = subst (λ (f : TurnFacts). TurnLawful (columns.terms_of (terms_of (fresh_world l parties) t)) f turns.Resting) (sym (fresh_turn parties t))
         (fresh_is_lawful (columns.terms_of (terms_of (fresh_world l parties) t)) stamp);
   }
@@ -164,5 +199,5 @@ module _ (l : Layout) (layout : IsLayout l) where
 pub fresh_is_layered : FreshIsLayered
 fresh_is_layered l parties lines debts turns i t layout whole tended idle rest there =
     rest_is_layered (record { whole = record { world = fresh_world l parties; lines = lines; debts = debts }; turns = turns }) i t whole tended idle rest there
-    (elsewhere l layout Updater tt (λ e. cc) ∙ row_of-at_volatile l (fresh_words l) Updater tt (omega arith))
+    (elsewhere l layout Updater tt (λ e. cc) ∙ marked-at_volatile l Updater tt (omega arith) (λ e. cc))
     (fresh_row_is l layout parties t (rest i t there).stamp)

@@ -1,5 +1,5 @@
 -- A stamp that becomes another leaves the search layer where no turn is in flight: only whether a node has one matters.
-use Rattle.std.proofs.Common.{◌≡◌, ◌≢◌, ℕ, ◌<◌, inl, inr, List, slice_set, Option, sym, ap, ◌∙◌, subst, arith, refl}
+use Rattle.std.proofs.Common.{◌≡◌, ◌≢◌, ℕ, ◌<◌, inl, inr, List, slice_set, Option, None, sym, ap, ◌∙◌, subst, arith, refl}
 use Rattle.std.proofs.lemmas.Bool.{cases_eq}
 use Rattle.pm_words.specs.declared.layout.Layout.{Layout}
 use Rattle.pm_words.specs.Locations.{Word, Location, Updater, Volatile, Cached, Durable, HasLocation, address_of, at}
@@ -9,9 +9,10 @@ use Rattle.call_stages.specs.Lines.{HeldLine}
 use Rattle.index_law.specs.Facts.{Facts}
 use Rattle.index_law.specs.Worlds.{World, facts}
 use Rattle.index_law.proofs.Rows.{facts-elsewhere}
-use Rattle.search_layer.specs.Rows.{LayerWords, layer_words, HasSameLayer, AreEven}
-use Rattle.search_layer.specs.Kept.{IsKept}
+use Rattle.search_layer.specs.Rows.{LayerWords, HasSameLayer}
+use Rattle.search_layer.specs.Kept.{kept, IsKept}
 use Rattle.search_layer.proofs.RowLemmas.{layer_words_stay}
+use Rattle.search_layer.proofs.BesideLemmas.{rest_stays}
 use Rattle.updater_law.specs.Covers.{IsCover}
 use Rattle.updater_law.specs.Facts.{TurnTerms, TurnFacts}
 use Rattle.updater_law.specs.Lawful.{TurnLawful}
@@ -101,7 +102,7 @@ module _ (z : Layered) (n y : ℕ) (is : IsLayered z) (here : n < z.whole.world.
   same_turn : (u : Turning) → turn_facts w' is.holder u ≡ record (turn_facts w is.holder u) { stamp = volatile_field l words' 2 }
   same_turn u =
       facts_tie w' is.holder u
-      ∙ (λ k. known l w.generation (same_facts k) is.holder (record { stamp = volatile_field l words' 2; line = lines_are k; safe_line = safe_lines_are k; layer = layer_stays.cached k; safe_layer = layer_stays.durable k }))
+      ∙ (λ k. known l w.generation (same_facts k) is.holder (record { stamp = volatile_field l words' 2; line = lines_are k; safe_line = safe_lines_are k; layer = layer_stays.cached k; safe_layer = layer_stays.durable k; marks = layer_stays.marks k; root = layer_stays.root k }))
       ∙ sym (ap (λ (f : TurnFacts). record f { stamp = volatile_field l words' 2 }) (facts_tie w is.holder u))
 
   stamp_else : (m : ℕ) → m ≢ n → volatile_field l words' 2 m ≡ volatile_field l w.words 2 m
@@ -123,8 +124,8 @@ module _ (z : Layered) (n y : ℕ) (is : IsLayered z) (here : n < z.whole.world.
     row_is : (u : Turning) → RowLawful (terms_of w u) (ghosts_of w is.holder) w.words Resting → RowLawful (terms_of w' u) (ghosts_of w' is.holder) words' Resting
     row_is u row = record {
       order = subst (λ (v : LayerWords). IsKept l v) (sym layer_stays.cached) row.order;
-      sure = subst (λ (v : LayerWords). AreEven v (layer_words l words' Durable)) (sym layer_stays.cached)
-          (subst (λ (d : LayerWords). AreEven (layer_words l w.words Cached) d) (sym layer_stays.durable) row.sure);
+      rooted = subst (λ (v : LayerWords). kept l v 0 ≢ None) (sym layer_stays.cached) row.rooted;
+      sure = rest_stays l w.words words' layer_stays row.sure;
       law = subst (λ (f : TurnFacts). TurnLawful (columns.terms_of (terms_of w u)) f turns.Resting) (sym (same_turn u))
           (with_stamps (columns.terms_of (terms_of w u)) (turn_facts w is.holder u) (volatile_field l words' 2) forth back row.law);
     }

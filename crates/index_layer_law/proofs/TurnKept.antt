@@ -112,10 +112,10 @@ module _ (z : Whole) (holder : ℕ → ℕ) (t : Turning) (whole : IsWhole z) (t
       let facts_same = facts_kept l words after same z.world.base z.world.history in
       let lines : (offset : ℕ) → offset < 8 → line_field l after Cached offset ≡ line_field l words Cached offset =
       λ offset small. column-same l words after (line_count l) (λ j. Cached (line_word offset j))
-      (λ j lt. same (Cached (line_word offset j)) (omega arith, omega arith, small) (record { lock = λ e. cc; stamp = λ n e. cc; layer = refl })) in
+      (λ j lt. same.rest (Cached (line_word offset j)) (omega arith, omega arith, small) (record { lock = λ e. cc; stamp = λ n e. cc; layer = refl })) in
       let safe_lines : (offset : ℕ) → offset < 8 → line_field l after Durable offset ≡ line_field l words Durable offset =
       λ offset small. column-same l words after (line_count l) (λ j. Durable (line_word offset j))
-      (λ j lt. same (Durable (line_word offset j)) (omega arith, omega arith, small) (record { lock = λ e. cc; stamp = λ n e. cc; layer = refl })) in
+      (λ j lt. same.rest (Durable (line_word offset j)) (omega arith, omega arith, small) (record { lock = λ e. cc; stamp = λ n e. cc; layer = refl })) in
       record {
         whole = aside_whole z after same row' whole;
         tended = still_tended z after (λ c j. inr (lines_kept l words after same c j 0).0) tended;

@@ -36,7 +36,7 @@ gives_back r words row (takes_lock free) busy is = absurd (busy refl)
 gives_back r words row (finds_held taken) busy is = absurd (busy refl)
 gives_back r words row (passes {j = j} here other) busy is = absurd (past_line r j is)
 gives_back r words row (sees seen here ready size) busy is = absurd cc
-gives_back r words row (reads here some_offset small) busy is = absurd cc
+gives_back r words row (reads here some_offset small named) busy is = absurd cc
 gives_back r words row (has_read here) busy is = absurd cc
 gives_back r words row (walks here) busy is = absurd cc
 gives_back r words row (is_turned_back {e = e} here) busy is = absurd (past_line r e.line is)

@@ -22,6 +22,7 @@ use Rattle.index_layer_law.specs.Laws.{TurnStartKeeps, RestIsLayered}
 pub rests_for : (w : World) (ghosts : Ghosts) (words : List ℕ) (t u : Turning) → u.stamp ≢ 0 → RowLawful (terms_of w t) ghosts words Resting → RowLawful (terms_of w u) ghosts words Resting
 rests_for w ghosts words t u stamp is = record {
   order = is.order;
+  rooted = is.rooted;
   sure = is.sure;
   law = record {
     stamped_by = stamp;

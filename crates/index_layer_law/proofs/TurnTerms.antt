@@ -3,10 +3,9 @@ use Rattle.std.proofs.Common.{◌≡◌, ◌≢◌, ℕ, ⊎_elim, List, slice_s
 use Rattle.std.proofs.lemmas.Bool.{cases_eq}
 use mathlib.Core.Option.{some, some-injective}
 use lib.ListN.{get_elem?}
-use Rattle.pm_words.specs.declared.layout.Layout.{Layout}
 use Rattle.call_stages.specs.Watches.{Nothing}
 use Rattle.updater_row_law.specs.Columns.{Ghosts}
-use Rattle.updater_row_law.specs.RowStages.{RowLine, RowTarget, RowStage, Between, HasTarget}
+use Rattle.updater_row_law.specs.RowStages.{RowLine, RowTarget, Between, HasTarget}
 use Rattle.updater_row_law.specs.RowLaw.{RowLawful}
 use Rattle.index_law.specs.Facts.{Facts}
 use Rattle.index_law.specs.Worlds.{World, facts}
@@ -21,6 +20,7 @@ use Rattle.index_layer_law.proofs.TurnRests.{each}
 between_for : (w : World) (ghosts : Ghosts) (words : List ℕ) (t u : Turning) (j : ℕ) → u.stamp ≢ 0 → RowLawful (terms_of w t) ghosts words (Between j) → RowLawful (terms_of w u) ghosts words (Between j)
 between_for w ghosts words t u j stamp is = record {
   order = is.order;
+  rooted = is.rooted;
   sure = is.sure;
   law = record {
     stamped_by = stamp;

@@ -1,21 +1,22 @@
 -- Which words a step of a turn touches.
-use Rattle.std.proofs.Common.{◌≡◌, ◌≢◌, ℕ, ◌==◌, ◌<◌, cond, List, slice_set, refl, sym, ap, ◌∙◌, subst, arith}
+use Rattle.std.proofs.Common.{◌≡◌, ◌≢◌, ℕ, ◌==◌, ◌<◌, inl, cond, List, slice_set, refl, sym, ap, ◌∙◌, subst, arith}
 use Rattle.std.proofs.lemmas.Bool.{eq-eqb}
 use Rattle.std.proofs.lemmas.List.{set-get_or}
 use Rattle.pm_words.specs.declared.layout.Layout.{Layout}
 use Rattle.pm_words.specs.declared.action.Action.{Action}
 use Rattle.pm_words.specs.declared.action.Action.TheVariants.{Load}
-use Rattle.pm_words.specs.Locations.{Updater, Cached, Volatile, HasLocation, at}
+use Rattle.pm_words.specs.Locations.{Location, Root, Updater, Cached, Durable, Volatile, HasLocation, address_of, at}
 use Rattle.pm_words.specs.Rows.{IsRow, acted, got}
 use Rattle.pm_words.proofs.Apart.{at-set_same, at-set_other}
 use Rattle.search_layer.specs.ChangeStages.{Changing, Changed, ChangeStep}
-use Rattle.search_layer.proofs.ChangeSteps.{change_step_keeps}
+use Rattle.search_layer.specs.RootLine.{RootLineStays}
+use Rattle.search_layer.proofs.RootLemmas.{root_step_keeps}
 use Rattle.updater_law.specs.Lawful.{IsCarried, IsFreeing}
 use Rattle.updater_row_law.specs.Columns.{RowTerms, Ghosts, line_count, line_word, terms_of, facts_in}
 use Rattle.updater_row_law.specs.RowStages.{RowLine, aim_of, RowStage, Resting, Changes}
 use Rattle.updater_row_law.specs.RowSteps.{lock_at, line_at, volatile_at, version_at, RowStep, takes_lock, finds_held, passes, sees, reads, has_read, walks, is_turned_back, finds, loses, decides, changes, has_changed, stamps, empties, passes_node, sees_gone, passes_stamp, sees_stamp, passes_worn, sees_unworn, unstamps, frees, counts, leaves_lock}
 use Rattle.updater_row_law.specs.RowLaw.{RowLawful}
-use Rattle.updater_row_law.proofs.RowChanges.{word_within}
+use Rattle.updater_row_law.proofs.RowChanges.{change_kept}
 use Rattle.index_layer_law.proofs.TurnAside.{KeepsRest}
 
 -- It touches words aside from nodes and lines alone, or empties a line, or makes a node FREE.
@@ -40,17 +41,27 @@ module _ (r : RowTerms) (ghosts : Ghosts) (words : List ℕ) (row : IsRow r.layo
   still_locked : (after : List ℕ) (s t : RowStage) → at l after Updater ≡ at l words Updater → s ≢ Resting → Locked s → at l after Updater ≡ 0 → t ≡ Resting
   still_locked after s t same busy locked zero = absurd (busy (locked (sym same ∙ zero)))
 
+  -- a store elsewhere leaves the root's line
+  root_stays : (p : Location) (y : ℕ) → HasLocation l p → ((o : ℕ) → Cached (Root o) ≢ p) → ((o : ℕ) → Durable (Root o) ≢ p) → RootLineStays l words (slice_set words (address_of l p) y)
+  root_stays p y has cached durable = record {
+    cached = λ o some small. at-set_other l words p (Cached (Root o)) y has small (cached o);
+    durable = λ o some small. inl (at-set_other l words p (Durable (Root o)) y has small (durable o));
+  }
+
   loads : (address : ℕ) (s t : RowStage) → s ≢ Resting → Locked s → Touched r ghosts words (acted l words (Load address)) t
   loads address s t busy locked =
       let same : acted l words (Load address) ≡ words = set-get_or words address 0 in
       record {
-        touches = is_aside (λ p has kept. ap (λ v. at l v p) same);
+        touches = is_aside (record {
+          rest = λ p has kept. ap (λ v. at l v p) same;
+          root = record { cached = λ o some small. ap (λ v. at l v (Cached (Root o))) same; durable = λ o some small. inl (ap (λ v. at l v (Durable (Root o))) same) };
+        });
         lock = still_locked (acted l words (Load address)) s t (ap (λ v. at l v Updater) same) busy locked;
       }
 
   stores_lock : (y : ℕ) (t : RowStage) → (y ≡ 0 → t ≡ Resting) → Touched r ghosts words (slice_set words (lock_at l) y) t
   stores_lock y t rests = record {
-    touches = is_aside (λ p has kept. at-set_other l words Updater p y tt has kept.lock);
+    touches = is_aside (record { rest = λ p has kept. at-set_other l words Updater p y tt has kept.lock; root = root_stays Updater y tt (λ o e. cc) (λ o e. cc) });
     lock = λ zero. rests (sym (at-set_same l words Updater y row.whole tt) ∙ zero);
   }
 
@@ -58,17 +69,19 @@ module _ (r : RowTerms) (ghosts : Ghosts) (words : List ℕ) (row : IsRow r.layo
   stores_stamp n y s t here busy locked =
       let has : HasLocation l (Volatile n 2) = (here, omega arith) in
       record {
-        touches = is_aside (λ p there kept. at-set_other l words (Volatile n 2) p y has there (kept.stamp n));
+        touches = is_aside (record {
+          rest = λ p there kept. at-set_other l words (Volatile n 2) p y has there (kept.stamp n);
+          root = root_stays (Volatile n 2) y has (λ o e. cc) (λ o e. cc);
+        });
         lock = still_locked (slice_set words (volatile_at l n 2) y) s t (at-set_other l words (Volatile n 2) Updater y has tt (λ e. cc)) busy locked;
       }
 
   changes_leaves : (e : RowLine) (word : ℕ) (s t : Changing) (a : Action) (next : RowStage) → RowLawful r ghosts words (Changes e word s) → ChangeStep l (aim_of e word) s a (got l words a) t
       → Locked (Changes e word s) → Touched r ghosts words (acted l words a) next
   changes_leaves e word s t a next is step locked =
-      let fits = word_within r ghosts words e word is.law.sure in
-      let keeps = change_step_keeps l (aim_of e word) is.sure.before words s a t row.whole is.order fits (λ some_word. is.sure.few) is.sure.sure is.sure.layer step in
+      let keeps = change_kept r words e word s t a row is.sure step in
       record {
-        touches = is_aside (λ p has kept. keeps.others p has kept.layer);
+        touches = is_aside (record { rest = λ p has kept. keeps.others p has kept.layer; root = (root_step_keeps l (aim_of e word) words s a t row.whole step is.sure.holds).1 });
         lock = still_locked (acted l words a) (Changes e word s) next (keeps.others Updater tt refl) (λ e. cc) locked;
       }
 
@@ -82,7 +95,7 @@ touched r ghosts words row (finds_held {x = x} taken) told is locked =
     let word : ℕ = at r.layout words Updater in stores_lock r ghosts words row (cond (word == 0) 1 word) Resting (λ _. refl)
 touched r ghosts words row {s = s} {t = t} (passes {j = j} here other_state) told is locked = loads r ghosts words row (line_at r.layout j 0) s t (λ e. cc) locked
 touched r ghosts words row {s = s} {t = t} (sees {j = j} seen here ready size) told is locked = loads r ghosts words row (line_at r.layout j 0) s t (λ e. cc) locked
-touched r ghosts words row {s = s} {t = t} (reads {j = j} {offset = offset} here some_offset small) told is locked = loads r ghosts words row (line_at r.layout j offset) s t (λ e. cc) locked
+touched r ghosts words row {s = s} {t = t} (reads {j = j} {offset = offset} here some_offset small named) told is locked = loads r ghosts words row (line_at r.layout j offset) s t (λ e. cc) locked
 touched r ghosts words row {s = s} {t = t} (has_read {j = j} here) told is locked = loads r ghosts words row (line_at r.layout j 6) s t (λ e. cc) locked
 touched r ghosts words row {s = s} {t = t} (walks {address = address} here) told is locked = loads r ghosts words row address s t (λ e. cc) locked
 touched r ghosts words row {s = s} {t = t} (is_turned_back {address = address} here) told is locked = loads r ghosts words row address s t (λ e. cc) locked

@@ -1,18 +1,13 @@
 -- A step of a turn leaves the volatile words of nodes but their statuses and their stamps.
-use Rattle.std.proofs.Common.{◌≡◌, ◌≢◌, ℕ, ◌<◌, ⊎_elim, List, sym, ap, ◌∙◌, subst, arith}
-use mathlib.Core.Option.{some}
-use lib.ListN.{get_elem?}
+use Rattle.std.proofs.Common.{◌≡◌, ◌≢◌, ℕ, ◌<◌, ⊎_elim, List, ap, ◌∙◌, subst, arith}
 use Rattle.pm_words.specs.declared.layout.Layout.{Layout}
-use Rattle.pm_words.specs.declared.action.Action.{Action}
 use Rattle.pm_words.specs.Locations.{Location, Cached, Volatile, at}
-use Rattle.pm_words.specs.Rows.{acted, got}
+use Rattle.pm_words.specs.Rows.{acted}
 use Rattle.pm_words.proofs.Apart.{at-set_other}
 use Rattle.updater_row_law.specs.Columns.{Ghosts, RowTerms, line_word}
 use Rattle.updater_row_law.specs.RowStages.{Resting}
 use Rattle.updater_row_law.specs.RowSteps.{RowStep}
-use Rattle.updater_row_law.specs.Turnings.{Turning, TurnFoot}
 use Rattle.index_layer_law.specs.Turnings.{terms_of, AreRestingBut, ghosts_of}
-use Rattle.index_layer_law.specs.Layers.{Layered, IsLayered}
 use Rattle.index_layer_law.specs.Laws.{TurnStepLeavesVolatile}
 use Rattle.index_layer_law.proofs.TurnAside.{kept_volatile}
 use Rattle.index_layer_law.proofs.TurnSteps.{others_rest, resting_step, rests_or_not}
@@ -24,7 +19,7 @@ offset_in _ = 0
 
 touches_leave : (r : RowTerms) (ghosts : Ghosts) (words after : List ℕ) (n offset : ℕ) → n < r.layout.nodes → offset < 16 → offset ≢ 0 → offset ≢ 2 → Touches r ghosts words after
     → at r.layout after (Volatile n offset) ≡ at r.layout words (Volatile n offset)
-touches_leave r ghosts words after n offset here most first second (is_aside same) = same (Volatile n offset) (here, most) (kept_volatile n offset second)
+touches_leave r ghosts words after n offset here most first second (is_aside same) = same.rest (Volatile n offset) (here, most) (kept_volatile n offset second)
 touches_leave r ghosts words after n offset here most first second (is_emptied j low carried is) =
     ap (λ (v : List ℕ). at r.layout v (Volatile n offset)) is
     ∙ at-set_other r.layout words (Cached (line_word 0 j)) (Volatile n offset) 0 (omega arith, omega arith, omega arith) (here, most) (λ e. cc)

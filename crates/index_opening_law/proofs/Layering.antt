@@ -12,9 +12,8 @@ use Rattle.data_node.specs.Lists.{ListNode, anchor_in}
 use Rattle.index_law.specs.Facts.{Facts, version_in, status_in}
 use Rattle.index_law.specs.Worlds.{Party, facts}
 use Rattle.layer_map.specs.Keys.{key_of}
-use Rattle.search_layer.specs.Rows.{layer_words, LayerWords, AreEven}
+use Rattle.search_layer.specs.Rows.{LayerWords, layer_words, AreEven}
 use Rattle.search_layer.specs.Kept.{kept}
-use Rattle.search_layer.proofs.RowLemmas.{even_with_itself}
 use Rattle.updater_law.specs.Facts.{TurnFacts}
 use Rattle.updater_law.specs.Lawful.{TurnLawful}
 use Rattle.updater_law.specs.TurnStages as turns
@@ -30,6 +29,7 @@ use Rattle.image_recovery_law.specs.Columns.{Columns, lines_of}
 use Rattle.image_recovery_law.specs.Rest.{IsUntaken, is_behind, is_in, recovered_facts}
 use Rattle.image_recovery_law.specs.Rows.{columns_in, word_if}
 use Rattle.image_recovery_law.proofs.Rest.{rest_is_lawful}
+use Rattle.image_recovery_law.proofs.RowChanges.{leads_somewhere}
 use Rattle.index_opening_law.specs.Openings.{IsOpening, OpeningIsLayered, opened_world}
 use Rattle.index_opening_law.proofs.Opened.{spot_is, version_is, list_is, listed, lists, within, in_or, status_lit, status_dark}
 use Rattle.index_opening_law.proofs.Footing.{opening_footed, status_past}
@@ -135,7 +135,12 @@ module _ (l : Layout) (list : List ListNode) (o : Columns) (words : List ℕ) (m
   pub row_is : (parties : List Party) (t : Turning) → t.stamp ≢ 0 → RowLawful (terms_of (opened_world l words parties m) t) (ghosts_of (opened_world l words parties m) (λ n. 0)) words Resting
   row_is parties t stamp = record {
     order = is.rests.sound.layer.row;
-    sure = subst (λ (d : LayerWords). AreEven (layer_words l words Cached) d) (sym (λ j. (is.rests.durable j).layer)) (even_with_itself (layer_words l words Cached));
+    rooted = λ none. leads_somewhere 0 (sym ((is.rests.exact 0 0).1 (inl refl, is.rests.sound.nodes.makes.lowest)) ∙ none);
+    sure = record {
+      lawful = is.rests.sound.layer.row;
+      even = subst (λ (d : LayerWords). AreEven (layer_words l words Cached) d) (sym (λ j. (is.rests.durable j).layer)) (λ p. refl);
+      tells = is.marks;
+    };
     law = subst (λ (u : TurnFacts). TurnLawful (columns.terms_of (terms_of (opened_world l words parties m) t)) u turns.Resting)
         (sym (facts_tie (opened_world l words parties m) (λ n. 0) t ∙ known_is))
         (rest_is_lawful l list o now safe (columns.terms_of (terms_of (opened_world l words parties m) t)) stamp is.rests);

@@ -1,5 +1,5 @@
 -- The words of a recovered image, whose volatile words tell the list, are those of an index at rest.
-use Rattle.std.proofs.Common.{◌≡◌, ◌≢◌, ℕ, zero, suc, ◌+◌, ◌-◌, ◌<◌, ◌≤◌, ◌&&◌, ◌⊎◌, cond, List, [], inl, inr, ⊎_elim, refl, sym, ap, ◌∙◌, subst, arith}
+use Rattle.std.proofs.Common.{◌≡◌, ◌≢◌, ℕ, ◌+◌, ◌-◌, ◌<◌, ◌≤◌, ◌&&◌, ◌⊎◌, cond, List, [], inl, inr, ⊎_elim, refl, sym, ap, ◌∙◌, subst, arith}
 use Rattle.std.specs.Prelude.{nat_lt}
 use Rattle.std.proofs.lemmas.Bool.{cases_eq, lt-ltb}
 use Rattle.pm_words.specs.Codes.{free_status, live_status, gone_status}
@@ -42,20 +42,19 @@ version_is l words = λ k n. (λ (x : ℕ). x) (cond (nat_lt n l.nodes) (at l wo
 unused : (l : Layout) (words : List ℕ) (twin : Word → Location) (k : ℕ) → k < spare_count → (columns_in l words twin).spare k ≡ 0 → at l words (twin (spare_word k)) ≡ 0
 unused l words twin k small none = sym (word_if-here (nat_lt k spare_count) (at l words (twin (spare_word k))) (lt-ltb k spare_count small)) ∙ none
 
-front_blank : (l : Layout) (words : List ℕ) (twin : Word → Location) → ((k : ℕ) → (columns_in l words twin).spare k ≡ 0) → at l words (twin (Root 0)) ≡ 0 → (w : Word) → IsBlank w → at l words (twin w) ≡ 0
-front_blank l words twin none root (Header o) is =
+front_blank : (l : Layout) (words : List ℕ) (twin : Word → Location) → ((k : ℕ) → (columns_in l words twin).spare k ≡ 0) → (w : Word) → IsBlank w → at l words (twin w) ≡ 0
+front_blank l words twin none (Header o) is =
     let k = o - 6 in
     let same : spare_word k ≡ Header o = spare_low k (omega arith) ∙ ap Header (let all : 6 + k ≡ o = omega arith in all) in
     subst (λ w. at l words (twin w) ≡ 0) same (unused l words twin k (omega arith) (none k))
-front_blank l words twin none root (Root zero) is = root
-front_blank l words twin none root (Root (suc o)) is =
-    let k = o + 2 in
-    let same : spare_word k ≡ Root (suc o) = spare_high k (omega arith) ∙ ap Root (let all : k - 1 ≡ suc o = omega arith in all) in
-    subst (λ w. at l words (twin w) ≡ 0) same (unused l words twin k (omega arith) (none k))
-front_blank l words twin none root (Node n o) is = absurd is
-front_blank l words twin none root (Line c j o) is = absurd is
-front_blank l words twin none root (Leaf k o) is = absurd is
-front_blank l words twin none root (Cell kind k o) is = absurd is
+front_blank l words twin none (Root o) is =
+    let k = o + 1 in
+    let same : spare_word k ≡ Root o = spare_high k (omega (arith, is.0)) ∙ ap Root (let all : k - 1 ≡ o = omega arith in all) in
+    subst (λ w. at l words (twin w) ≡ 0) same (unused l words twin k (omega (arith, is.1)) (none k))
+front_blank l words twin none (Node n o) is = absurd is
+front_blank l words twin none (Line c j o) is = absurd is
+front_blank l words twin none (Leaf k o) is = absurd is
+front_blank l words twin none (Cell kind k o) is = absurd is
 
 module _ (l : Layout) (list : List ListNode) (o : Columns) (words : List ℕ) (m : Map) (is : IsOpening l list o words m) where
   abbrev now : Columns
@@ -136,10 +135,10 @@ module _ (l : Layout) (list : List ListNode) (o : Columns) (words : List ℕ) (m
     settled = λ n has. settled n (listed n has);
     durable = λ n here k. spots_even n k;
     durable_versions = λ n here. safe_version n here;
-    front = record { generation = refl; blank = front_blank l words Cached is.rests.sound.nodes.spare is.root };
+    front = record { generation = refl; blank = front_blank l words Cached is.rests.sound.nodes.spare };
     durable_front = record {
       generation = λ j. (is.rests.durable j).generation;
-      blank = front_blank l words Durable (λ k. (λ j. (is.rests.durable j).spare k) ∙ is.rests.sound.nodes.spare k) is.safe_root;
+      blank = front_blank l words Durable (λ k. (λ j. (is.rests.durable j).spare k) ∙ is.rests.sound.nodes.spare k);
     };
     idle = idle;
     begun = begun;

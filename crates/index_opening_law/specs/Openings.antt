@@ -4,7 +4,7 @@ use mathlib.Core.Option.{some}
 use lib.ListN.{get_elem?}
 use Rattle.pm_words.specs.Codes.{free_status, live_status, gone_status, no_permutation}
 use Rattle.pm_words.specs.declared.layout.Layout.{Layout}
-use Rattle.pm_words.specs.Locations.{Header, Root, Cached, Durable, Volatile, Clock, Updater, at}
+use Rattle.pm_words.specs.Locations.{Header, Cached, Durable, Volatile, Clock, Updater, at}
 use Rattle.pm_words.specs.Rows.{IsRow}
 use Rattle.pm_words.specs.Offsets.{permutation_version_offset, prev_offset, stamp_offset, status_offset}
 use Rattle.cat_history.specs.Maps.{Map}
@@ -23,6 +23,7 @@ use Rattle.index_layer_law.specs.Layers.{IsLayered}
 use Rattle.image_recovery_law.specs.Columns.{Columns, IsMapOf}
 use Rattle.image_recovery_law.specs.Rest.{Rests, IsUntaken}
 use Rattle.image_recovery_law.specs.Rows.{columns_in}
+use Rattle.image_recovery_law.specs.RowMoves.{MarksTellIn}
 
 -- Behind the node `here` the prev of each node of the list is the node before it.
 abbrev pub LeadBack : (ℕ → ℕ) → ℕ → List ListNode → Type 0
@@ -44,13 +45,12 @@ pub record TellsList (l : Layout) (list : List ListNode) (words : List ℕ) : Ty
 abbrev pub HaveNoOrders : Layout → List ℕ → Type 0
 HaveNoOrders l words = (n : ℕ) → n < l.nodes → at l words (Volatile n permutation_version_offset) ≡ no_permutation
 
--- The words are those of a recovered image that keeps this map, over this list. Their volatile ones tell the list, and
--- of each node that it has no permutation.
+-- The words are those of a recovered image that keeps this map, over this list. Their volatile ones tell the list, what
+-- the layer's root leads to, and of each node that it has no permutation.
 pub record IsOpening (l : Layout) (list : List ListNode) (o : Columns) (words : List ℕ) (m : Map) : Type 0 where
   pub row : IsRow l words
   pub rests : Rests l list o (columns_in l words Cached) (columns_in l words Durable)
-  pub root : at l words (Cached (Root 0)) ≡ 0
-  pub safe_root : at l words (Durable (Root 0)) ≡ 0
+  pub marks : MarksTellIn l words
   pub keeps : IsMapOf l list (columns_in l words Cached) m
   pub tells : TellsList l list words
   pub orders : HaveNoOrders l words

@@ -8,9 +8,9 @@ use Rattle.std.specs.Cmp.Lexicographic.{slice_cmp, slice_partial_cmp, lists_agre
 use Rattle.cat_key.specs.Names.{IsName, IsNameByte, name_cmp, word_of, words_of}
 use Rattle.cat_key.specs.declared.TheConstants.{WORDS}
 use Rattle.cat_key.proofs.Digits.{IsByte, number_nil, word_is_number, nat_cmp-less, nat_cmp-same, nat_cmp-more}
-use Rattle.cat_key.proofs.Packing.{byte_of_name, word_of_below}
+use Rattle.cat_key.proofs.Packing.{byte_of_name, name_bytes, word_of_below, length-words_of, get_or-words_of_below}
 use Rattle.cat_key.proofs.WordOrder.{words_keep_text_order}
-use Rattle.layer_map.specs.Keys.{key_of, key_number, NumbersKeepOrder, ZeroIsLeast, NumbersTellKeys, WordsKeepOrder}
+use Rattle.layer_map.specs.Keys.{key_of, key_number, IsKey, NumbersKeepOrder, ZeroIsLeast, NumbersTellKeys, WordsKeepOrder}
 
 pub record SameWords (a b c d e f : ℕ) : Type 0 where
   pub first : a ≡ d
@@ -94,6 +94,10 @@ text_numbers a b fits fits' bytes bytes' =
 
 pub numbers_keep_order : NumbersKeepOrder
 numbers_keep_order a b is_a is_b = text_numbers a b is_a.fits is_b.fits is_a.bytes is_b.bytes
+
+-- the words of a name are a key
+pub name_is_key : (name : List ℕ) → IsName name → IsKey (words_of name)
+name_is_key name is = record { whole = length-words_of name; fits = get_or-words_of_below name (name_bytes name is) }
 
 -- the words of the empty text are zero
 no_word : word_of [] ≡ 0

@@ -24,8 +24,6 @@ use Rattle.data_node.specs.Bits.{live_count, lowest_clear}
 use Rattle.data_node.specs.Spots.{bitmap_offset}
 use Rattle.data_node.specs.Lists.{next_offset}
 use Rattle.data_node.proofs.LiveCounts.{live_without}
-use Rattle.data_list.proofs.WalkLaw.{walk_loose}
-use Rattle.data_list.specs.WalkStages.{walk_stage}
 use Rattle.call_stages.specs.declared.once.Once.{Once}
 use Rattle.call_stages.specs.declared.once.Once.TheVariants as once
 use Rattle.call_stages.specs.declared.once.Placed.{Placed}
@@ -67,10 +65,8 @@ use Rattle.node_ops.specs.declared.lookup.Hold.{Hold}
 use Rattle.node_ops.specs.declared.lookup.Looked.{Looked}
 use Rattle.node_ops.specs.declared.lookup.Looked.TheVariants as looked
 use Rattle.node_ops.specs.declared.lookup.Lookup.{Lookup}
-use Rattle.node_ops.specs.declared.lookup.LookupAt.{LookupAt}
-use Rattle.node_ops.specs.declared.lookup.LookupAt.TheVariants as look
 use Rattle.node_ops.specs.Calls.{name_in, call_address}
-use Rattle.node_ops.specs.CallStages.{lookup_at_stage, finish_at_held, knows, seen_hit, decided, found_in, found_full, put_stage, del_stage, has_place}
+use Rattle.node_ops.specs.CallStages.{finish_at_held, knows, seen_hit, decided, found_in, found_full, put_stage, del_stage, has_place}
 use Rattle.node_ops.specs.DelSteps.{IsDel, IsUnplaced, del_call, del_asks, del_turned, del_looked, del_slot, del_hit, names_left, saw_next, del_taken, cleared, goes_on, del_finished, del_merged}
 use Rattle.node_ops.specs.PutSteps.{IsPut, put_call, put_asks, put_turned, put_looked, put_into, put_full, put_filled, put_finished, put_split}
 use Rattle.node_ops.specs.FillSteps.{fill_turned}
@@ -89,7 +85,6 @@ use Rattle.lone_call_law.specs.Merging.{KeepsFew, TriesMerge, NextIsWorn}
 use Rattle.lone_call_law.specs.MergeStands.{FindsNone, MergeForesees}
 use Rattle.lone_call_law.specs.Splitting.{HasLine}
 use Rattle.lone_call_law.specs.Tries.{HasDeleted, Trying}
-use Rattle.index_law.proofs.Loose.{loose_unplaced}
 use Rattle.lone_call_law.proofs.MergeStands.{live_is, ForeseesSo, merge_foresees}
 use Rattle.lone_call_law.proofs.Standing.{both, shape_tries, no_next_was, next_was, had_was, left_was, full_was}
 use Rattle.node_ops.proofs.Endings.{lookup_placed}

@@ -12,3 +12,4 @@ pub mod Targets
 pub mod Locks
 pub mod Shapes
 pub mod Splitting
+pub mod Served

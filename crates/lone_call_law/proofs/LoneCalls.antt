@@ -1,6 +1,6 @@
 -- A whole try of any call, with no other in flight.
 use Rattle.std.proofs.Common.{◌≡◌, ◌≢◌, ℕ, ◌+◌, ◌<◌, ◌≤◌, ◌^◌, ◌⊎◌, inl, inr, ⊎_elim, Bool, true, false, cond, List, [], ◌++◌, length, refl, sym, ap, ◌∙◌, subst, arith}
-use Rattle.std.specs.Prelude.{Option, Some, None, IfSome, IsTrue, IsSome, is_some, IsSomeAnd, ◌*◌}
+use Rattle.std.specs.Prelude.{Option, Some, None, IfSome, IsTrue, IsSome, is_some, IsSomeAnd}
 use Rattle.std.specs.FinMap.{insert, get-insert}
 use Rattle.std.proofs.lemmas.Bool.{leb-true}
 use Rattle.std.proofs.lemmas.List.{append-nil}
@@ -36,10 +36,11 @@ use Rattle.call_stages.specs.AnySteps.{AnyStep}
 use Rattle.layer_map.specs.Layers.{IsFloorOf}
 use Rattle.search_layer.specs.Rows.{LayerWords, layer_words}
 use Rattle.search_layer.specs.Kept.{layer_of}
-use Rattle.search_layer.specs.FloorSteps.{floor_starts, floor_most}
-use Rattle.search_layer.specs.Laws.{answer_from}
-use Rattle.search_layer.proofs.FloorAlone.{floor_is_exact}
-use Rattle.search_layer.proofs.FloorTold.{floor_starts_sound}
+use Rattle.tree_floor.specs.Floors.{floor_starts}
+use Rattle.search_layer.specs.Floors.{floor_most}
+use Rattle.search_layer.specs.Floors.{answer_from}
+use Rattle.search_layer.proofs.FloorLemmas.{exact as floor_is_exact, named_starts_sound as floor_starts_sound}
+use Rattle.tree_row.proofs.RowLaw.{reads_fit}
 use Rattle.node_ops.specs.declared.call.Call.{Call}
 use Rattle.node_ops.specs.declared.get.Get.{Get}
 use Rattle.node_ops.specs.declared.get.Get.TheVariants as get
@@ -89,7 +90,10 @@ use Rattle.split_merge.proofs.OfSplits.{stages_are_of_splits}
 use Rattle.node_ops.specs.DelSteps.{IsDel, del_call, del_turned, del_merged}
 use Rattle.node_ops.specs.RunningSteps.{IsRunning, Sound, running_call, running_asks, running_turned, running_leads, wrapped, wrapped_part}
 use Rattle.node_ops.specs.PartSteps.{IsPart, part_call, part_turned, placed_turn}
-use Rattle.node_ops.specs.CallStages.{held_by, walk_by, behind_sight, lookup_at_stage, del_stage, has_place, stage_of, stage_after, reply_of, SoundAfter, found_full}
+use Rattle.node_ops.specs.declared.part.Reading.{Reading}
+use Rattle.node_ops.specs.declared.part.Way.{Way}
+use Rattle.node_ops.specs.declared.part.Way.TheVariants as ways
+use Rattle.node_ops.specs.CallStages.{reading_at_held, stage_by, held_by, walk_by, behind_sight, lookup_at_stage, del_stage, has_place, stage_of, stage_after, reply_of, SoundAfter, found_full}
 use Rattle.node_ops.proofs.CallLaw.{turns_are_steps, leads_are_taken}
 use Rattle.node_ops.proofs.LookupSound.{Stays}
 use Rattle.node_ops.proofs.CallSound.{get_stays, put_stays, del_stays, turns_stay_sound}
@@ -129,7 +133,7 @@ use Rattle.lone_call_law.proofs.Rooms.{added_had_room}
 use Rattle.lone_call_law.proofs.Went.{HasEnded, NeedsPlace, MayLackRoom, IsRefusing, MayLack, KnowsOwn, Went, machine_went}
 
 -- the name that it is about
-of_name : (asked : NameOp) (machine : Running) → IsOf asked machine → name_in (running_call machine) ≡ name_asked asked
+pub of_name : (asked : NameOp) (machine : Running) → IsOf asked machine → name_in (running_call machine) ≡ name_asked asked
 of_name (op.Get name) (Getting get) is = is
 of_name (op.Get name) (Putting put) is = absurd is
 of_name (op.Get name) (Deleting del) is = absurd is
@@ -287,6 +291,12 @@ leaves_after (Done answer) = false
 alone_parts : (s t : Stage) (after : Bool) (r : Option (Once Placed)) → (HoldsBoth s → ⊥) → PartsOnce s false t after r
 alone_parts s t after r alone = record { parts = λ two. absurd (alone two); last = λ leaves. absurd (both leaves refl) }
 
+-- a part at its node holds that or none
+reading_few : (reading : Reading) (way : Way) → HoldsFew (stage_by way reading.call.node reading.hold.locked (behind_sight reading.behind) (reading_at_held reading reading.at))
+reading_few reading (ways.Served words) = tt
+reading_few reading (ways.Held words) = tt
+reading_few reading ways.Alone = tt
+
 -- each turn of a call parts with the node of its merge at last
 parts_once : (m : Running) (x : ℕ) → PartsOnce (stage_of m) (is_leaving m) (stage_after (running_turned m x)) (leaves_after (running_turned m x)) (reply_of (running_turned m x))
 parts_once (Getting (get.Looking lookup)) x = alone_parts _ _ _ _ (few_parts _ (looks_one (live_sight []) lookup.call lookup.at))
@@ -309,8 +319,11 @@ parts_once (Deleting (del.Merging call hold old place merge)) x = on (merge_turn
         (leaves_after (wrapped Deleting (del_merged call hold old place turn))) (reply_of (wrapped Deleting (del_merged call hold old place turn)))
     on (Go next) so = record { parts = so.0; last = λ leaves one. absurd (so.1 leaves one) }
     on (Done merged) so = record { parts = λ two one. absurd one; last = λ leaves one e. cc }
-parts_once (Parting (part.Looking lookup count behind)) x = alone_parts _ _ _ _ (few_parts _ (looks_one (behind_sight behind) lookup.call lookup.at))
-parts_once (Parting (part.Reading reading)) x = alone_parts _ _ _ _ (λ two. two)
+parts_once (Parting (part.Looking lookup count)) x = alone_parts _ _ _ _ (few_parts _ (looks_one (live_sight []) lookup.call lookup.at))
+parts_once (Parting (part.Ordering call seen count load)) x = alone_parts _ _ _ _ (λ two. two)
+parts_once (Parting (part.Locking call seen count locked)) x = alone_parts _ _ _ _ (λ two. two)
+parts_once (Parting (part.Dating call seen count way)) x = alone_parts _ _ _ _ (λ two. two)
+parts_once (Parting (part.Reading reading)) x = alone_parts _ _ _ _ (few_parts _ (reading_few reading reading.way))
 
 one_for : (name : List ℕ) (own : Option Change) (s : Stage) → HoldsFew s → IsFor name own s
 one_for name own Idle one = tt
@@ -347,8 +360,11 @@ machine_for w0 (op.Del name) (Deleting (del.Merging call hold old place merge)) 
     (record { named = of.0; deletes = refl; placed = λ e. cc; value = so.0.0; old = ap (λ (q : Option ℕ). Some q) so.0.1 })
 machine_for w0 (op.Get name) (Deleting (del.Merging call hold old place merge)) of so = absurd of
 machine_for w0 (op.Put name number) (Deleting (del.Merging call hold old place merge)) of so = absurd of
-machine_for w0 asked (Parting (part.Looking lookup count behind)) of so = one_for _ _ _ (looks_one (behind_sight behind) lookup.call lookup.at)
-machine_for w0 asked (Parting (part.Reading reading)) of so = tt
+machine_for w0 asked (Parting (part.Looking lookup count)) of so = one_for _ _ _ (looks_one (live_sight []) lookup.call lookup.at)
+machine_for w0 asked (Parting (part.Ordering call seen count load)) of so = tt
+machine_for w0 asked (Parting (part.Locking call seen count locked)) of so = tt
+machine_for w0 asked (Parting (part.Dating call seen count way)) of so = tt
+machine_for w0 asked (Parting (part.Reading reading)) of so = one_for _ _ _ (reading_few reading reading.way)
 
 -- whether it could merge, as it is answered that it took place
 abbrev MergesEnd : World → NameOp → Stage → Type 0
@@ -858,7 +874,7 @@ module _ (w0 : World) (i : ℕ) (limit : Option ℕ) (p : Party) (index : ℕ) (
       let nodes : 1 ≤ view.layout.nodes = is_view.layout.nodes.0 in
       record {
         call = record { view = is_view; node = omega arith; packed = packed_from_name name named; print = ap fingerprint_of (sym (bytes_of-words_of name named)); limit = most };
-        here = record { sound = floor_starts_sound view.layout call.name is_view.layout; layout = refl; key = refl };
+        here = record { sound = floor_starts_sound view.layout call.name is_view.layout (packed_from_name name named); layout = refl; key = refl };
       }
 
   tries : (own : Option Change) → Trying name own w0 i (started w0 i p index) begun
@@ -880,7 +896,7 @@ module _ (w0 : World) (i : ℕ) (limit : Option ℕ) (p : Party) (index : ℕ) (
   landing =
       let turns : ℕ = floor_most w0.layout in
       let kept_words : LayerWords = layer_words w0.layout w0.words Cached in
-      let exact = floor_is_exact w0.layout call.name kept_words rest.row.layout can.order in
+      let exact = floor_is_exact w0.layout call.name kept_words rest.row.layout looks_sound.here.sound.key (λ p. reads_fit w0.layout w0.words Cached p rest.row.fits) can.order in
       record {
         turns = turns;
         answers = subst (λ (l : Layout). IsSomeAnd (answer_from turns kept_words (floor_starts l call.name)) (StartsAt w0.layout w0.words (name_in call))) (sym layout)
@@ -936,7 +952,7 @@ lone_calls_begin w0 i (op.Del name) limit p index view rest can there is_view la
 
 -- to the law a part is a get of its low name
 as_part : {w0 w : World} {i : ℕ} {asked : NameOp} {limit : Option ℕ} {p : Party} (call : Call) (count : ℕ) → LoneCall w0 i asked limit w p (Getting (get.Looking (starts call)))
-    → LoneCall w0 i asked limit w p (Parting (part.Looking (starts call) count None))
+    → LoneCall w0 i asked limit w p (Parting (part.Looking (starts call) count))
 as_part call count o = record {
   trying = o.trying;
   walks = o.walks;
@@ -952,7 +968,7 @@ as_part call count o = record {
   timely = λ past. absurd past;
 }
   where
-    of_part : (asked : NameOp) → IsOf asked (Getting (get.Looking (starts call))) → IsOf asked (Parting (part.Looking (starts call) count None))
+    of_part : (asked : NameOp) → IsOf asked (Getting (get.Looking (starts call))) → IsOf asked (Parting (part.Looking (starts call) count))
     of_part (op.Get name) is = is
     of_part (op.Put name value) is = is
     of_part (op.Del name) is = is

@@ -1,6 +1,6 @@
 -- A look-up that nobody disturbs comes to the target of its name.
-use Rattle.std.proofs.Common.{◌≡◌, ℕ, zero, suc, ◌+◌, ◌<◌, ◌==◌, true, false, cond, ltb, List, get_or, set, Some, None, refl, sym, subst, ap, ◌∙◌, arith}
-use Rattle.std.proofs.lemmas.Bool.{eq-eqb, lt-ltb}
+use Rattle.std.proofs.Common.{◌≡◌, ℕ, zero, suc, ◌+◌, ◌<◌, ◌≤◌, ◌==◌, true, false, inl, inr, cond, ltb, List, get_or, set, Some, None, refl, sym, subst, ap, ◌∙◌, arith}
+use Rattle.std.proofs.lemmas.Bool.{eq-eqb}
 use Rattle.std.specs.Prelude.{IsSomeAnd}
 use Rattle.std.proofs.lemmas.List.{set-get_or}
 use Rattle.pm_words.specs.declared.layout.Layout.{Layout}
@@ -34,10 +34,9 @@ use Rattle.node_ops.specs.declared.lookup.LookupAt.TheVariants as at
 use Rattle.node_ops.specs.Calls.{IsCall, name_in, at_node, call_address}
 use Rattle.data_node.specs.Spots.{bitmap_offset, slot_offset}
 use Rattle.node_ops.specs.LookupSteps.{came_by, is_spent, goes_to, ends, floored, walked_on, saw_directory, next_candidate, candidate_turned, lookup_at_asks, lookup_at_turned, IsFlooring, IsLookupAt}
-use Rattle.node_ops.proofs.LookupLaw.{key_is, floor_after}
+use Rattle.node_ops.proofs.LookupLaw.{key_is}
 use Rattle.index_law.specs.Facts.{list_in, version_in}
 use Rattle.index_law.specs.Worlds.{facts}
-use Rattle.index_law.specs.Prevs.{prev_in}
 use Rattle.index_law.proofs.Rows.{version_in-here, spot_in-here, status_in-here, version_in-alike, spot_in-alike, status_in-alike}
 use Rattle.index_law.proofs.Noting.{line-alike}
 use Rattle.index_law.proofs.Starts.{idle_law}
@@ -45,12 +44,12 @@ use Rattle.index_law.proofs.Prevs.{idle_follow, prev_at}
 use Rattle.pm_words.proofs.Apart.{at-set_other}
 use Rattle.pm_words.specs.Locations.{Node, Line, Location, Volatile, Cached}
 use Rattle.pm_words.specs.declared.action.Action.TheVariants.{Load, Exchange}
-use Rattle.search_layer.specs.declared.floor.Floor.{Floor}
+use Rattle.tree_floor.specs.declared.floor.Floor.{Floor}
 use Rattle.search_layer.specs.Rows.{LayerWords, layer_words}
-use Rattle.search_layer.specs.FloorSteps.{floor_asks, floor_turned, floor_left}
-use Rattle.search_layer.specs.Laws.{told_turn, answer_from, FloorAfter, floor_told}
-use Rattle.search_layer.proofs.FloorAlone.{lone_keeps}
-use Rattle.search_layer.proofs.FloorTold.{floor_is_told}
+use Rattle.tree_floor.specs.Floors.{floor_asks, floor_turned}
+use Rattle.search_layer.specs.Floors.{told_turn, answer_from, floor_told}
+use Rattle.search_layer.proofs.FloorLemmas.{keeps_words as lone_keeps, told as floor_is_told}
+use Rattle.search_layer.proofs.RowLemmas.{kept_leads_below}
 use Rattle.lone_call_law.specs.There.{HasCome, nodes_in, CanWalk, StartsAt, WalksBy, IsAtNode, IsUnmoved, LookupStands, LookedStands, LooksComeThere}
 use Rattle.lone_call_law.specs.There.{RestIsStill, IdleIsQuiet}
 use Rattle.std.specs.Prelude.{IsSome, is_some}
@@ -131,7 +130,7 @@ stored_unmoved l words0 words n word here unmoved =
     }
 
 -- and as its lock is taken a node's version word alone changes
-locked_unmoved : (l : Layout) (words0 words : List ℕ) (n old new : ℕ) → n < l.nodes → words ≡ words0 → IsUnmoved l words0 (acted l words (Exchange (version_address l n) old new)) n
+pub locked_unmoved : (l : Layout) (words0 words : List ℕ) (n old new : ℕ) → n < l.nodes → words ≡ words0 → IsUnmoved l words0 (acted l words (Exchange (version_address l n) old new)) n
 locked_unmoved l words0 words n old new here same =
     let word : ℕ = cond (get_or words (version_address l n) 0 == old) new (get_or words (version_address l n) 0) in
     let stored : List ℕ = set words (version_address l n) word in
@@ -152,14 +151,21 @@ module _ (call : Call) (sound : IsCall call) (words0 words : List ℕ) where
   abbrev Stands : List ℕ → Turn Lookup Looked → Type 0
   Stands words' = LookedStands l g words0 words' call
 
+  -- the node of a floor is one of the layout's
+  start_within : CanWalk l g words0 → (node : ℕ) → StartsAt l words0 (name_in call) node → node < l.nodes
+  start_within can node starts = elim starts [
+    | inl best ↦ kept_leads_below l (layer_words l words0 Cached) can.order best.best node best.leads
+    | inr none ↦ let first : node ≡ 0 = none.0 in let some : 1 ≤ l.nodes = sound.view.layout.nodes.0 in omega arith
+  ]
+
   -- the floor leads to where the walk begins
-  floored_there : (words' : List ℕ) (turns left : ℕ) (turn : Turn Floor ℕ) → CanWalk l g words0 → words' ≡ words0 → FloorAfter l call.name left turn
+  floored_there : (words' : List ℕ) (turns : ℕ) (turn : Turn Floor ℕ) → CanWalk l g words0 → words' ≡ words0
       → IsSomeAnd (told_turn turn (answer_from turns (layer_words l words0 Cached))) (StartsAt l words0 (name_in call)) → Stands words' (floored call turn)
-  floored_there words' turns left (Go next) can same here answers = (same, record { turns = turns; answers = answers })
-  floored_there words' turns left (Done node) can same here starts =
+  floored_there words' turns (Go next) can same answers = (same, record { turns = turns; answers = answers })
+  floored_there words' turns (Done node) can same starts =
       let f : Nodes = nodes_in l words0 in
       let walk : Walk = walk_from l g node (key_words call.name) in
-      let comes = each_comes l g f (key_number (key_words call.name)) node can.quiet here in (
+      let comes = each_comes l g f (key_number (key_words call.name)) node can.quiet (start_within can node starts) in (
         same,
         record {
           hops = comes.0;
@@ -176,7 +182,7 @@ module _ (call : Call) (sound : IsCall call) (words0 words : List ℕ) where
       let loads : floor_told w floor ≡ x =
       sym (subst (λ (k : Layout). got k words0 (floor_asks floor) ≡ floor_told (layer_words k words0 Cached) floor) here.layout (floor_is_told floor words0 here.sound))
       ∙ ap (λ (ws : List ℕ). got l ws (floor_asks floor)) (sym same) ∙ sym told in
-      floored_there (acted l words (floor_asks floor)) turns (floor_left floor) (floor_turned floor x) can (lone_keeps l words floor ∙ same) (floor_after call floor x here)
+      floored_there (acted l words (floor_asks floor)) turns (floor_turned floor x) can (lone_keeps l words floor ∙ same)
       (subst (λ (n : ℕ). IsSomeAnd (told_turn (floor_turned floor n) (answer_from turns w)) (StartsAt l words0 (name_in call))) loads answers)
 
   walked_there : (words' : List ℕ) (hops : ℕ) (turn : Turn Walk Walked) → WalksBy l words0 (name_in call) hops → words' ≡ words0 → StaysOnWay l (nodes_in l words0) hops (key_words call.name) turn → Stands words' (walked_on call turn)

@@ -5,7 +5,7 @@ use Rattle.pm_words.specs.declared.layout.Layout.{Layout}
 use Rattle.pm_words.specs.declared.again.Again.TheVariants as again
 use Rattle.pm_words.specs.declared.machine.Turn.{Turn}
 use Rattle.pm_words.specs.declared.machine.Turn.TheVariants.{Go, Done}
-use Rattle.pm_words.specs.declared.action.Action.TheVariants.{Load}
+use Rattle.pm_words.specs.declared.action.Action.TheVariants.{Exchange, Load, Store}
 use Rattle.pm_words.specs.Rows.{acted, got}
 use Rattle.data_node.specs.Bits.{lowest_clear}
 use Rattle.call_stages.specs.declared.once.Once.{Once}
@@ -38,7 +38,7 @@ use Rattle.node_ops.specs.declared.part.PartWords.{PartWords}
 use Rattle.node_ops.specs.declared.part.Reading.{Reading}
 use Rattle.node_ops.specs.declared.part.ReadingAt.{ReadingAt}
 use Rattle.node_ops.specs.declared.part.ReadingAt.TheVariants as reading_at
-use Rattle.data_list.specs.declared.target.Next.{Next}
+use Rattle.data_list.specs.declared.target.Sighting.{Sighting}
 use Rattle.node_ops.specs.declared.running.Running.{Running}
 use Rattle.node_ops.specs.declared.running.Running.TheVariants.{Getting, Putting, Deleting, Parting}
 use Rattle.node_ops.specs.LookupSteps.{lookup_turned, lookup_asks}
@@ -49,8 +49,24 @@ use Rattle.node_ops.specs.GetSteps.{IsGet, get_call, get_asks, get_turned}
 use Rattle.node_ops.specs.PutSteps.{IsPut, put_call, put_asks, put_turned, put_looked, put_into, put_full, put_filled, put_finished, put_split, IsSplitting}
 use Rattle.node_ops.specs.DelSteps.{IsDel, IsTakeOf, names_left, del_call, del_asks, del_turned, del_looked, del_slot, del_hit, saw_next, del_taken, goes_on, merges_at, del_finished, del_merged}
 use Rattle.node_ops.specs.RunningSteps.{IsRunning, running_call, running_asks, running_turned, wrapped, wrapped_part}
-use Rattle.node_ops.specs.PartSteps.{IsPart, IsReading, part_words, reading_at_asks, part_call, part_asks, part_turned, part_looked, reading_turned, behind_of}
-use Rattle.node_ops.specs.CallStages.{stage_of, get_stage, put_stage, del_stage, has_place}
+use Rattle.node_ops.specs.declared.lookup.LookupAt.TheVariants as look
+use Rattle.node_ops.specs.declared.lookup.LookupAt.{LookupAt}
+use Rattle.node_ops.specs.declared.part.Way.{Way}
+use Rattle.node_ops.specs.declared.part.Way.TheVariants as ways
+use Rattle.node_ops.specs.PartSteps.{IsFreely, IsHeld, IsPart, IsReading, IsReadingAt, after_at, low_value, next_at, ordering_turned, part_asks, part_call, part_held, part_locked, part_looked, part_ordered, part_turned, part_walked, part_words, reading_at_asks, reading_turned, seen_at, sorted_by, sorted_in, store_on, with_word}
+use Rattle.node_ops.specs.PartSteps as node_steps
+use Rattle.node_ops.proofs.PartWalks.{WalksOn, walks_on}
+use Rattle.permutation.specs.declared.load.LoadPermutation.{LoadPermutation}
+use Rattle.permutation.specs.declared.load.LoadPermutationAt.{LoadPermutationAt}
+use Rattle.permutation.specs.declared.load.LoadPermutationAt.TheVariants.{Version, Word}
+use Rattle.permutation.specs.declared.store.StorePermutation.{StorePermutation}
+use Rattle.permutation.specs.Loads.{load_at_asks, load_at_read, load_at_turned}
+use Rattle.permutation.specs.Permutations.{permutation_words}
+use Rattle.permutation.specs.Sortings.{permutation_address, permutation_version_address}
+use Rattle.permutation.specs.Stores.{store_asks, store_turned}
+use Rattle.permutation_law.specs.Permuted.{made_at}
+use Rattle.permutation_law.proofs.Columns.{made_at-here}
+use Rattle.node_ops.specs.CallStages.{behind_sight, del_stage, get_stage, has_place, put_stage, reading_whole, stage_by, stage_of}
 use Rattle.node_ops.specs.Endings.{limit_in}
 use Rattle.node_ops.proofs.MergeFacts.{merging_stage, merge_placed, merge_limited}
 use Rattle.smo_log.specs.declared.take.Take.{Take}
@@ -64,7 +80,7 @@ use Rattle.split_merge.specs.declared.merging.Merge.{Merge}
 use Rattle.split_merge.specs.declared.merging.Merged.{Merged}
 use Rattle.split_merge.specs.Merges.{merge_turned}
 use Rattle.index_law.specs.Lines.{line_in}
-use Rattle.lone_call_law.specs.There.{CanWalk, IsAtNode, IsUnmoved, HasCome, EndsEarly, LookedStands}
+use Rattle.lone_call_law.specs.There.{CanWalk, IsAtNode, IsUnmoved, HasCome, EndsEarly, LookedStands, LookupStands}
 use Rattle.lone_call_law.specs.Splitting.{HasLine, HasFree, IsLacking, SplitStands, SplitWent, IsReadyToSplit, HoldsAlone}
 use Rattle.lone_call_law.proofs.Splitting.{splits_come_there, take_unmoved, take_told}
 use Rattle.index_law.specs.Facts.{version_in, list_in}
@@ -79,18 +95,24 @@ use Rattle.split_merge.specs.Splits.{split_asks, split_turned}
 use Rattle.pm_words.specs.declared.again.Again.{Again}
 use Rattle.node_ops.specs.declared.lookup.Hold.{Hold}
 use Rattle.node_ops.specs.Calls.{name_in, call_address}
-use Rattle.lone_call_law.specs.LoneCalls.{GetIsThere, PutIsThere, HasFoundLine, DelIsThere, PartIsThere, IsThere}
-use Rattle.lone_call_law.proofs.There.{looks_come_there, loaded_unmoved, stored_unmoved}
+use Rattle.lone_call_law.specs.LoneCalls.{GetIsThere, PutIsThere, HasFoundLine, DelIsThere, PartIsThere, WayIsThere, IsMadeNow, IsThere}
+use Rattle.lone_call_law.proofs.There.{looks_come_there, loaded_unmoved, locked_unmoved, stored_unmoved}
 use Rattle.node_ops.specs.declared.get.Get.TheVariants as get
 use Rattle.node_ops.specs.GetSteps.{get_looked}
-use Rattle.std.proofs.Common.{get_or}
+use Rattle.std.proofs.Common.{get_or, set}
 use Rattle.std.proofs.Common.{ap}
-use Rattle.std.specs.Prelude.{IsSome}
-use Rattle.std.proofs.lemmas.Bool.{eq-eqb}
+use Rattle.std.specs.Prelude.{IfSome, IsSome, slice_index}
+use Rattle.std.proofs.lemmas.Bool.{eq-eqb, eqb-false, eqb-true, ltb-true}
 use Rattle.std.proofs.lemmas.List.{set-get_or}
 use Rattle.index_law.proofs.Rows.{version_in-here}
-use Rattle.call_stages.specs.Kinds.{version_address}
-use Rattle.data_node.specs.Spots.{slot_offset}
+use Rattle.call_stages.specs.Kinds.{clock_address, version_address}
+use Rattle.version_lock.specs.Versions.{is_worn_word, kept_count, locked_word}
+use Rattle.pm_words.specs.Locations.{Location, Line, Node, Cached, Volatile, address_of}
+use Rattle.pm_words.proofs.Apart.{at-set_other}
+use Rattle.index_law.proofs.Noting.{line-alike}
+use Rattle.index_law.proofs.Rows.{spot_in-alike, status_in-alike, version_in-alike}
+use Rattle.node_ops.specs.Calls.{IsCall}
+use Rattle.data_node.specs.Spots.{bitmap_offset, slot_offset}
 
 -- a write that has come there holds the lock
 came_locked : (l : Layout) (words0 words : List ℕ) (call : Call) (word : ℕ) (limit : Option ℕ) → IsSome limit → HasCome limit l words0 words call word → IsAtNode l words0 call × IsUnmoved l words0 words call.node
@@ -425,33 +447,199 @@ del_went (del.Merging call hold old place merge) words0 words x sound still tell
 abbrev PartWent : Layout → ℕ → List ℕ → List ℕ → Part → Turn Part (Once PartWords) → Type 0
 PartWent l g words0 words machine turn = Went l g words0 words (Parting machine) (wrapped_part turn)
 
-part_looked_went : (l : Layout) (g : ℕ) (words0 words : List ℕ) (lookup : Lookup) (count : ℕ) (before behind : Option Next) (turn : Turn Lookup Looked) → lookup.call.limit ≡ None → LookedStands l g words0 words lookup.call turn
-    → PartWent l g words0 words (part.Looking lookup count before) (part_looked lookup.call count behind turn)
-part_looked_went l g words0 words lookup count before behind (Go next) read is = is
-part_looked_went l g words0 words lookup count before behind (Done (looked.Early (once.Done placed))) read is = absurd is
-part_looked_went l g words0 words lookup count before behind (Done (looked.Early (once.Worn node word))) read is = is
-part_looked_went l g words0 words lookup count before behind (Done (looked.Early (once.Spent clock))) read is = is
-part_looked_went l g words0 words lookup count before behind (Done (looked.Early (once.Again why))) read is = absurd is
-part_looked_went l g words0 words lookup count before behind (Done (looked.Found found)) read is = subst (λ (o : Option ℕ). HasCome o l words0 words lookup.call found.hold.locked) read is
+abbrev offset_of_volatile : Location → ℕ
+offset_of_volatile (Volatile n o) = o
+offset_of_volatile _ = 0
 
-reading_went : (words0 words : List ℕ) (reading : Reading) (x : ℕ) → IsReading reading → HasCome None reading.call.view.layout words0 words reading.call reading.hold.locked → (at : ReadingAt)
-    → x ≡ got reading.call.view.layout words (reading_at_asks reading.call at)
-    → PartWent reading.call.view.layout reading.call.view.generation words0 (acted reading.call.view.layout words (reading_at_asks reading.call at)) (part.Reading (record reading { at = at })) (reading_turned (record reading { at = at }) at x)
-reading_went words0 words reading x sound stands (reading_at.Load slot word) told = (stands.0, set-get_or words (call_address reading.call (slot_offset slot word)) 0 ∙ stands.1, stands.2)
-reading_went words0 words reading x sound stands reading_at.Check told =
-    let same : x ≡ reading.hold.locked = reads_again reading.call words0 words x reading.hold.locked sound.call.node stands told in
-    let whole = record reading { at = reading_at.Check } in
-    subst (λ b. PartWent reading.call.view.layout reading.call.view.generation words0 (acted reading.call.view.layout words (reading_at_asks reading.call reading_at.Check)) (part.Reading whole)
+-- a store of a volatile word of a node but its status leaves what is so of the list and the lines
+beyond_unmoved : (l : Layout) (words0 words : List ℕ) (n m offset y : ℕ) → m < l.nodes → offset < 16 → offset ≢ 0 → IsUnmoved l words0 words n → IsUnmoved l words0 (set words (address_of l (Volatile m offset)) y) n
+beyond_unmoved l words0 words n m offset y here most other unmoved =
+    let stored : List ℕ = set words (address_of l (Volatile m offset)) y in
+    record {
+      versions = λ k apart. version_in-alike l words stored k (λ there. at-set_other l words (Volatile m offset) (Cached (Node k 0)) y (here, most) (there, omega arith) (λ e. cc)) ∙ unmoved.versions k apart;
+      statuses = λ k. status_in-alike l words stored k (λ there. at-set_other l words (Volatile m offset) (Volatile k 0) y (here, most) (there, omega arith) (λ e. other (sym (ap offset_of_volatile e)))) ∙ unmoved.statuses k;
+      nexts = λ k. spot_in-alike l words stored k next_offset (λ there _. at-set_other l words (Volatile m offset) (Cached (Node k next_offset)) y (here, most) there (λ e. cc)) ∙ unmoved.nexts k;
+      lines = λ c j. line-alike l words stored c j 0 (λ there. at-set_other l words (Volatile m offset) (Cached (Line c j 0)) y (here, most) there (λ e. cc)) ∙ unmoved.lines c j;
+    }
+
+-- a look-up that came to its node has it as it was
+walked_went : (l : Layout) (words0 words : List ℕ) (next : Lookup) (count : ℕ) (at : LookupAt) → next.at ≡ at → LookupStands l words0 words next.call next.at → PartIsThere l words0 words (part_walked next count (seen_at at))
+walked_went l words0 words next count (look.Floor floor) is stands = stands
+walked_went l words0 words next count (look.Walk walk) is stands = stands
+walked_went l words0 words next count (look.Read seen) is stands =
+    let here = subst (LookupStands l words0 words next.call) is stands in ((here.1, here.0, here.2), tt)
+walked_went l words0 words next count (look.Lock seen locked) is stands = stands
+walked_went l words0 words next count (look.Clock locked) is stands = stands
+walked_went l words0 words next count (look.Spent hold) is stands = stands
+walked_went l words0 words next count (look.Bitmap hold) is stands = stands
+walked_went l words0 words next count (look.Prints hold bitmap prints k) is stands = stands
+walked_went l words0 words next count (look.Name hold directory left slot k) is stands = stands
+walked_went l words0 words next count (look.Value hold directory slot) is stands = stands
+
+part_looked_went : (l : Layout) (g : ℕ) (words0 words : List ℕ) (lookup : Lookup) (count : ℕ) (turn : Turn Lookup Looked) → WalksOn turn → LookedStands l g words0 words lookup.call turn
+    → PartWent l g words0 words (part.Looking lookup count) (part_looked count turn)
+part_looked_went l g words0 words lookup count (Go next) way is = walked_went l words0 words next count next.at refl is
+part_looked_went l g words0 words lookup count (Done (looked.Early (once.Done placed))) way is = absurd is
+part_looked_went l g words0 words lookup count (Done (looked.Early (once.Worn node word))) way is = is
+part_looked_went l g words0 words lookup count (Done (looked.Early (once.Spent clock))) way is = is
+part_looked_went l g words0 words lookup count (Done (looked.Early (once.Again why))) way is = absurd is
+part_looked_went l g words0 words lookup count (Done (looked.Found found)) way is = absurd way
+
+-- by whichever way it has its node, a load leaves all as it was
+way_loaded : (l : Layout) (words0 words : List ℕ) (call : Call) (word address : ℕ) (way : Way) → WayIsThere l words0 words call word way → WayIsThere l words0 (acted l words (Load address)) call word way
+way_loaded l words0 words call word address (ways.Served order) there = ((there.0.0, set-get_or words address 0 ∙ there.0.1, there.0.2), there.1)
+way_loaded l words0 words call word address (ways.Held order) there = ((there.0.0, loaded_unmoved l words0 words call.node address there.0.1), there.1)
+way_loaded l words0 words call word address ways.Alone there = ((there.0.0, set-get_or words address 0 ∙ there.0.1, there.0.2), there.1)
+
+-- words of a permutation that it makes are none of those that it has its node by
+sorted_went : (l : Layout) (words0 words : List ℕ) (r : Reading) (way : Way) → r.way ≡ way → WayIsThere l words0 words r.call r.hold.locked r.way → PartIsThere l words0 words (part.Reading (sorted_by r way))
+sorted_went l words0 words r (ways.Served order) is there = there
+sorted_went l words0 words r (ways.Held order) is there = subst (WayIsThere l words0 words r.call r.hold.locked) is there
+sorted_went l words0 words r ways.Alone is there = there
+
+goes_went : (l : Layout) (words0 words : List ℕ) (r : Reading) (at : ReadingAt) → WayIsThere l words0 words r.call r.hold.locked r.way → PartIsThere l words0 words (part.Reading (node_steps.goes_on r at))
+goes_went l words0 words r (reading_at.Load slot word) there = there
+goes_went l words0 words r reading_at.Clock there = sorted_went l words0 words (record r { old = low_value r r.call.view.layout.slots }) r.way refl there
+goes_went l words0 words r reading_at.Bitmap there = sorted_went l words0 words (record r { old = low_value r r.call.view.layout.slots }) r.way refl there
+goes_went l words0 words r reading_at.Check there = sorted_went l words0 words (record r { old = low_value r r.call.view.layout.slots }) r.way refl there
+goes_went l words0 words r (reading_at.Store store) there = sorted_went l words0 words (record r { old = low_value r r.call.view.layout.slots }) r.way refl there
+goes_went l words0 words r reading_at.Unlock there = sorted_went l words0 words (record r { old = low_value r r.call.view.layout.slots }) r.way refl there
+
+-- without the lock it is told the version word again that it saw
+pub free_come : (l : Layout) (words0 words : List ℕ) (call : Call) (word : ℕ) (way : Way) → IsFreely way → WayIsThere l words0 words call word way → HasCome None l words0 words call word
+free_come l words0 words call word (ways.Served order) free there = there.0
+free_come l words0 words call word (ways.Held order) free there = absurd free
+free_come l words0 words call word ways.Alone free there = there.0
+
+-- with the lock it has its node alone
+held_come : (l : Layout) (words0 words : List ℕ) (call : Call) (word : ℕ) (way : Way) → IsHeld way → WayIsThere l words0 words call word way → (IsAtNode l words0 call × IsUnmoved l words0 words call.node) × ¬ IsMadeNow l words0 call
+held_come l words0 words call word (ways.Served order) held there = absurd held
+held_come l words0 words call word (ways.Held order) held there = there
+held_come l words0 words call word ways.Alone held there = absurd held
+
+-- it has the lock where it has made a permutation
+made_held : (way : Way) (words : List ℕ) → way ≡ ways.Held words → IsHeld way
+made_held way words is = subst IsHeld (sym is) tt
+
+held_there : (l : Layout) (words0 words : List ℕ) (call : Call) (word : ℕ) (way : Way) → IsHeld way → IsAtNode l words0 call → IsUnmoved l words0 words call.node → ¬ IsMadeNow l words0 call → WayIsThere l words0 words call word way
+held_there l words0 words call word (ways.Served order) held node unmoved new = absurd held
+held_there l words0 words call word (ways.Held order) held node unmoved new = ((node, unmoved), new)
+held_there l words0 words call word ways.Alone held node unmoved new = absurd held
+
+-- a store of its permutation leaves all else
+stores_unmoved : (store : StorePermutation) (l : Layout) (words0 words : List ℕ) (n : ℕ) → store.layout ≡ l → store.node < l.nodes → IsUnmoved l words0 words n → IsUnmoved l words0 (acted l words (store_asks store)) n
+stores_unmoved store l words0 words n layout here unmoved =
+    let node : store.node < store.layout.nodes = subst (λ (m : Layout). store.node < m.nodes) (sym layout) here in
+    elim (nat_lt store.stored 8) as (λ b. nat_lt store.stored 8 ≡ b → IsUnmoved l words0 (acted l words (cond b (Store (permutation_address store.layout store.node store.stored) (slice_index store.words store.stored))
+    (Store (permutation_version_address store.layout store.node) (store.locked + 1)))) n) [
+      | true ↦ λ more. subst (λ (m : Layout). IsUnmoved l words0 (set words (address_of m (Volatile store.node (8 + store.stored))) (slice_index store.words store.stored)) n) (sym layout)
+          (beyond_unmoved l words0 words n store.node (8 + store.stored) (slice_index store.words store.stored) here (let low = ltb-true store.stored 8 more in omega arith) (λ e. omega arith) unmoved)
+      | false ↦ λ last. subst (λ (m : Layout). IsUnmoved l words0 (set words (address_of m (Volatile store.node 3)) (store.locked + 1)) n) (sym layout)
+          (beyond_unmoved l words0 words n store.node 3 (store.locked + 1) here (omega arith) (λ e. omega arith) unmoved)
+    ] refl
+
+stored_went : (l : Layout) (words0 words : List ℕ) (reading : Reading) (turn : Turn StorePermutation (Unit {0})) → WayIsThere l words0 words reading.call reading.hold.locked reading.way → PartIsThere l words0 words (part.Reading (store_on reading turn))
+stored_went l words0 words reading (Go store) there = there
+stored_went l words0 words reading (Done nothing) there = there
+
+-- what it listed has no limit
+whole_limit : (reading : Reading) (way : Way) → limit_in (stage_by way reading.call.node reading.hold.locked (behind_sight reading.behind) (reading_whole reading)) ≡ reading.call.limit
+whole_limit reading (ways.Served words) = refl
+whole_limit reading (ways.Held words) = refl
+whole_limit reading ways.Alone = refl
+
+reading_went : (words0 words : List ℕ) (reading : Reading) (x : ℕ) → IsReading reading → WayIsThere reading.call.view.layout words0 words reading.call reading.hold.locked reading.way → (at : ReadingAt) → IsReadingAt reading at
+    → x ≡ got reading.call.view.layout words (reading_at_asks reading.call reading.hold at)
+    → PartWent reading.call.view.layout reading.call.view.generation words0 (acted reading.call.view.layout words (reading_at_asks reading.call reading.hold at)) (part.Reading (record reading { at = at })) (reading_turned (record reading { at = at }) at x)
+reading_went words0 words reading x sound stands reading_at.Clock here told =
+    way_loaded reading.call.view.layout words0 words reading.call reading.hold.locked (clock_address reading.call.view.layout) reading.way stands
+reading_went words0 words reading x sound stands reading_at.Bitmap here told =
+    let l = reading.call.view.layout in
+    let address = call_address reading.call bitmap_offset in
+    goes_went l words0 (acted l words (Load address)) (record reading { at = reading_at.Bitmap; bitmap = x }) (next_at x 0 l.slots) (way_loaded l words0 words reading.call reading.hold.locked address reading.way stands)
+reading_went words0 words reading x sound stands (reading_at.Load slot word) here told =
+    let l = reading.call.view.layout in
+    let address = call_address reading.call (slot_offset slot word) in
+    let loading : Reading = record reading { at = reading_at.Load slot word } in
+    goes_went l words0 (acted l words (Load address)) (record loading { entries = with_word reading.entries slot word x }) (after_at loading slot word) (way_loaded l words0 words reading.call reading.hold.locked address reading.way stands)
+reading_went words0 words reading x sound stands reading_at.Check here told =
+    let come = free_come reading.call.view.layout words0 words reading.call reading.hold.locked reading.way here.0 stands in
+    let same : x ≡ reading.hold.locked = reads_again reading.call words0 words x reading.hold.locked sound.call.node come told in
+    let whole : Reading = record reading { at = reading_at.Check } in
+    subst (λ b. PartWent reading.call.view.layout reading.call.view.generation words0 (acted reading.call.view.layout words (reading_at_asks reading.call reading.hold reading_at.Check)) (part.Reading whole)
     (Done (cond b (once.Done (part_words whole)) (once.Again (again.Moved reading.call.node reading.hold.locked x))))) (sym (eq-eqb x reading.hold.locked same))
-    (stands.0, refl, tt, refl)
+    (come.0, refl, tt, whole_limit reading reading.way)
+reading_went words0 words reading x sound stands (reading_at.Store store) here told =
+    let l = reading.call.view.layout in
+    let held = made_held reading.way (permutation_words (sorted_in reading)) here.1.made in
+    let come = held_come l words0 words reading.call reading.hold.locked reading.way held stands in
+    let layout : store.layout ≡ l = ap (λ (s : StorePermutation). s.layout) here.0.from in
+    let node : store.node ≡ reading.call.node = ap (λ (s : StorePermutation). s.node) here.0.from in
+    let unmoved = stores_unmoved store l words0 words reading.call.node layout (subst (λ (n : ℕ). n < l.nodes) (sym node) sound.call.node) come.0.1 in
+    stored_went l words0 (acted l words (store_asks store)) (record reading { at = reading_at.Store store }) (store_turned store x)
+    (held_there l words0 (acted l words (store_asks store)) reading.call reading.hold.locked reading.way held come.0.0 unmoved come.1)
+reading_went words0 words reading x sound stands reading_at.Unlock here told =
+    let come = held_come reading.call.view.layout words0 words reading.call reading.hold.locked reading.way (made_held reading.way (permutation_words (sorted_in reading)) here.made) stands in
+    (come.0.0, refl, tt, whole_limit reading reading.way)
+
+-- the load of its node's permutation, and what it finds
+module _ (call : Call) (seen : Sighting) (count : ℕ) (words0 words : List ℕ) (sound : IsCall call) (come : HasCome None call.view.layout words0 words call seen.version) where
+  abbrev l : Layout
+  l = call.view.layout
+
+  come_on : (address : ℕ) → HasCome None l words0 (acted l words (Load address)) call seen.version
+  come_on address = (come.0, set-get_or words address 0 ∙ come.1, come.2)
+
+  -- where there is none it is new
+  none_went : (after : List ℕ) → HasCome None l words0 after call seen.version → ¬ IsMadeNow l words0 call → PartIsThere l words0 after (part_ordered call seen count None)
+  none_went after here new = elim (is_worn_word seen.version call.view.generation) as (λ b. PartIsThere l words0 after (cond b (part.Dating call seen count ways.Alone)
+      (part.Locking call seen count (locked_word call.view.generation (kept_count seen.version call.view.generation))))) [
+        | true ↦ (here, new)
+        | false ↦ (here, new)
+      ]
+
+  ordering_went : (load : LoadPermutation) (at : LoadPermutationAt) (x : ℕ) → load.layout ≡ l → load.node ≡ call.node → load.version ≡ seen.version → IfSome (load_at_read load.words at) (λ read. IsMadeNow l words0 call)
+      → x ≡ got l words (load_at_asks load.layout load.node at)
+      → PartWent l call.view.generation words0 (acted l words (load_at_asks load.layout load.node at)) (part.Ordering call seen count (record load { at = at })) (ordering_turned call seen count (load_at_turned (record load { at = at }) at x))
+  ordering_went load Version x layout node version had told =
+      let address = permutation_version_address load.layout load.node in
+      let read : x ≡ made_at l words0 call.node =
+      told ∙ (λ k. slice_index words (permutation_version_address (layout k) (node k))) ∙ ap (λ (ws : List ℕ). slice_index ws (permutation_version_address l call.node)) come.1 ∙ sym (made_at-here l words0 call.node sound.node) in
+      elim (x == load.version) as (λ b. (x == load.version) ≡ b → PartWent l call.view.generation words0 (acted l words (Load address)) (part.Ordering call seen count (record load { at = Version }))
+      (ordering_turned call seen count (cond b (Go (record load { at = Word 0 })) (Done None)))) [
+        | true ↦ λ same. (come_on address, sym read ∙ eqb-true x load.version same ∙ version ∙ come.2)
+        | false ↦ λ other. none_went (acted l words (Load address)) (come_on address) (λ made. eqb-false x load.version other (read ∙ made ∙ sym come.2 ∙ sym version))
+      ] refl
+  ordering_went load (Word number) x layout node version had told =
+      let address = permutation_address load.layout load.node number in
+      elim (number + 1 == 8) as (λ b. PartWent l call.view.generation words0 (acted l words (Load address)) (part.Ordering call seen count (record load { at = Word number }))
+      (ordering_turned call seen count (cond b (Done (Some (set load.words number x))) (Go (record load { words = set load.words number x; at = Word (number + 1) }))))) [
+        | true ↦ (come_on address, had)
+        | false ↦ (come_on address, had)
+      ]
+
+  -- it takes the lock, since nobody else does anything
+  locking_went : (locked x : ℕ) → ¬ IsMadeNow l words0 call → x ≡ got l words (Exchange (call_address call 0) seen.version locked)
+      → PartWent l call.view.generation words0 (acted l words (Exchange (call_address call 0) seen.version locked)) (part.Locking call seen count locked) (part_locked call seen count locked x)
+  locking_went locked x new told =
+      let same : x ≡ seen.version = told ∙ ap (λ (ws : List ℕ). slice_index ws (version_address l call.node)) come.1 ∙ sym (version_in-here l words0 call.node sound.node) ∙ sym come.2 in
+      subst (λ b. PartWent l call.view.generation words0 (acted l words (Exchange (call_address call 0) seen.version locked)) (part.Locking call seen count locked)
+      (cond b (Go (part_held call seen count locked)) (Done (once.Again (again.Moved call.node seen.version x))))) (sym (eq-eqb x seen.version same))
+      ((come.0, locked_unmoved l words0 words call.node seen.version locked sound.node come.1), new)
 
 part_went : (machine : Part) (words0 words : List ℕ) (x : ℕ) → IsPart machine
     → CanWalk (part_call machine).view.layout (part_call machine).view.generation words0
     → PartIsThere (part_call machine).view.layout words0 words machine → x ≡ got (part_call machine).view.layout words (part_asks machine)
     → PartWent (part_call machine).view.layout (part_call machine).view.generation words0 (acted (part_call machine).view.layout words (part_asks machine)) machine (part_turned machine x)
-part_went (part.Looking lookup count behind) words0 words x sound still stands told =
-    part_looked_went _ _ words0 _ lookup count behind (behind_of lookup.at behind) (lookup_turned lookup x) sound.1 (looks_come_there lookup words0 words x sound.0 still stands told)
-part_went (part.Reading reading) words0 words x sound still stands told = reading_went words0 words reading x sound stands reading.at told
+part_went (part.Looking lookup count) words0 words x sound still stands told =
+    part_looked_went _ _ words0 _ lookup count (lookup_turned lookup x) (walks_on lookup.call lookup.at x sound.1 sound.2) (looks_come_there lookup words0 words x sound.0 still stands told)
+part_went (part.Ordering call seen count load) words0 words x sound still stands told =
+    ordering_went call seen count words0 words sound.there.sound stands.0 load load.at x sound.layout sound.node sound.version stands.1 told
+part_went (part.Locking call seen count locked) words0 words x sound still stands told =
+    locking_went call seen count words0 words sound.0.sound stands.0 locked x stands.1 told
+part_went (part.Dating call seen count way) words0 words x sound still stands told =
+    way_loaded call.view.layout words0 words call seen.version (clock_address call.view.layout) way stands
+part_went (part.Reading reading) words0 words x sound still stands told = reading_went words0 words reading x sound stands reading.at sound.here told
 
 pub machine_went : (machine : Running) (words0 words : List ℕ) (x : ℕ) → IsRunning machine
     → CanWalk (running_call machine).view.layout (running_call machine).view.generation words0

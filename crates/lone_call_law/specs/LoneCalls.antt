@@ -7,7 +7,7 @@ use Rattle.pm_words.specs.declared.layout.Layout.{Layout}
 use Rattle.pm_words.specs.declared.again.Again.TheVariants as again
 use Rattle.pm_words.specs.declared.machine.Turn.{Turn}
 use Rattle.pm_words.specs.declared.machine.Turn.TheVariants.{Go, Done}
-use Rattle.pm_words.specs.Rows.{got}
+use Rattle.pm_words.specs.Rows.{got, acted}
 use Rattle.version_lock.specs.Versions.{IsWorn}
 use Rattle.cat_history.specs.Maps.{at}
 use Rattle.cat_history.specs.Records.{change_of}
@@ -35,13 +35,19 @@ use Rattle.node_ops.specs.declared.del.Del.TheVariants as del
 use Rattle.node_ops.specs.declared.single_del.SingleDel.TheVariants as single_del
 use Rattle.node_ops.specs.declared.part.Part.{Part}
 use Rattle.node_ops.specs.declared.part.Part.TheVariants as part
+use Rattle.node_ops.specs.declared.part.PartWords.{PartWords}
+use Rattle.node_ops.specs.declared.part.Way.{Way}
+use Rattle.node_ops.specs.declared.part.Way.TheVariants as ways
+use Rattle.permutation.specs.Loads.{load_read}
+use Rattle.permutation_law.specs.Permuted.{made_at}
 use Rattle.node_ops.specs.declared.running.Running.{Running}
 use Rattle.node_ops.specs.declared.running.Running.TheVariants.{Getting, Putting, Deleting, Parting}
 use Rattle.node_ops.specs.Asked.{IsOf, name_asked}
 use Rattle.node_ops.specs.LookupSteps.{starts, is_spent}
+use Rattle.node_ops.specs.PartSteps.{part_asks, part_turned}
 use Rattle.node_ops.specs.RunningSteps.{Sound, running_call, running_asks, running_turned}
 use Rattle.node_ops.specs.CallStages.{stage_of}
-use Rattle.index_law.specs.Facts.{map_now}
+use Rattle.index_law.specs.Facts.{map_now, version_in}
 use Rattle.index_law.specs.Worlds.{Party, World, facts, stepped, started, moved_on, written}
 use Rattle.index_law.specs.Laws.{IsAtRest}
 use Rattle.lone_call_law.specs.There.{CanWalk, WalksBy, IsAtNode, IsUnmoved, HasCome, LookupStands}
@@ -89,10 +95,30 @@ DelIsThere l words0 words (del.Single (single_del.Finishing finish line)) =
 DelIsThere l words0 words (del.Merging call hold old place merge) =
     IsAtNode l words0 call × HasLine l words0 call.view.caller
 
--- A part of a range scan stands where a get of its low name does.
+-- The permutation of the call's node was made at the node's version word, as it was before the call.
+abbrev pub IsMadeNow : Layout → List ℕ → Call → Type 0
+IsMadeNow l words0 call = made_at l words0 call.node ≡ version_in l words0 call.node
+
+-- It has come to its node: by a permutation that was made at the node's version word, as which nothing has changed; or,
+-- where there is none such, with the lock, as which the node's version word and permutation alone have changed; or with
+-- neither, since no lock can be taken.
+abbrev pub WayIsThere : Layout → List ℕ → List ℕ → Call → ℕ → Way → Type 0
+WayIsThere l words0 words call word (ways.Served order) =
+    HasCome None l words0 words call word × IsMadeNow l words0 call
+WayIsThere l words0 words call word (ways.Held order) =
+    (IsAtNode l words0 call × IsUnmoved l words0 words call.node) × ¬ IsMadeNow l words0 call
+WayIsThere l words0 words call word ways.Alone = HasCome None l words0 words call word × ¬ IsMadeNow l words0 call
+
+-- A part of a range scan comes to its node as a get of its low name does.
 abbrev pub PartIsThere : Layout → List ℕ → List ℕ → Part → Type 0
-PartIsThere l words0 words (part.Looking lookup count behind) = LookupStands l words0 words lookup.call lookup.at
-PartIsThere l words0 words (part.Reading reading) = HasCome None l words0 words reading.call reading.hold.locked
+PartIsThere l words0 words (part.Looking lookup count) = LookupStands l words0 words lookup.call lookup.at
+PartIsThere l words0 words (part.Ordering call seen count load) = HasCome None l words0 words call seen.version ×
+    IfSome (load_read load) (λ read. IsMadeNow l words0 call)
+PartIsThere l words0 words (part.Locking call seen count locked) = HasCome None l words0 words call seen.version ×
+    ¬ IsMadeNow l words0 call
+PartIsThere l words0 words (part.Dating call seen count way) = WayIsThere l words0 words call seen.version way
+PartIsThere l words0 words (part.Reading reading) =
+    WayIsThere l words0 words reading.call reading.hold.locked reading.way
 
 abbrev pub IsThere : Layout → List ℕ → List ℕ → Running → Type 0
 IsThere l words0 words (Getting machine) = GetIsThere l words0 words machine
@@ -277,4 +303,17 @@ LonePartsBegin = (w0 : World) (i : ℕ) (low : List ℕ) (count : ℕ) (p : Part
     IsAtRest w0 → CanWalk w0.layout w0.generation w0.words → get_elem? w0.parties i ≡ some p →
     IsView view → view.layout ≡ w0.layout → view.generation ≡ w0.generation → view.caller ≡ p.caller → IsName low →
     LoneCall w0 i (op.Get low) None (started w0 i p index) (begun_party w0 p index)
-    (Parting (part.Looking (starts (new_call view low None)) count None))
+    (Parting (part.Looking (starts (new_call view low None)) count))
+
+-- A lone part whose node has a permutation of its version word changes no word, and compares nothing.
+pub record GoesServed (w0 w : World) (machine : Part) : Type 0 where
+  pub still : w.words ≡ w0.words
+  pub ends : (x : ℕ) (answer : PartWords) → part_turned machine x ≡ Done (once.Done answer) →
+      (answer.compared ≡ 0) × (acted w.layout w.words (part_asks machine) ≡ w0.words)
+
+abbrev pub LonePartsAreServed : Type 0
+LonePartsAreServed = (w0 : World) (i : ℕ) (asked : NameOp) (limit : Option ℕ) (w : World) (p : Party)
+    (machine : Part) → LoneCall w0 i asked limit w p (Parting machine) →
+    made_at w0.layout w0.words (target_node w0 (name_asked asked)) ≡
+    (facts w0).version (target_node w0 (name_asked asked)) →
+    GoesServed w0 w machine

@@ -31,7 +31,8 @@ pub fn rooms()
     ensures first { FullIsFirst }
 {}
 
-ghost use Rattle.lone_call_law.specs.LoneCalls.{LoneCallsBegin, LoneCallsGo, LoneCallsLose, LonePartsBegin};
+ghost use Rattle.lone_call_law.specs.LoneCalls.{LoneCallsBegin, LoneCallsGo, LoneCallsLose, LonePartsAreServed};
+ghost use Rattle.lone_call_law.specs.LoneCalls.{LonePartsBegin};
 ghost use Rattle.lone_call_law.specs.Locks.{FewestLose, LocksGo, StagesLose, WornHasNone};
 
 /// Each turn of a lone call, whatever its op, and how it is answered. To this law a part of a range scan is a get of
@@ -41,6 +42,7 @@ pub fn lone_calls()
     ensures parts_begin { LonePartsBegin }
     ensures goes { LoneCallsGo }
     ensures loses { LoneCallsLose }
+    ensures serves { LonePartsAreServed }
 {}
 
 /// A try of a call that is made with no other in flight takes one lock of each node at most, wherever it is cut off.

@@ -1,20 +1,17 @@
 -- What a lone call leaves of the nodes, step by step.
-use Rattle.std.proofs.Common.{◌≡◌, ◌≢◌, ℕ, ◌<◌, ◌^◌, ◌⊎◌, inl, inr, ⊎_elim, Bool, true, false, cond, List, [], ◌∷◌, length, refl, sym, ap, ◌∙◌, subst, arith, slice_set, Option, Some, None, IfSome}
-use Rattle.std.specs.Prelude.{nat_lt}
-use Rattle.std.proofs.lemmas.Bool.{cases_eq, eq-eqb, ne_eqb, lt-ltb, ltb-true}
+use Rattle.std.proofs.Common.{◌≡◌, ◌≢◌, ℕ, ◌<◌, ◌^◌, ⊎_elim, Bool, true, false, cond, List, length, refl, sym, ap, ◌∙◌, subst, arith, slice_set, Option, Some, None, IfSome}
+use Rattle.std.proofs.lemmas.Bool.{cases_eq, eq-eqb, ne_eqb}
 use Rattle.std.proofs.lemmas.List.{set-get_or}
 use mathlib.Core.Option.{some}
 use lib.ListN.{get_elem?}
 use Rattle.pm_words.specs.Codes.{free_status, live_status, gone_status}
 use Rattle.pm_words.specs.declared.layout.Layout.{Layout}
 use Rattle.pm_words.specs.declared.action.Action.{Action}
-use Rattle.pm_words.specs.Locations.{Location, Line, Volatile, Cached, Durable, at, row_words, address_of}
+use Rattle.pm_words.specs.Locations.{Line, Cached, Durable, address_of}
 use Rattle.pm_words.specs.Rows.{acted, got}
-use Rattle.pm_words.proofs.Apart.{at-set_same}
 use Rattle.pm_words.proofs.Kept.{action_address-drain}
 use Rattle.cat_history.specs.declared.op.Change.{Change}
-use Rattle.data_node.specs.Spots.{Spot}
-use Rattle.data_node.specs.Lists.{ListNode, next_offset, IsMember, IsIn, IsChain, without_member}
+use Rattle.data_node.specs.Lists.{ListNode, next_offset, IsIn, IsChain, without_member}
 use Rattle.call_stages.specs.declared.once.Once.{Once}
 use Rattle.call_stages.specs.declared.once.Placed.{Placed}
 use Rattle.call_stages.specs.Stages.{Stage, Filling, Gathered, Gone, Idle, Saw, Wears, Reads, Holds, Eyes, Splits, Leaves, Meets, Joins, HoldsNode, counted}
@@ -28,7 +25,7 @@ use Rattle.call_stages.specs.Prevs.{Debt, IsJoin, IsRetire, Deals, keeps, forget
 use Rattle.index_law.specs.Facts.{Facts, IsListed}
 use Rattle.index_law.specs.Lawful.{Sure, SureJoins, SureSplits, IsList}
 use Rattle.index_law.specs.Laws.{IsLegal}
-use Rattle.index_law.specs.LoneShapes.{has_merged, IsOut}
+use Rattle.index_law.specs.LoneShapes.{has_merged}
 use Rattle.index_law.specs.Prevs.{prev_in, IsGone}
 use Rattle.index_law.specs.Whole.{Whole, IsWhole}
 use Rattle.index_law.specs.Worlds.{Party, World, facts, stepped, moved_on}

@@ -15,7 +15,7 @@ use Rattle.index_layer_law.proofs.LayerCover.{layer_is_covered}
 use Rattle.layer_map.specs.Layers.{Layer, IsFloorOf, IsBest}
 use Rattle.search_layer.specs.Kept.{layer_of, kept}
 use Rattle.search_layer.specs.Rows.{layer_words}
-use Rattle.search_layer.proofs.CountLemmas.{kept_leads_below}
+use Rattle.search_layer.proofs.RowLemmas.{kept_leads_below}
 use Rattle.search_layer.proofs.RowLemmas.{rows_alike}
 use Rattle.updater_law.specs.Covered.{IsCovered}
 use Rattle.updater_row_law.specs.Columns.{line_count, line_word}

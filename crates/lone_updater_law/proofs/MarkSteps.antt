@@ -12,7 +12,6 @@ use Rattle.pm_words.specs.Rows.{IsRow, acted, got}
 use Rattle.version_lock.specs.Versions.{is_worn_word}
 use Rattle.index_law.specs.Worlds.{World, facts}
 use Rattle.search_layer.specs.ChangeStages.{Changing, Changed, ChangeStep}
-use Rattle.search_layer.proofs.ChangeSteps.{change_step_keeps}
 use Rattle.updater_law.specs.Covers.{set_at}
 use Rattle.updater_law.specs.Facts.{TurnTerms, TurnFacts}
 use Rattle.updater_law.specs.Lawful.{TurnLawful}
@@ -22,7 +21,7 @@ use Rattle.updater_row_law.specs.Columns.{RowTerms, Ghosts, line_count, line_wor
 use Rattle.updater_row_law.specs.RowStages.{RowLine, aim_of, RowStage, Resting, Between, Lands, HasTarget, Changes, Stamps, Clears, Sweeps, Counts, after_line, after_node, turn_stage}
 use Rattle.updater_row_law.specs.RowSteps.{line_at, volatile_at, version_at, RowStep, takes_lock, finds_held, passes, sees, reads, has_read, walks, is_turned_back, finds, loses, decides, changes, has_changed, stamps, empties, passes_node, sees_gone, passes_stamp, sees_stamp, passes_worn, sees_unworn, unstamps, frees, counts, leaves_lock}
 use Rattle.updater_row_law.specs.RowLaw.{RowLawful}
-use Rattle.updater_row_law.proofs.RowChanges.{word_within}
+use Rattle.updater_row_law.proofs.RowChanges.{change_kept}
 use Rattle.updater_row_law.proofs.RowColumns.{column-here}
 use Rattle.updater_row_law.proofs.RowStores.{lock_stored, stamp_stored, status_stored, line_emptied, layer_facts}
 use Rattle.lone_updater_law.specs.LoneTurns.{line_state, stamp_in, stamp_then, frees_node}
@@ -247,7 +246,7 @@ module _ (before : World) (stamp release : ℕ) (l : Layout) (g : ℕ) (some : s
     change_leaves : (e : RowLine) (word : ℕ) (s t : Changing) (a : Action) → RowLawful r ghosts words (Changes e word s) → ChangeStep l (aim_of e word) s a (got l words a) t
         → HasEmptied before stamp m e.line → HasEmptied before stamp (row_marks l (acted l words a)) e.line
     change_leaves e word s t a is step done =
-        let keeps = change_step_keeps l (aim_of e word) is.sure.before words s a t row.whole is.order (word_within r ghosts words e word is.law.sure) (λ some_word. is.sure.few) is.sure.sure is.sure.layer step in
+        let keeps = change_kept r words e word s t a row is.sure step in
         stores (λ k. HasEmptied before stamp k e.line) (acted l words a) _ (layer_facts r ghosts words (acted l words a) keeps.others) done
 
     -- of a GONE node that it has come to
@@ -265,7 +264,7 @@ module _ (before : World) (stamp release : ℕ) (l : Layout) (g : ℕ) (some : s
         line_done (facts_in r later (acted l words (Load (line_at l j 0)))) j within later_is.0 later_is.1
         (loads (λ k. HasEmptied before stamp k (suc j)) (line_at l j 0) (passed before stamp m j (states j) (λ two. unready (sym (state_told j x within told) ∙ two)) done))
     done_after (sees {j = j} seen within ready size) busy handles told is later_is done = loads (λ k. HasEmptied before stamp k j) (line_at l j 0) done
-    done_after (reads {j = j} {offset = offset} within positive small) busy handles told is later_is done = loads (λ k. HasEmptied before stamp k j) (line_at l j offset) done
+    done_after (reads {j = j} {offset = offset} within positive small named) busy handles told is later_is done = loads (λ k. HasEmptied before stamp k j) (line_at l j offset) done
     done_after (has_read {j = j} within) busy handles told is later_is done = loads (λ k. HasEmptied before stamp k j) (line_at l j 6) done
     done_after (walks {e = e} {address = address} within) busy handles told is later_is done = loads (λ k. HasEmptied before stamp k e.line) address done
     done_after (is_turned_back {e = e} within) busy handles told is later_is done = absurd (past_no_line (nat_lt (e.line + 1) (line_count l)) e.line handles)

@@ -27,12 +27,13 @@ use Rattle.index_law.proofs.Rows.{version_in-here, status_in-here, spot_in-here}
 use Rattle.pm_alloc.specs.declared.gone.ReleaseAt.{ReleaseAt}
 use Rattle.pm_alloc.specs.declared.gone.ReleaseAt.TheVariants as release_at
 use Rattle.pm_alloc.specs.Gone.{release_at_asks}
-use Rattle.search_layer.specs.FloorSteps.{floor_asks}
-use Rattle.search_layer.specs.ChangeSteps.{change_asks}
-use Rattle.search_layer.specs.Laws.{LoadsLayer, IsOnLayer}
+use Rattle.tree_floor.specs.Floors.{floor_asks}
+use Rattle.tree_update.specs.Changes.{change_asks}
+use Rattle.search_layer.specs.Floors.{LoadsLayer}
+use Rattle.search_layer.specs.Laws.{IsOnLayer}
 use Rattle.search_layer.specs.Laws as on
-use Rattle.search_layer.proofs.FloorTold.{floor_only_loads}
-use Rattle.search_layer.proofs.ChangeActions.{changes_stay_on_layer}
+use Rattle.search_layer.proofs.FloorLemmas.{only_loads as floor_only_loads}
+use Rattle.search_layer.proofs.OnLayer.{changes_stay_on_layer}
 use Rattle.smo_log.specs.declared.read.ReadLine.{ReadLine}
 use Rattle.smo_log.specs.LogLines.{numbered_address, caller_of, index_of}
 use Rattle.updater_row_law.specs.Columns.{line_count, line_word, line_field}

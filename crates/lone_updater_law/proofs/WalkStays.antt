@@ -20,11 +20,12 @@ use Rattle.pm_alloc.specs.declared.gone.Release.{Release}
 use Rattle.pm_alloc.specs.declared.gone.ReleaseAt.{ReleaseAt}
 use Rattle.pm_alloc.specs.declared.gone.ReleaseAt.TheVariants as release_at
 use Rattle.pm_alloc.specs.Gone.{release_from, release_at_turned}
-use Rattle.search_layer.specs.declared.floor.Floor.{Floor}
-use Rattle.search_layer.specs.declared.set.Set.{Set}
-use Rattle.search_layer.specs.declared.set.Unset.{Unset}
-use Rattle.search_layer.specs.FloorSteps.{floor_turned}
-use Rattle.search_layer.specs.SetSteps.{set_starts, set_turned, unset_starts, unset_turned}
+use Rattle.tree_floor.specs.declared.floor.Floor.{Floor}
+use Rattle.tree_update.specs.declared.set.Set.{Set}
+use Rattle.tree_update.specs.declared.set.Unset.{Unset}
+use Rattle.tree_update.specs.declared.change.Ended.{Ended}
+use Rattle.tree_floor.specs.Floors.{floor_turned}
+use Rattle.tree_update.specs.Sets.{set_starts, set_turned, unset_starts, unset_turned}
 use Rattle.smo_log.specs.declared.line.Entry.{Entry}
 use Rattle.smo_log.specs.declared.read.LineSeen.{LineSeen}
 use Rattle.smo_log.specs.declared.read.ReadLine.{ReadLine}
@@ -122,11 +123,11 @@ module _ (work : Work) (after : List ℕ) where
       subst (λ b. GoesAfter s (Go (cond b (on work (changes t line entry found)) (leaves work line)))) (sym (eq-eqb x found.version same))
       (one_of s _ (at.Setting line entry (set_starts l entry.anchor found.node)) (at.Unsetting line entry (unset_starts l entry.anchor)) (tt, tt) (tt, tt))
 
-  at_setting : (s : RowStage) (line : ℕ) (entry : Entry) (turn : Turn Set (Unit {0})) → ((u : RowStage) → Handles s u) → GoesAfter s (Go (has_set work line entry turn))
+  at_setting : (s : RowStage) (line : ℕ) (entry : Entry) (turn : Turn Set Ended) → ((u : RowStage) → Handles s u) → GoesAfter s (Go (has_set work line entry turn))
   at_setting s line entry (Go set) free = (tt, free _)
   at_setting s line entry (Done answer) free = past_change s line entry free
 
-  at_unsetting : (s : RowStage) (line : ℕ) (entry : Entry) (turn : Turn Unset (Unit {0})) → ((u : RowStage) → Handles s u) → GoesAfter s (Go (has_unset work line entry turn))
+  at_unsetting : (s : RowStage) (line : ℕ) (entry : Entry) (turn : Turn Unset Ended) → ((u : RowStage) → Handles s u) → GoesAfter s (Go (has_unset work line entry turn))
   at_unsetting s line entry (Go unset) free = (tt, free _)
   at_unsetting s line entry (Done answer) free = past_change s line entry free
 

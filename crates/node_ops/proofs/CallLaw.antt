@@ -1,5 +1,5 @@
 -- Each turn of a call is a step of a kind.
-use Rattle.std.proofs.Common.{◌≡◌, ℕ, ◌/◌, ◌<◌, ◌≤◌, ◌^◌, false, [], ◌∷◌, Option, Some, None, inl, inr, length, get_or, refl, sym, subst, ap, ◌∙◌, arith}
+use Rattle.std.proofs.Common.{◌≡◌, ℕ, ◌/◌, ◌<◌, ◌≤◌, ◌^◌, false, [], ◌∷◌, Option, Some, None, inl, inr, length, get_or, refl, sym, subst, ap, ◌∙◌, arith, ◌⊎◌, ⊎_elim, true, Bool}
 use Rattle.cat_history.specs.declared.op.Change.TheVariants as change
 use Rattle.pm_words.specs.declared.layout.Layout.{Layout}
 use Rattle.pm_words.specs.declared.action.Action.{Action}
@@ -12,11 +12,18 @@ use Rattle.data_node.proofs.BitLemmas.{lowest_clear-some}
 use Rattle.data_node.proofs.StoreLemmas.{means_valued}
 use Rattle.call_stages.specs.declared.once.Once.{Once}
 use Rattle.call_stages.specs.declared.once.Placed.{Placed}
-use Rattle.call_stages.specs.Stages.{Held, Knows, Stage, Idle}
+use Rattle.call_stages.specs.Stages.{Held, Knows, Sight, Stage, Idle, counted}
+use Rattle.call_stages.specs.Prevs.{no_debt}
 use Rattle.call_stages.specs.declared.once.Once.TheVariants as once
 use Rattle.call_stages.specs.declared.view.View.{View}
 use Rattle.call_stages.specs.AnySteps.{AnyStep}
+use Rattle.call_stages.specs.Footings.{Footing, FootStep}
+use Rattle.permutation.specs.Sortings.{Sorts}
 use Rattle.permutation.specs.Sparing.{SparingStep}
+use Rattle.permutation.proofs.Stores.{sorts_are_steps}
+use Rattle.node_ops.specs.Permuting.{part_sorting, sorting_after}
+use Rattle.node_ops.specs.declared.part.Way.{Way}
+use Rattle.node_ops.specs.declared.part.Way.TheVariants as ways
 use Rattle.pm_words.specs.declared.again.Again.TheVariants as again
 use Rattle.index_law.proofs.Footings.{foot_any}
 use Rattle.split_merge.specs.declared.splitting.Split.{Split}
@@ -71,11 +78,11 @@ use Rattle.node_ops.proofs.PlainSteps.{hit_words_known, part_hit, Plain, IsSingl
 use Rattle.node_ops.specs.declared.part.Part.{Part}
 use Rattle.node_ops.specs.declared.part.Part.TheVariants as part
 use Rattle.node_ops.specs.declared.part.PartWords.{PartWords}
-use Rattle.node_ops.specs.PartSteps.{part_turned}
-use Rattle.node_ops.proofs.PartLaw.{part_steps}
+use Rattle.node_ops.specs.PartSteps.{part_asks, part_call, part_turned}
+use Rattle.node_ops.proofs.PartLaw.{Parts, StoresNone, StoresOne, part_steps}
 use Rattle.node_ops.proofs.DelLaw.{dels_are_steps, merge_leads}
 use Rattle.data_list.specs.WalkStages.{live_sight}
-use Rattle.node_ops.specs.CallStages.{behind_sight}
+use Rattle.node_ops.specs.CallStages.{stage_by}
 
 -- the kind of step of a turn of a get
 abbrev Gets : Call → Stage → Action → ℕ → Turn Get (Once Placed) → Type 0
@@ -301,42 +308,93 @@ put_steps : (put : Put) (x : ℕ) → IsWhole put → IsPut put → Told (put_ca
 put_steps put x whole sound told =
     plain _ _ _ None (put_stage put) _ x (running_turned (Putting put) x) (put_single put whole) (puts_plain put x whole) (as_put (put_call put) _ _ x (put_turned put x) (put_leads put x whole sound told))
 
-part_single : (p : Part) → IsSingle (part_stage p)
-part_single (part.Looking lookup count behind) = looks_single (behind_sight behind) lookup.call lookup.at
-part_single (part.Reading reading) = tt
+single_by : (way : Way) (n w : ℕ) (kept : Sight) (h : Held) → IsSingle (stage_by way n w kept h)
+single_by (ways.Served words) n w kept h = tt
+single_by (ways.Held words) n w kept h = tt
+single_by ways.Alone n w kept h = tt
+
+pub part_single : (p : Part) → IsSingle (part_stage p)
+part_single (part.Looking lookup count) = looks_single (live_sight []) lookup.call lookup.at
+part_single (part.Ordering call seen count load) = tt
+part_single (part.Locking call seen count locked) = tt
+part_single (part.Dating call seen count way) = tt
+part_single (part.Reading reading) = single_by reading.way _ _ _ _
 
 parts_plain : (turn : Turn Part (Once PartWords)) → IsPlainAfter None (wrapped_part turn)
 parts_plain (Go p) = refl
 parts_plain (Done answer) = refl
 
-own_steps : (running : Running) (x : ℕ) → IsRunning running → Told (running_call running).view.layout (running_call running).view.generation (running_asks running) x
-    → LeadsWithin (running_call running).view.layout (stage_of running) (running_asks running) x
-    → SparingStep (running_call running).view.layout (running_call running).view.generation (running_call running).view.caller (footing_of running) (running_asks running) x
-    (footing_after (running_turned running x)) (reply_of (running_turned running x))
-own_steps (Getting get) x sound told leads =
-    plain _ _ _ None (get_stage get) _ x (running_turned (Getting get) x) (get_single get) (gets_plain (get_turned get x)) (as_get (get_call get) _ _ x (get_turned get x) (get_leads get x sound told))
-own_steps (Putting (put.Splitting call hold bitmap value split)) x sound told leads = splitting_leads call hold bitmap value split sound x told leads
-own_steps (Putting (put.Single (single_put.Looking lookup value))) x sound told leads = put_steps (put.Single (single_put.Looking lookup value)) x tt sound told
-own_steps (Putting (put.Single (single_put.Filling fill))) x sound told leads = put_steps (put.Single (single_put.Filling fill)) x tt sound told
-own_steps (Putting (put.Single (single_put.Replacing call hold bitmap hit value))) x sound told leads = put_steps (put.Single (single_put.Replacing call hold bitmap hit value)) x tt sound told
-own_steps (Putting (put.Single (single_put.Finishing finish))) x sound told leads = put_steps (put.Single (single_put.Finishing finish)) x tt sound told
-own_steps (Deleting del) x sound told leads = dels_are_steps del x sound told leads
-own_steps (Parting p) x sound told leads =
-    plain _ _ _ None (part_stage p) _ x (running_turned (Parting p) x) (part_single p) (parts_plain (part_turned p x)) (part_steps p x sound told)
+-- its action stores no word of a permutation
+abbrev pub SparesNow : Running → Type 0
+SparesNow (Parting p) = StoresNone p
+SparesNow _ = Unit {0}
 
--- each turn of a call stores no permutation
-pub turns_spare : (l : Layout) (g : ℕ) (running : Running) (x : ℕ) → Sound l g running → Told l g (running_asks running) x → LeadsWithin l (stage_of running) (running_asks running) x
-    → SparingStep l g (running_call running).view.caller (footing_of running) (running_asks running) x (footing_after (running_turned running x)) (reply_of (running_turned running x))
-turns_spare l g running x sound told leads =
+-- a turn of a call that stores none
+abbrev Spares : Running → ℕ → Type 0
+Spares running x = SparingStep (running_call running).view.layout (running_call running).view.generation (running_call running).view.caller (footing_of running) (running_asks running) x
+    (footing_after (running_turned running x)) (reply_of (running_turned running x))
+
+-- or of a part that stores one
+abbrev pub StoresPermutation : Running → ℕ → Type 0
+StoresPermutation (Parting p) x = StoresOne p x
+StoresPermutation _ x = ⊥
+
+own_goes : (running : Running) (x : ℕ) → IsRunning running → Told (running_call running).view.layout (running_call running).view.generation (running_asks running) x
+    → LeadsWithin (running_call running).view.layout (stage_of running) (running_asks running) x
+    → (Spares running x × SparesNow running) ⊎ StoresPermutation running x
+own_goes (Getting get) x sound told leads =
+    inl (plain _ _ _ None (get_stage get) _ x (running_turned (Getting get) x) (get_single get) (gets_plain (get_turned get x)) (as_get (get_call get) _ _ x (get_turned get x) (get_leads get x sound told)), tt)
+own_goes (Putting (put.Splitting call hold bitmap value split)) x sound told leads = inl (splitting_leads call hold bitmap value split sound x told leads, tt)
+own_goes (Putting (put.Single (single_put.Looking lookup value))) x sound told leads = inl (put_steps (put.Single (single_put.Looking lookup value)) x tt sound told, tt)
+own_goes (Putting (put.Single (single_put.Filling fill))) x sound told leads = inl (put_steps (put.Single (single_put.Filling fill)) x tt sound told, tt)
+own_goes (Putting (put.Single (single_put.Replacing call hold bitmap hit value))) x sound told leads = inl (put_steps (put.Single (single_put.Replacing call hold bitmap hit value)) x tt sound told, tt)
+own_goes (Putting (put.Single (single_put.Finishing finish))) x sound told leads = inl (put_steps (put.Single (single_put.Finishing finish)) x tt sound told, tt)
+own_goes (Deleting del) x sound told leads = inl (dels_are_steps del x sound told leads, tt)
+own_goes (Parting p) x sound told leads = ⊎_elim
+    (λ (goes : Parts (part_call p) (part_stage p) (part_asks p) x (part_turned p x) × StoresNone p).
+    inl (plain _ _ _ None (part_stage p) _ x (running_turned (Parting p) x) (part_single p) (parts_plain (part_turned p x)) goes.0, goes.1))
+    (λ (one : StoresOne p x). inr one)
+    (part_steps p x sound told)
+
+-- on the index of this layout, in this generation
+abbrev pub SparesIn : Layout → ℕ → Running → ℕ → Type 0
+SparesIn l g running x = SparingStep l g (running_call running).view.caller (footing_of running) (running_asks running) x (footing_after (running_turned running x)) (reply_of (running_turned running x))
+
+pub turns_go : (l : Layout) (g : ℕ) (running : Running) (x : ℕ) → Sound l g running → Told l g (running_asks running) x → LeadsWithin l (stage_of running) (running_asks running) x
+    → (SparesIn l g running x × SparesNow running) ⊎ StoresPermutation running x
+turns_go l g running x sound told leads =
     let at_layout = subst (λ (n : ℕ). Told l n (running_asks running) x) (sym sound.generation) told in
-    let own = own_steps running x sound.here (subst (λ (k : Layout). Told k (running_call running).view.generation (running_asks running) x) (sym sound.layout) at_layout)
-    (subst (λ (k : Layout). LeadsWithin k (stage_of running) (running_asks running) x) (sym sound.layout) leads) in
-    subst (λ (n : ℕ). SparingStep l n (running_call running).view.caller (footing_of running) (running_asks running) x (footing_after (running_turned running x)) (reply_of (running_turned running x))) sound.generation
-    (subst (λ (k : Layout). SparingStep k (running_call running).view.generation (running_call running).view.caller (footing_of running) (running_asks running) x (footing_after (running_turned running x)) (reply_of (running_turned running x)))
-    sound.layout own)
+    ⊎_elim
+    (λ (own : Spares running x × SparesNow running). inl (subst (λ (q : Layout × ℕ). SparesIn q.0 q.1 running x) (λ i. (sound.layout i, sound.generation i)) own.0, own.1))
+    (λ (one : StoresPermutation running x). inr one)
+    (own_goes running x sound.here (subst (λ (k : Layout). Told k (running_call running).view.generation (running_asks running) x) (sym sound.layout) at_layout)
+    (subst (λ (k : Layout). LeadsWithin k (stage_of running) (running_asks running) x) (sym sound.layout) leads))
+
+-- a store of a permutation is a step too, which leaves all that its party has
+pub stores_uncounted : (p : Part) (x : ℕ) → StoresOne p x → counted (part_stage p) ≡ None
+stores_uncounted p x one = ap counted one.holds ∙ ap (λ (b : Bool). elim b [ true ↦ one.held.pending | false ↦ None ]) one.unready
+
+one_foots : (l : Layout) (g : ℕ) (p : Part) (x : ℕ) → (part_call p).view.layout ≡ l → StoresOne p x
+    → FootStep l g (part_call p).view.caller (footing_of (Parting p)) (part_asks p) x (footing_after (running_turned (Parting p) x)) (reply_of (running_turned (Parting p) x))
+one_foots l g p x layout one =
+    let after : footing_after (running_turned (Parting p) x) ≡ record { stage = part_stage p; line = None; debt = no_debt } =
+    parts_plain (part_turned p x) ∙ ap (λ (s : Stage). record { stage = s; line = None; debt = no_debt }) one.stage in
+    subst (λ (q : Footing × Option (Once Placed)). FootStep l g (part_call p).view.caller (footing_of (Parting p)) (part_asks p) x q.0 q.1) (λ i. (sym after i, sym one.none i))
+    (sorts_are_steps l g (part_call p).view.caller (part_stage p) None no_debt (part_sorting p) _ (part_asks p) x
+    (subst (λ (k : Layout). Sorts k (part_stage p) (part_sorting p) (part_asks p) (sorting_after (wrapped_part (part_turned p x)))) layout one.sorts) (stores_uncounted p x one))
+
+stored_foots : (l : Layout) (g : ℕ) (running : Running) (x : ℕ) → (running_call running).view.layout ≡ l → StoresPermutation running x
+    → FootStep l g (running_call running).view.caller (footing_of running) (running_asks running) x (footing_after (running_turned running x)) (reply_of (running_turned running x))
+stored_foots l g (Getting get) x layout one = absurd one
+stored_foots l g (Putting put) x layout one = absurd one
+stored_foots l g (Deleting del) x layout one = absurd one
+stored_foots l g (Parting p) x layout one = one_foots l g p x layout one
 
 pub turns_are_foot_steps : TurnsAreFootSteps
-turns_are_foot_steps l g running x sound told leads = foot_of l g (running_call running).view.caller _ _ _ x _ (turns_spare l g running x sound told leads)
+turns_are_foot_steps l g running x sound told leads = ⊎_elim
+    (λ (goes : SparesIn l g running x × SparesNow running). foot_of l g (running_call running).view.caller _ _ _ x _ goes.0)
+    (λ (one : StoresPermutation running x). stored_foots l g running x sound.layout one)
+    (turns_go l g running x sound told leads)
 
 -- the stage of what a call has
 pub footing_stage : (running : Running) → (footing_of running).stage ≡ stage_of running

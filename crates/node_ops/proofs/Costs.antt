@@ -1,5 +1,5 @@
 -- What is left of a call becomes less with each turn, together with what it spares.
-use Rattle.std.proofs.Common.{◌≡◌, ℕ, ◌+◌, ◌-◌, ◌*◌, ◌/◌, ◌<◌, ◌==◌, true, false, cond, ltb, Option, Some, None, Bool, refl, sym, subst, ap, arith}
+use Rattle.std.proofs.Common.{◌≡◌, ℕ, ◌+◌, ◌-◌, ◌*◌, ◌/◌, ◌<◌, ◌==◌, true, false, cond, ltb, Option, Some, None, Bool, refl, sym, subst, ap, arith, ◌≤◌, List}
 use Rattle.pm_words.specs.declared.layout.Layout.{Layout}
 use Rattle.pm_words.specs.declared.again.Again.{Again}
 use Rattle.pm_words.specs.declared.again.Again.TheVariants as again
@@ -17,10 +17,9 @@ use Rattle.data_list.specs.declared.target.Walked.{Walked}
 use Rattle.data_list.specs.declared.target.Walked.TheVariants as walked
 use Rattle.data_list.specs.declared.walk.Walk.{Walk}
 use Rattle.data_list.specs.Hops.{CanGiveUp, HopsAt}
-use Rattle.data_list.specs.declared.target.Next.{Next}
 use Rattle.data_list.specs.Walks.{sighting_of, walk_turned, walk_left}
-use Rattle.search_layer.specs.declared.floor.Floor.{Floor}
-use Rattle.search_layer.specs.FloorSteps.{floor_turned}
+use Rattle.tree_floor.specs.declared.floor.Floor.{Floor}
+use Rattle.tree_floor.specs.Floors.{floor_turned}
 use Rattle.node_ops.specs.declared.call.Call.{Call}
 use Rattle.node_ops.specs.declared.lookup.Hold.{Hold}
 use Rattle.node_ops.specs.declared.lookup.Directory.{Directory}
@@ -68,7 +67,15 @@ use Rattle.node_ops.specs.FillSteps.{fill_turned, fill_left}
 use Rattle.node_ops.specs.FinishSteps.{finish_turned, finish_left}
 use Rattle.node_ops.specs.PutSteps.{IsPut, put_left, put_looked, put_into, put_full, put_filled, put_finished, put_split}
 use Rattle.node_ops.specs.DelSteps.{IsDel, del_left, names_left, del_looked, del_hit, del_taken, del_finished, del_merged, goes_on, merges_at}
-use Rattle.node_ops.specs.PartSteps.{IsPart, part_left, behind_of, part_looked, reading_turned}
+use Rattle.permutation.specs.declared.load.LoadPermutation.{LoadPermutation}
+use Rattle.permutation.specs.declared.store.StorePermutation.{StorePermutation}
+use Rattle.permutation.specs.Loads.{load_turned}
+use Rattle.permutation.specs.Stores.{store_turned}
+use Rattle.node_ops.specs.declared.part.Reading.{Reading}
+use Rattle.node_ops.specs.declared.part.Way.TheVariants as ways
+use Rattle.node_ops.specs.PartSteps.{IsPart, part_left, part_walked, part_ordered, part_held, part_looked, ordering_turned, seen_at, store_on, after_bitmap, after_word, with_word, reading_turned}
+use Rattle.node_ops.proofs.PartSound.{goes_call}
+use Rattle.node_ops.proofs.PartWalks.{IsOnWay, WalksOn, walks_on, walks_left}
 use Rattle.node_ops.specs.RunningSteps.{running_turned, running_left, wrapped, wrapped_part}
 use Rattle.node_ops.proofs.Landings.{CallAfter, CallStays, fill_keeps, finish_keeps}
 use Rattle.node_ops.specs.Costs.{hops_spared, lookup_landed, spared, EndsInWalk, IsGivenUp, PutsSpareSplits, TurnsSpare, WalksEndSo}
@@ -326,23 +333,74 @@ del_spares (del.Merging call hold old place merge) x sound fewer = at (merge_tur
     at (Done merged) fewer = tt
 
 part_spares : (p : Part) (x : ℕ) → IsPart p → GoesBelow {A = Once Placed} running_left (part_left p) (running_turned (Parting p) x) → Spares (part_left p + spared (Parting p)) (running_turned (Parting p) x)
-part_spares (part.Looking lookup count behind) x sound fewer = at (lookup_turned lookup x) (looks_spare lookup x sound.0.here) (keeps_view lookup.call lookup.at x) fewer
+part_spares (part.Looking lookup count) x sound fewer = at (lookup_turned lookup x) (walks_on lookup.call lookup.at x sound.1 sound.2) (looks_spare lookup x sound.0.here) (keeps_view lookup.call lookup.at x) fewer
   where
-    at : (turn : Turn Lookup Looked) → (GoesBelow {A = Looked} lookup_left (lookup_left lookup) turn → LookSpares (lookup_left lookup) (look_spared lookup) (hops_spared lookup.call) turn)
+    few : 4 ≤ lookup.call.view.layout.slots
+    few = sound.0.call.view.layout.slots.0
+
+    goes : (next : Call) (at : LookupAt) → IsOnWay at → (lookup_at_left next.view.layout.slots at < lookup_left lookup → lookup_at_left next.view.layout.slots at + cond (lookup_landed at) (hops_spared next) 0 < lookup_left lookup + look_spared lookup)
+        → next.view.layout.slots ≡ lookup.call.view.layout.slots
+        → GoesBelow {A = Once Placed} running_left (part_left (part.Looking lookup count)) (wrapped_part (Go (part_walked (record { call = next; at = at }) count (seen_at at))))
+        → Spares (part_left (part.Looking lookup count) + (look_spared lookup + 0)) (wrapped_part (Go (part_walked (record { call = next; at = at }) count (seen_at at))))
+    goes next (look.Floor floor) way spares slots fewer = let less : lookup_at_left next.view.layout.slots (look.Floor floor) < lookup_left lookup = omega (arith, fewer, slots) in omega (arith, spares less, slots)
+    goes next (look.Walk walk) way spares slots fewer = let less : lookup_at_left next.view.layout.slots (look.Walk walk) < lookup_left lookup = omega (arith, fewer, slots) in omega (arith, spares less, slots)
+    goes next (look.Read seen) way spares slots fewer = let less : 3 * next.view.layout.slots + 11 < lookup_left lookup = omega (arith, walks_left lookup.call lookup.at sound.2, slots) in omega (arith, spares less, slots, few)
+    goes next (look.Lock seen locked) way spares slots fewer = absurd way
+    goes next (look.Clock locked) way spares slots fewer = absurd way
+    goes next (look.Spent hold) way spares slots fewer = absurd way
+    goes next (look.Bitmap hold) way spares slots fewer = absurd way
+    goes next (look.Prints hold bitmap prints k) way spares slots fewer = absurd way
+    goes next (look.Name hold directory left slot k) way spares slots fewer = absurd way
+    goes next (look.Value hold directory slot) way spares slots fewer = absurd way
+
+    at : (turn : Turn Lookup Looked) → WalksOn turn → (GoesBelow {A = Looked} lookup_left (lookup_left lookup) turn → LookSpares (lookup_left lookup) (look_spared lookup) (hops_spared lookup.call) turn)
         → KeepsView lookup.call turn
-        → GoesBelow {A = Once Placed} running_left (part_left (part.Looking lookup count behind)) (wrapped_part (part_looked lookup.call count (behind_of lookup.at behind) turn))
-        → Spares (part_left (part.Looking lookup count behind) + (look_spared lookup + 0)) (wrapped_part (part_looked lookup.call count (behind_of lookup.at behind) turn))
-    at (Go next) spares same fewer =
-        let slots : next.call.view.layout.slots ≡ lookup.call.view.layout.slots = ap (λ (v : View). v.layout.slots) same in
-        let less : lookup_left next < lookup_left lookup = omega (arith, fewer, slots) in omega (arith, spares less, slots)
-    at (Done (looked.Early answer)) spares same fewer = tt
-    at (Done (looked.Found found)) spares same fewer = omega (arith, fewer, spares tt)
+        → GoesBelow {A = Once Placed} running_left (part_left (part.Looking lookup count)) (wrapped_part (part_looked count turn))
+        → Spares (part_left (part.Looking lookup count) + (look_spared lookup + 0)) (wrapped_part (part_looked count turn))
+    at (Go next) way spares same fewer = goes next.call next.at way spares (ap (λ (v : View). v.layout.slots) same) fewer
+    at (Done (looked.Early answer)) way spares same fewer = tt
+    at (Done (looked.Found found)) way spares same fewer = absurd way
+part_spares (part.Ordering call seen count load) x sound fewer = at (load_turned load x) fewer
+  where
+    ordered : (order : Option (List ℕ)) → GoesBelow {A = Once Placed} running_left (part_left (part.Ordering call seen count load)) (wrapped_part (Go (part_ordered call seen count order)))
+        → Spares (part_left (part.Ordering call seen count load) + (hops_spared call + 0)) (wrapped_part (Go (part_ordered call seen count order)))
+    ordered (Some words) fewer = omega (arith, fewer)
+    ordered None fewer = elim (is_worn_word seen.version call.view.generation) as (λ b.
+        GoesBelow {A = Once Placed} running_left (part_left (part.Ordering call seen count load)) (wrapped_part (Go (cond b (part.Dating call seen count ways.Alone) (part.Locking call seen count (locked_word call.view.generation (kept_count seen.version call.view.generation))))))
+        → Spares (part_left (part.Ordering call seen count load) + (hops_spared call + 0)) (wrapped_part (Go (cond b (part.Dating call seen count ways.Alone) (part.Locking call seen count (locked_word call.view.generation (kept_count seen.version call.view.generation))))))) [
+          | true ↦ λ less. omega (arith, less)
+          | false ↦ λ less. omega (arith, less)
+        ] fewer
+
+    at : (turn : Turn LoadPermutation (Option (List ℕ))) → GoesBelow {A = Once Placed} running_left (part_left (part.Ordering call seen count load)) (wrapped_part (ordering_turned call seen count turn))
+        → Spares (part_left (part.Ordering call seen count load) + (hops_spared call + 0)) (wrapped_part (ordering_turned call seen count turn))
+    at (Go next) fewer = omega (arith, fewer)
+    at (Done order) fewer = ordered order fewer
+part_spares (part.Locking call seen count locked) x sound fewer = elim (x == seen.version) as (λ b.
+    GoesBelow {A = Once Placed} running_left (part_left (part.Locking call seen count locked)) (wrapped_part (cond b (Go (part_held call seen count locked)) (Done (once.Again (again.Moved call.node seen.version x)))))
+    → Spares (part_left (part.Locking call seen count locked) + (hops_spared call + 0)) (wrapped_part (cond b (Go (part_held call seen count locked)) (Done (once.Again (again.Moved call.node seen.version x)))))) [
+      | true ↦ λ less. omega (arith, less)
+      | false ↦ λ less. tt
+    ] fewer
+part_spares (part.Dating call seen count way) x sound fewer = omega (arith, fewer)
 part_spares (part.Reading reading) x sound fewer = at reading.at fewer
   where
+    -- the call is the same
+    same : (next : Reading) → next.call ≡ reading.call → part_left (part.Reading next) < part_left (part.Reading reading) → part_left (part.Reading next) + (hops_spared next.call + 0) < part_left (part.Reading reading) + (hops_spared reading.call + 0)
+    same next is less = let hops : hops_spared next.call ≡ hops_spared reading.call = ap hops_spared is in omega (arith, less, hops)
+
+    stored : (turn : Turn StorePermutation (Unit {0})) → (store_on reading turn).call ≡ reading.call
+    stored (Go store) = refl
+    stored (Done nothing) = refl
+
     at : (at : ReadingAt) → GoesBelow {A = Once Placed} running_left (part_left (part.Reading reading)) (wrapped_part (reading_turned reading at x))
         → Spares (part_left (part.Reading reading) + (hops_spared reading.call + 0)) (wrapped_part (reading_turned reading at x))
-    at (read.Load slot word) fewer = omega (arith, fewer)
+    at read.Clock fewer = omega (arith, fewer)
+    at read.Bitmap fewer = same (after_bitmap reading x) (goes_call (record reading { bitmap = x }) _) fewer
+    at (read.Load slot word) fewer = same (after_word reading slot word x) (goes_call (record reading { entries = with_word reading.entries slot word x }) _) fewer
     at read.Check fewer = tt
+    at (read.Store store) fewer = same (store_on reading (store_turned store x)) (stored (store_turned store x)) fewer
+    at read.Unlock fewer = tt
 
 pub turns_spare : TurnsSpare
 turns_spare (Getting get) next x sound goes fewer =
@@ -440,13 +498,13 @@ del_walks lookup (Go next) is = tt
 del_walks lookup (Done (looked.Early answer)) is = in_walk answer is
 del_walks lookup (Done (looked.Found found)) is = absurd (cc)
 
-part_walks : (lookup : Lookup) (count : ℕ) (behind : Option Next) (turn : Turn Lookup Looked) → LookEnds false turn → WalkAnswers (wrapped_part (part_looked lookup.call count behind turn))
-part_walks lookup count behind (Go next) is = tt
-part_walks lookup count behind (Done (looked.Early (once.Done placed))) is = absurd is
-part_walks lookup count behind (Done (looked.Early (once.Spent clock))) is = absurd (cc)
-part_walks lookup count behind (Done (looked.Early (once.Worn node word))) is = tt
-part_walks lookup count behind (Done (looked.Early (once.Again why))) is = is refl
-part_walks lookup count behind (Done (looked.Found found)) is = absurd (cc)
+part_walks : (count : ℕ) (turn : Turn Lookup Looked) → WalksOn turn → LookEnds false turn → WalkAnswers (wrapped_part (part_looked count turn))
+part_walks count (Go next) way is = tt
+part_walks count (Done (looked.Early (once.Done placed))) way is = absurd is
+part_walks count (Done (looked.Early (once.Spent clock))) way is = absurd (cc)
+part_walks count (Done (looked.Early (once.Worn node word))) way is = tt
+part_walks count (Done (looked.Early (once.Again why))) way is = is refl
+part_walks count (Done (looked.Found found)) way is = absurd way
 
 -- the end of a look-up that walks
 walking_ends : (lookup : Lookup) (x : ℕ) → IsLookupAt lookup.call lookup.at → lookup_landed lookup.at ≡ false → LookEnds false (lookup_turned lookup x)
@@ -470,8 +528,11 @@ walks_end_so (Deleting (del.Single (single_del.Refusing call hold bitmap hit))) 
 walks_end_so (Deleting (del.Single (single_del.Clearing call hold bitmap hit line))) x answer sound walking is = absurd (cc)
 walks_end_so (Deleting (del.Single (single_del.Finishing finish line))) x answer sound walking is = absurd (cc)
 walks_end_so (Deleting (del.Merging call hold old place merge)) x answer sound walking is = absurd (cc)
-walks_end_so (Parting (part.Looking lookup count behind)) x answer sound walking is =
-    subst WalkAnswers is (part_walks lookup count (behind_of lookup.at behind) (lookup_turned lookup x) (walking_ends lookup x sound.0.here walking))
+walks_end_so (Parting (part.Looking lookup count)) x answer sound walking is =
+    subst WalkAnswers is (part_walks count (lookup_turned lookup x) (walks_on lookup.call lookup.at x sound.1 sound.2) (walking_ends lookup x sound.0.here walking))
+walks_end_so (Parting (part.Ordering call seen count load)) x answer sound walking is = absurd (cc)
+walks_end_so (Parting (part.Locking call seen count locked)) x answer sound walking is = absurd (cc)
+walks_end_so (Parting (part.Dating call seen count way)) x answer sound walking is = absurd (cc)
 walks_end_so (Parting (part.Reading reading)) x answer sound walking is = absurd (cc)
 
 -- a look-up alone ends no put that takes place

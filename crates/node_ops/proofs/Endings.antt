@@ -1,5 +1,5 @@
 -- What an answer says of the call that it ends.
-use Rattle.std.proofs.Common.{◌≡◌, ◌≢◌, ℕ, ◌+◌, ◌/◌, ◌≤◌, ◌==◌, true, false, cond, ltb, [], Option, Some, None, refl, sym, subst, ap, ◌∙◌, arith}
+use Rattle.std.proofs.Common.{◌≡◌, ◌≢◌, ℕ, ◌+◌, ◌/◌, ◌≤◌, ◌==◌, true, false, cond, ltb, [], Option, Some, None, refl, sym, subst, ap, ◌∙◌, arith, List}
 use Rattle.std.specs.Prelude.{IsSomeAnd, ◌==◌}
 use Rattle.std.proofs.lemmas.Bool.{leb-true}
 use Rattle.pm_words.specs.declared.again.Again.{Again}
@@ -11,15 +11,15 @@ use Rattle.data_node.specs.Bits.{lowest_clear}
 use Rattle.call_stages.specs.declared.once.Once.{Once}
 use Rattle.call_stages.specs.declared.once.Once.TheVariants as once
 use Rattle.call_stages.specs.declared.once.Placed.{Placed}
-use Rattle.call_stages.specs.Stages.{Stage, counted, placed_in}
+use Rattle.call_stages.specs.Stages.{Stage, counted, placed_in, Held, Sight}
 use Rattle.data_list.specs.declared.target.Target.{Target}
 use Rattle.data_list.specs.declared.walk.Walk.{Walk}
 use Rattle.data_list.specs.declared.walk.WalkAt.{WalkAt}
 use Rattle.data_list.specs.declared.target.Walked.{Walked}
 use Rattle.data_list.specs.declared.target.Walked.TheVariants as walked
 use Rattle.data_list.specs.Walks.{sighting_of, walk_turned}
-use Rattle.search_layer.specs.declared.floor.Floor.{Floor}
-use Rattle.search_layer.specs.FloorSteps.{floor_turned}
+use Rattle.tree_floor.specs.declared.floor.Floor.{Floor}
+use Rattle.tree_floor.specs.Floors.{floor_turned}
 use Rattle.data_list.specs.Hops.{CanGiveUp as WalkGivesUp, HopsAt}
 use Rattle.data_list.proofs.HopLaw.{walks_hop}
 use Rattle.version_lock.specs.Versions.{is_worn_word, kept_count, locked_word}
@@ -66,14 +66,20 @@ use Rattle.split_merge.specs.declared.merging.Merged.{Merged}
 use Rattle.split_merge.specs.Merges.{merge_asks, merge_turned}
 use Rattle.node_ops.specs.DelSteps.{names_left, del_looked, del_hit, del_taken, del_finished, del_merged, goes_on}
 use Rattle.node_ops.specs.RunningSteps.{IsRunning, running_call, running_asks, running_turned, wrapped, wrapped_part}
-use Rattle.data_list.specs.declared.target.Next.{Next}
 use Rattle.node_ops.specs.declared.part.ReadingAt.{ReadingAt}
 use Rattle.node_ops.specs.declared.part.ReadingAt.TheVariants as read
 use Rattle.node_ops.specs.declared.part.Part.{Part}
 use Rattle.node_ops.specs.declared.part.Part.TheVariants as part
-use Rattle.node_ops.specs.PartSteps.{behind_of, part_found, part_words, part_looked, early_of, placed_of, reading_turned}
+use Rattle.node_ops.specs.declared.part.Way.{Way}
+use Rattle.node_ops.specs.declared.part.Way.TheVariants as ways
+use Rattle.permutation.specs.declared.load.LoadPermutation.{LoadPermutation}
+use Rattle.permutation.specs.Loads.{load_turned}
+use Rattle.permutation.specs.Stores.{store_turned}
+use Rattle.node_ops.specs.PartSteps.{after_bitmap, after_word, store_on, part_words, part_walked, part_ordered, part_held, part_dated, part_looked, ordering_turned, seen_at, early_of, placed_of, reading_turned, words_placed}
+use Rattle.node_ops.proofs.PartStages.{reading_counts, reading_placed}
+use Rattle.node_ops.proofs.PartWalks.{WalksOn, walks_on}
 use Rattle.node_ops.specs.Asked.{op_in, op_of_finish}
-use Rattle.node_ops.specs.CallStages.{stage_of, lookup_at_stage, lookup_stage, finish_at_held, finish_stage, found_full}
+use Rattle.node_ops.specs.CallStages.{behind_sight, part_stage, reading_at_held, reading_whole, stage_by, stage_of, lookup_at_stage, lookup_stage, finish_at_held, finish_stage, found_full}
 use Rattle.split_merge.specs.declared.splitting.Split.{Split}
 use Rattle.split_merge.specs.declared.splitting.SplitDone.{SplitDone}
 use Rattle.split_merge.specs.Splits.{split_turned}
@@ -367,26 +373,75 @@ del_turns (del.Merging call hold old place merge) x is = at (merge_turned merge 
         (has_it next ∙ sym (has_it merge))
     at (Done merged) = (record { place = has_it merge; limit = merge_limited _ _ (merging_stage call old place merge); hops = refl }, uncounted)
 
-part_turns : (p : Part) (x : ℕ) → IsRunning (Parting p) → Turns (Parting p) x (running_turned (Parting p) x)
-part_turns (part.Looking lookup count behind) x is = at (lookup_turned lookup x) (looks_end lookup.call lookup.at x is.0.here)
-  where
-    seen : Option Next
-    seen = behind_of lookup.at behind
+-- a part has no place, and counts nothing
+part_counts : (p : Part) → counted (part_stage p) ≡ None
+part_counts (part.Looking lookup count) = lookup_counts (live_sight []) lookup.call lookup.at
+part_counts (part.Ordering call seen count load) = refl
+part_counts (part.Locking call seen count locked) = refl
+part_counts (part.Dating call seen count way) = refl
+part_counts (part.Reading reading) = reading_counts reading
 
-    at : (turn : Turn Lookup Looked) → LooksEnd lookup.call.limit turn → Turns (Parting (part.Looking lookup count behind)) x (wrapped_part (part_looked lookup.call count seen turn))
-    at (Go next) early = keeps_none (Parting (part.Looking lookup count behind)) x (Parting (part.Looking next count seen)) (lookup_counts (behind_sight behind) lookup.call lookup.at) (lookup_placed (behind_sight behind) lookup.call lookup.at) (lookup_placed (behind_sight seen) next.call next.at)
-    at (Done (looked.Early answer)) early =
-        subst (λ (a : Once Placed). Turns (Parting (part.Looking lookup count behind)) x (Done a)) (sym (early_placed lookup.call.limit answer early))
-        (ends_early (Parting (part.Looking lookup count behind)) x lookup.call.limit answer (lookup_counts (behind_sight behind) lookup.call lookup.at) (lookup_placed (behind_sight behind) lookup.call lookup.at) refl early)
-    at (Done (looked.Found found)) early = keeps_none (Parting (part.Looking lookup count behind)) x (Parting (part_found lookup.call found seen count)) (lookup_counts (behind_sight behind) lookup.call lookup.at) (lookup_placed (behind_sight behind) lookup.call lookup.at) refl
+part_placed : (p : Part) → placed_in (part_stage p) ≡ None
+part_placed (part.Looking lookup count) = lookup_placed (live_sight []) lookup.call lookup.at
+part_placed (part.Ordering call seen count load) = refl
+part_placed (part.Locking call seen count locked) = refl
+part_placed (part.Dating call seen count way) = refl
+part_placed (part.Reading reading) = reading_placed reading
+
+goes_part : (p next : Part) (x : ℕ) → Turns (Parting p) x (Go (Parting next))
+goes_part p next x = keeps_none (Parting p) x (Parting next) (part_counts p) (part_placed p) (part_placed next)
+
+moved_part : (p : Part) (x n first second : ℕ) → Turns (Parting p) x (Done (once.Again (again.Moved n first second)))
+moved_part p x n first second = ((part_placed p, λ same. absurd (cc)), part_counts p)
+
+-- its clock was below its limit, which is none
+limit_by : (way : Way) (n w : ℕ) (kept : Sight) (h : Held) → limit_in (stage_by way n w kept h) ≡ h.limit
+limit_by (ways.Served words) n w kept h = refl
+limit_by (ways.Held words) n w kept h = refl
+limit_by ways.Alone n w kept h = refl
+
+part_turns : (p : Part) (x : ℕ) → IsRunning (Parting p) → Turns (Parting p) x (running_turned (Parting p) x)
+part_turns (part.Looking lookup count) x is = at (lookup_turned lookup x) (walks_on lookup.call lookup.at x is.1 is.2) (looks_end lookup.call lookup.at x is.0.here)
+  where
+    at : (turn : Turn Lookup Looked) → WalksOn turn → LooksEnd lookup.call.limit turn → Turns (Parting (part.Looking lookup count)) x (wrapped_part (part_looked count turn))
+    at (Go next) way early = goes_part (part.Looking lookup count) (part_walked next count (seen_at next.at)) x
+    at (Done (looked.Early answer)) way early =
+        subst (λ (a : Once Placed). Turns (Parting (part.Looking lookup count)) x (Done a)) (sym (early_placed lookup.call.limit answer early))
+        (ends_early (Parting (part.Looking lookup count)) x lookup.call.limit answer (lookup_counts (live_sight []) lookup.call lookup.at) (lookup_placed (live_sight []) lookup.call lookup.at) refl early)
+    at (Done (looked.Found found)) way early = absurd way
+part_turns (part.Ordering call seen count load) x is = at (load_turned load x)
+  where
+    at : (turn : Turn LoadPermutation (Option (List ℕ))) → Turns (Parting (part.Ordering call seen count load)) x (wrapped_part (ordering_turned call seen count turn))
+    at (Go next) = goes_part (part.Ordering call seen count load) (part.Ordering call seen count next) x
+    at (Done order) = goes_part (part.Ordering call seen count load) (part_ordered call seen count order) x
+part_turns (part.Locking call seen count locked) x is = elim (x == seen.version) as (λ b. Turns (Parting (part.Locking call seen count locked)) x
+    (wrapped_part (cond b (Go (part_held call seen count locked)) (Done (once.Again (again.Moved call.node seen.version x)))))) [
+      | true ↦ goes_part (part.Locking call seen count locked) (part_held call seen count locked) x
+      | false ↦ moved_part (part.Locking call seen count locked) x call.node seen.version x
+    ]
+part_turns (part.Dating call seen count way) x is = goes_part (part.Dating call seen count way) (part_dated call seen count way x) x
 part_turns (part.Reading reading) x is = at reading.at
   where
+    ends_with : (at : ReadingAt) → reading_at_held (record reading { at = at }) at ≡ reading_whole reading → Turns (Parting (part.Reading (record reading { at = at }))) x (Done (once.Done (words_placed (part_words (record reading { at = at })))))
+    ends_with at same = (
+      record {
+        place = part_placed (part.Reading (record reading { at = at }));
+        limit = limit_by reading.way reading.call.node reading.hold.locked (behind_sight reading.behind) (reading_at_held (record reading { at = at }) at) ∙ ap (λ (h : Held). h.limit) same;
+        hops = refl;
+      },
+      part_counts (part.Reading (record reading { at = at })),
+    )
+
     at : (at : ReadingAt) → Turns (Parting (part.Reading (record reading { at = at }))) x (wrapped_part (reading_turned (record reading { at = at }) at x))
-    at (read.Load slot word) = refl
+    at read.Clock = goes_part (part.Reading (record reading { at = read.Clock })) (part.Reading (record reading { hold = record { locked = reading.hold.locked; clock = x }; at = read.Bitmap })) x
+    at read.Bitmap = goes_part (part.Reading (record reading { at = read.Bitmap })) (part.Reading (after_bitmap (record reading { at = read.Bitmap }) x)) x
+    at (read.Load slot word) = goes_part (part.Reading (record reading { at = read.Load slot word })) (part.Reading (after_word (record reading { at = read.Load slot word }) slot word x)) x
+    at (read.Store store) = goes_part (part.Reading (record reading { at = read.Store store })) (part.Reading (store_on (record reading { at = read.Store store }) (store_turned store x))) x
+    at read.Unlock = ends_with read.Unlock refl
     at read.Check = elim (x == reading.hold.locked) as (λ b. Turns (Parting (part.Reading (record reading { at = read.Check }))) x
         (Done (placed_of (cond b (once.Done (part_words (record reading { at = read.Check }))) (once.Again (again.Moved reading.call.node reading.hold.locked x)))))) [
-          | true ↦ (record { place = refl; limit = refl; hops = refl }, refl)
-          | false ↦ ((refl, λ same. absurd (cc)), refl)
+          | true ↦ ends_with read.Check refl
+          | false ↦ moved_part (part.Reading (record reading { at = read.Check })) x reading.call.node reading.hold.locked x
         ]
 
 turns : (running : Running) (x : ℕ) → IsRunning running → Turns running x (running_turned running x)
@@ -441,5 +496,4 @@ placed_is_in_time (Deleting (del.Single (single_del.Refusing call hold bitmap hi
 placed_is_in_time (Deleting (del.Single (single_del.Clearing call hold bitmap hit line))) placed = refl
 placed_is_in_time (Deleting (del.Single (single_del.Finishing finish line))) placed = finish_in_time finish finish.at
 placed_is_in_time (Deleting (del.Merging call hold old place merge)) placed = merge_limited _ _ (merging_stage call old place merge)
-placed_is_in_time (Parting (part.Looking lookup count behind)) placed = absurd (placed (lookup_placed (behind_sight behind) lookup.call lookup.at))
-placed_is_in_time (Parting (part.Reading reading)) placed = refl
+placed_is_in_time (Parting p) placed = absurd (placed (part_placed p))

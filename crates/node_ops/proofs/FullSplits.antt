@@ -9,15 +9,14 @@ use Rattle.split_merge.proofs.FullSplits.{splits_are_of_full, merges_split_none}
 use Rattle.node_ops.specs.declared.del.Del.TheVariants as del
 use Rattle.node_ops.specs.declared.single_del.SingleDel.TheVariants as single_del
 use Rattle.node_ops.specs.declared.get.Get.TheVariants as get
-use Rattle.node_ops.specs.declared.part.Part.TheVariants as part
 use Rattle.node_ops.specs.declared.put.Put.TheVariants as put
 use Rattle.node_ops.specs.declared.single_put.SinglePut.TheVariants as single_put
 use Rattle.node_ops.specs.declared.running.Running.TheVariants.{Getting, Putting, Deleting, Parting}
-use Rattle.node_ops.specs.CallStages.{lookup_at_stage, found_full, has_place}
+use Rattle.node_ops.specs.CallStages.{lookup_at_stage, found_full, has_place, part_stage}
 use Rattle.node_ops.specs.Laws.{SplitsAreOfFullNodes}
 use Rattle.node_ops.proofs.PlainSteps.{IsSingle, looks_single}
+use Rattle.node_ops.proofs.CallLaw.{part_single}
 use Rattle.data_list.specs.WalkStages.{live_sight}
-use Rattle.node_ops.specs.CallStages.{behind_sight}
 
 -- a stage that holds one node splits none
 single_splits_none : (slots : ℕ) (s : Stage) → IsSingle s → IsSplitOfFull slots s
@@ -51,5 +50,4 @@ splits_are_of_full_nodes (Deleting (del.Single (single_del.Refusing call hold bi
 splits_are_of_full_nodes (Deleting (del.Single (single_del.Clearing call hold bitmap hit line))) sound = tt
 splits_are_of_full_nodes (Deleting (del.Single (single_del.Finishing finish line))) sound = tt
 splits_are_of_full_nodes (Deleting (del.Merging call hold old place merge)) sound = merges_split_none call.view.layout.slots merge (has_place call old place)
-splits_are_of_full_nodes (Parting (part.Looking lookup count behind)) sound = single_splits_none _ (lookup_at_stage (behind_sight behind) lookup.call lookup.at) (looks_single (behind_sight behind) lookup.call lookup.at)
-splits_are_of_full_nodes (Parting (part.Reading reading)) sound = tt
+splits_are_of_full_nodes (Parting p) sound = single_splits_none _ (part_stage p) (part_single p)

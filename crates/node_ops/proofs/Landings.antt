@@ -1,5 +1,5 @@
 -- A call comes by its node and its hops from its walk, and keeps them.
-use Rattle.std.proofs.Common.{◌≡◌, ℕ, ◌+◌, ◌/◌, true, false, cond, ltb, Option, Some, None, refl, subst, ◌∙◌, arith}
+use Rattle.std.proofs.Common.{◌≡◌, ℕ, ◌+◌, ◌/◌, true, false, cond, ltb, Option, Some, None, refl, subst, ◌∙◌, arith, sym, List}
 use Rattle.std.specs.Prelude.{◌==◌}
 use Rattle.pm_words.specs.declared.again.Again.TheVariants.{Moved}
 use Rattle.pm_words.specs.declared.machine.Turn.{Turn}
@@ -13,8 +13,8 @@ use Rattle.data_list.specs.declared.target.Walked.{Walked}
 use Rattle.data_list.specs.declared.target.Walked.TheVariants as walked
 use Rattle.data_list.specs.declared.walk.Walk.{Walk}
 use Rattle.data_list.specs.Walks.{sighting_of, walk_turned}
-use Rattle.search_layer.specs.declared.floor.Floor.{Floor}
-use Rattle.search_layer.specs.FloorSteps.{floor_turned}
+use Rattle.tree_floor.specs.declared.floor.Floor.{Floor}
+use Rattle.tree_floor.specs.Floors.{floor_turned}
 use Rattle.node_ops.specs.declared.call.Call.{Call}
 use Rattle.node_ops.specs.declared.lookup.Hold.{Hold}
 use Rattle.node_ops.specs.declared.lookup.Hit.{Hit}
@@ -65,7 +65,15 @@ use Rattle.node_ops.specs.declared.part.ReadingAt.{ReadingAt}
 use Rattle.node_ops.specs.declared.part.ReadingAt.TheVariants as read
 use Rattle.node_ops.specs.declared.part.Part.{Part}
 use Rattle.node_ops.specs.declared.part.Part.TheVariants as part
-use Rattle.node_ops.specs.PartSteps.{behind_of, part_looked, reading_turned}
+use Rattle.data_list.specs.declared.target.Sighting.{Sighting}
+use Rattle.permutation.specs.declared.load.LoadPermutation.{LoadPermutation}
+use Rattle.permutation.specs.declared.store.StorePermutation.{StorePermutation}
+use Rattle.permutation.specs.Loads.{load_turned}
+use Rattle.permutation.specs.Stores.{store_turned}
+use Rattle.node_ops.specs.declared.part.Way.TheVariants as ways
+use Rattle.node_ops.specs.PartSteps.{part_call, part_walked, part_ordered, part_held, part_looked, ordering_turned, seen_at, store_on, with_word, reading_turned}
+use Rattle.pm_words.specs.declared.again.Again.TheVariants as again
+use Rattle.node_ops.proofs.PartSound.{goes_call}
 use Rattle.node_ops.specs.Landings.{lookup_walk, walk_in, LandsBy, Lands, TurnsLand}
 
 -- after a turn of a look-up that was on this walk, if on any
@@ -251,18 +259,42 @@ del_lands (del.Merging call hold old place merge) x = at (merge_turned merge x)
     at (Done merged) = tt
 
 part_lands : (p : Part) (x : ℕ) → LandsAfter (Parting p) x (running_turned (Parting p) x)
-part_lands (part.Looking lookup count behind) x = at (lookup_turned lookup x) (looks_land lookup.call lookup.at x)
+part_lands (part.Looking lookup count) x = at (lookup_turned lookup x) (looks_land lookup.call lookup.at x)
   where
+    walked_call : (next : Lookup) (o : Option Sighting) → part_call (part_walked next count o) ≡ next.call
+    walked_call next (Some seen) = refl
+    walked_call next None = refl
+
     at : (turn : Turn Lookup Looked) → LooksLand lookup.call x (lookup_walk lookup.at) turn
-        → LandsAfter (Parting (part.Looking lookup count behind)) x (wrapped_part (part_looked lookup.call count (behind_of lookup.at behind) turn))
-    at (Go next) lands = lands
+        → LandsAfter (Parting (part.Looking lookup count)) x (wrapped_part (part_looked count turn))
+    at (Go next) lands = subst (λ (c : Call). Lands lookup.call x (lookup_walk lookup.at) c) (sym (walked_call next (seen_at next.at))) lands
     at (Done (looked.Early answer)) lands = tt
-    at (Done (looked.Found found)) lands = lands
+    at (Done (looked.Found found)) lands = tt
+part_lands (part.Ordering call seen count load) x = at (load_turned load x)
+  where
+    ordered : (order : Option (List ℕ)) → part_call (part_ordered call seen count order) ≡ call
+    ordered (Some words) = refl
+    ordered None = elim (is_worn_word seen.version call.view.generation) as (λ b. part_call (cond b (part.Dating call seen count ways.Alone) (part.Locking call seen count (locked_word call.view.generation (kept_count seen.version call.view.generation)))) ≡ call) [ true ↦ refl | false ↦ refl ]
+
+    at : (turn : Turn LoadPermutation (Option (List ℕ))) → LandsAfter (Parting (part.Ordering call seen count load)) x (wrapped_part (ordering_turned call seen count turn))
+    at (Go next) = refl
+    at (Done order) = ordered order
+part_lands (part.Locking call seen count locked) x = elim (x == seen.version) as (λ b. LandsAfter (Parting (part.Locking call seen count locked)) x
+    (wrapped_part (cond b (Go (part_held call seen count locked)) (Done (once.Again (again.Moved call.node seen.version x)))))) [ true ↦ refl | false ↦ tt ]
+part_lands (part.Dating call seen count way) x = refl
 part_lands (part.Reading reading) x = at reading.at
   where
+    stored : (turn : Turn StorePermutation (Unit {0})) → (store_on reading turn).call ≡ reading.call
+    stored (Go store) = refl
+    stored (Done nothing) = refl
+
     at : (at : ReadingAt) → LandsAfter (Parting (part.Reading reading)) x (wrapped_part (reading_turned reading at x))
-    at (read.Load slot word) = refl
+    at read.Clock = refl
+    at read.Bitmap = goes_call (record reading { bitmap = x }) _
+    at (read.Load slot word) = goes_call (record reading { entries = with_word reading.entries slot word x }) _
     at read.Check = tt
+    at (read.Store store) = stored (store_turned store x)
+    at read.Unlock = tt
 
 pub turns_land : TurnsLand
 turns_land (Getting get) next x goes = subst (LandsAfter (Getting get) x) goes (get_lands get x)

@@ -17,10 +17,13 @@ pub mod Landings
 pub mod Costs
 pub mod SplitFacts
 pub mod MergeFacts
+pub mod PartWalks
 pub mod PartLemmas
+pub mod PartStages
 pub mod PartOrder
 pub mod PartSound
 pub mod PartLaw
+pub mod PartServed
 pub mod PartNames
 pub mod PartTelling
 pub mod PartBounds

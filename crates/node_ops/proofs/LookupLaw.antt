@@ -1,5 +1,5 @@
 -- Each turn of a look-up is a step of a kind. At its end the next step of the call may rely on what the name has.
-use Rattle.std.proofs.Common.{◌≡◌, ℕ, zero, suc, ◌+◌, ◌<◌, ◌≤◌, ◌==◌, Bool, true, false, cond, ltb, List, [], ◌∷◌, ◌++◌, Option, Some, None, IfSome, length, take, replicate, get_or, set, refl, sym, subst, ap, ◌∙◌, arith}
+use Rattle.std.proofs.Common.{◌≡◌, ℕ, zero, suc, ◌+◌, ◌<◌, ◌^◌, ◌≤◌, ◌==◌, Bool, true, false, cond, ltb, List, [], ◌∷◌, ◌++◌, Option, Some, None, IfSome, length, take, replicate, get_or, set, refl, sym, subst, ap, ◌∙◌, arith}
 use Rattle.std.specs.Prelude.{IsSome}
 use Rattle.std.specs.Int.{bit_at}
 use Rattle.std.proofs.Math.ListN.{length-set}
@@ -26,7 +26,7 @@ use Rattle.data_node.proofs.BitLemmas.{lowest_live-some, lowest_live-none, witho
 use Rattle.data_node.proofs.SpotLemmas.{at_found, at_missing}
 use Rattle.data_node.proofs.StoreLemmas.{candidates_cover}
 use Rattle.call_stages.specs.declared.once.Once.TheVariants as once
-use Rattle.call_stages.specs.Stages.{Known, Knows, Sight, Sees, Stage, Idle, Saw, Holds, Reads, just_held, pended}
+use Rattle.call_stages.specs.Stages.{Known, Knows, Sight, Sees, Stage, Idle, Saw, Holds, Reads, just_held, pended, counted}
 use Rattle.call_stages.specs.Kinds as kinds
 use Rattle.call_stages.specs.Kinds.{reads_on, dates, notes}
 use Rattle.call_stages.specs.Kinds.{HasWordAt, clock_address, Told, Step, looks, locks, unlocks, misses, times, learns, decides, is_spent}
@@ -43,10 +43,12 @@ use Rattle.data_list.specs.Walks.{sighting_of, walk_from, walk_asks, walk_turned
 use Rattle.data_list.specs.WalkStages.{walk_at_watching, walk_watching, view_stage, walk_at_stage, walk_stage, live_sight, sight_in}
 use Rattle.data_list.specs.Laws.{IsSighting, IsTarget, EndsAt, Walks, WalkViews}
 use Rattle.data_list.proofs.WalkLaw.{walks_are_looks, walks_are_views}
-use Rattle.search_layer.specs.declared.floor.Floor.{Floor}
-use Rattle.search_layer.specs.FloorSteps.{floor_asks, floor_turned, floor_left}
-use Rattle.search_layer.specs.Laws.{FloorAfter, LoadsLayer}
-use Rattle.search_layer.proofs.FloorTold.{floor_stays, floor_only_loads}
+use Rattle.tree_floor.specs.declared.floor.Floor.{Floor}
+use Rattle.tree_floor.specs.Floors.{floor_asks, floor_turned, floor_left}
+use Rattle.tree_floor.specs.Floors.{FloorAfter}
+use Rattle.search_layer.specs.Floors.{LoadsLayer}
+use Rattle.search_layer.proofs.FloorLemmas.{stays as floor_stays, only_loads as floor_only_loads}
+use Rattle.call_stages.specs.AnySteps.{IsOfPermutation, volatile_address}
 use Rattle.call_stages.specs.declared.once.Once.{Once}
 use Rattle.call_stages.specs.declared.once.Placed.{Placed}
 use Rattle.node_ops.specs.declared.call.Call.{Call}
@@ -117,10 +119,12 @@ pub written_found : (limit : Option ℕ) (kept : Sight) (call : Call) (stage : S
 written_found None kept call stage action x found some leads = absurd (let no : false ≡ true = some in cc)
 written_found (Some most) kept call stage action x found some leads = leads
 
--- A step on nodes; or one of a call that relies on nothing, which loads a word of the search layer.
+-- A step on nodes; or one of a call that relies on nothing, which loads a word of the search layer; or a load of a
+-- permutation.
 pub data PlainStep (l : Layout) (g : ℕ) : Stage → Action → ℕ → Stage → Option (Once Placed) → Type 0 where
   steps : {stage next : Stage} {action : Action} {x : ℕ} {answer : Option (Once Placed)} → Step l g stage action x next answer → PlainStep l g stage action x next answer
   reads_layer : {w : Word} {x : ℕ} → IsLayerPlace l w → PlainStep l g Idle (Load (address_of l (Cached w))) x Idle None
+  loads_permutation : {stage : Stage} {n offset x : ℕ} → counted stage ≡ None → n < l.nodes → IsOfPermutation offset → PlainStep l g stage (Load (volatile_address l n offset)) x stage None
 
 -- the kind of step of a turn
 abbrev pub Leads : Sight → Call → Stage → Action → ℕ → Turn Lookup Looked → Type 0
@@ -160,8 +164,8 @@ floor_leads kept call floor x here = at (floor_turned floor x)
         (sym (starts_idle call.limit (walk_from call.view.layout call.view.generation node (key_words call.name)) refl)) reads
 
 -- where it ends, that is at a node of the layout
-pub floor_after : (call : Call) (floor : Floor) (x : ℕ) → IsFlooring call floor → FloorAfter call.view.layout call.name (floor_left floor) (floor_turned floor x)
-floor_after call floor x here = subst (λ (q : Layout × List ℕ). FloorAfter q.0 q.1 (floor_left floor) (floor_turned floor x)) (λ i. (here.layout i, here.key i)) (floor_stays floor x here.sound)
+pub floor_after : (call : Call) (floor : Floor) (x : ℕ) → IsFlooring call floor → x < 2 ^ 64 → FloorAfter call.view.layout call.name (floor_left floor) (floor_turned floor x)
+floor_after call floor x here fits = subst (λ (q : Layout × List ℕ). FloorAfter q.0 q.1 (floor_left floor) (floor_turned floor x)) (λ i. (here.layout i, here.key i)) (floor_stays floor x here.sound fits)
 
 -- each turn of the walk, as the call's
 pub own_walks : (call : Call) (walk : Walk) (x : ℕ) → IsWalking call walk → Told call.view.layout call.view.generation (walk_asks walk) x

@@ -1,5 +1,5 @@
 -- A look-up's fields keep what they keep, and what it found is in order.
-use Rattle.std.proofs.Common.{◌≡◌, ◌≢◌, ℕ, ◌+◌, ◌<◌, ◌≤◌, ◌^◌, ◌==◌, true, false, cond, ltb, List, [], ◌∷◌, Option, Some, None, IfSome, get_or, ap, set, inl, inr, refl, sym, subst, ◌∙◌, arith}
+use Rattle.std.proofs.Common.{◌≡◌, ◌≢◌, ℕ, ◌+◌, ◌<◌, ◌≤◌, ◌^◌, ◌==◌, true, false, cond, ltb, List, Option, Some, None, IfSome, get_or, ap, set, inl, inr, refl, sym, subst, ◌∙◌, arith}
 use Rattle.std.specs.Prelude.{IsSome, is_some}
 use Rattle.std.specs.Int.{bit_at}
 use Rattle.std.proofs.Math.ListN.{length-set}
@@ -43,9 +43,9 @@ use Rattle.data_list.specs.WalkStages.{walk_stage}
 use Rattle.data_list.specs.Laws.{IsTarget, Walks}
 use Rattle.version_lock.proofs.WordTests.{fresh_word}
 use Rattle.node_ops.proofs.LookupLaw.{floor_after, own_walks}
-use Rattle.search_layer.specs.declared.floor.Floor.{Floor}
-use Rattle.search_layer.specs.FloorSteps.{floor_turned, floor_left}
-use Rattle.search_layer.specs.Laws.{FloorAfter}
+use Rattle.tree_floor.specs.declared.floor.Floor.{Floor}
+use Rattle.tree_floor.specs.Floors.{floor_turned, floor_left}
+use Rattle.tree_floor.specs.Floors.{FloorAfter}
 
 -- the fields after a turn, and that the call is the same, maybe at another node
 abbrev pub SoundLooked : Call → Turn Lookup Looked → Type 0
@@ -199,7 +199,7 @@ module _ (call : Call) (sound : IsCall call) where
       ]
 
   lookup_at_stays : (at : LookupAt) (x : ℕ) → IsLookupAt call at → Told call.view.layout call.view.generation (lookup_at_asks call at) x → SoundLooked call (lookup_at_turned call at x)
-  lookup_at_stays (look.Floor floor) x here told = floored_sound (floor_left floor) (floor_turned floor x) (floor_after call floor x here)
+  lookup_at_stays (look.Floor floor) x here told = floored_sound (floor_left floor) (floor_turned floor x) (floor_after call floor x here told.fits)
   lookup_at_stays (look.Walk walk) x here told = walked_sound (walk_stage walk) (walk_asks walk) x (walk_turned walk x) (own_walks call walk x here told)
   lookup_at_stays (look.Read seen) x here told = (record { call = sound; here = subst (λ (o : Option ℕ). IsHeldBy o seen.version) (sym here.reads) tt }, refl)
   lookup_at_stays (look.Lock seen word) x here told =

@@ -1,5 +1,5 @@
 -- What a turn leaves to be done.
-use Rattle.std.proofs.Common.{◌≡◌, ℕ, ◌+◌, ◌-◌, ◌*◌, ◌/◌, ◌<◌, ◌≤◌, ◌==◌, true, false, cond, ltb, Option, Some, None, get_or, inl, inr, refl, sym, subst, ◌∙◌, arith}
+use Rattle.std.proofs.Common.{◌≡◌, ℕ, ◌+◌, ◌-◌, ◌*◌, ◌/◌, ◌^◌, ◌<◌, ◌≤◌, ◌==◌, true, false, cond, ltb, Option, Some, None, get_or, inl, inr, refl, sym, subst, ap, ◌∙◌, arith}
 use Rattle.std.specs.Int.{bit_at}
 use Rattle.std.proofs.lemmas.Bool.{cases_lt, ltb-true}
 use Rattle.pm_words.specs.declared.machine.Turn.{Turn}
@@ -21,18 +21,23 @@ use Rattle.node_ops.specs.declared.running.Running.{Running}
 use Rattle.node_ops.specs.RunningSteps.{running_left}
 use Rattle.call_stages.specs.declared.once.Once.TheVariants as once
 use Rattle.version_lock.specs.Versions.{kept_count, locked_word, is_worn_word}
+use Rattle.pm_words.specs.declared.layout.Layout.{Layout}
+use Rattle.tree_floor.specs.declared.floor.Floor.{Floor}
+use Rattle.tree_floor.specs.Floors.{FloorAfter, floor_left, floor_turned}
+use Rattle.search_layer.proofs.FloorLemmas.{goes_on as floor_goes_on}
 use Rattle.data_list.specs.declared.walk.Walk.{Walk}
 use Rattle.data_list.specs.declared.target.Walked.{Walked}
 use Rattle.data_list.specs.declared.target.Walked.TheVariants as walked
 use Rattle.data_list.specs.Walks.{sighting_of, walk_left, walk_turned}
 use Rattle.node_ops.specs.Calls.{at_node}
-use Rattle.node_ops.specs.LookupSteps.{walked_on, came_by, ends, goes_to}
+use Rattle.node_ops.specs.LookupSteps.{IsFlooring, floored, walked_on, came_by, ends, goes_to}
 use Rattle.node_ops.specs.LookupSteps.{IsLookup, IsLookupAt, IsComparing, lookup_left, lookup_at_left, lookup_at_turned, saw_name, next_candidate, candidate_turned}
 use Rattle.node_ops.specs.declared.lookup.Hit.{Hit}
 use Rattle.node_ops.specs.declared.lookup.Found.{Found}
 use Rattle.node_ops.specs.declared.del.Del.TheVariants as del
 use Rattle.node_ops.specs.declared.single_del.SingleDel.TheVariants as single_del
 use Rattle.node_ops.specs.DelSteps.{names_left, del_hit, del_found, del_left}
+use Rattle.node_ops.proofs.LookupLaw.{floor_after}
 
 -- the slot that is compared is one of the slots
 pub comparing_within : (slots bitmap left slot : ℕ) → IsComparing slots bitmap left slot → slot < slots
@@ -86,6 +91,37 @@ pub name_goes_below : (call : Call) (at : LookupAt) (hold : Hold) (directory : D
 name_goes_below call at hold directory left slot k word turn is turned limit comparing small =
     subst (λ (a : LookupAt). GoesBelow {A = Looked} lookup_left (lookup_at_left call.view.layout.slots a) turn) (sym is)
     (subst (GoesBelow {A = Looked} lookup_left (3 * (call.view.layout.slots - slot) + 1 - k)) (sym turned) (name_fewer call hold directory left slot k word limit comparing small))
+
+-- the floor goes on, or has ended: the walk that begins there is shorter
+floor_fewer : (call : Call) (floor : Floor) (x : ℕ) → IsFlooring call floor → x < 2 ^ 64
+    → GoesBelow {A = Looked} lookup_left (lookup_at_left call.view.layout.slots (look.Floor floor)) (floored call (floor_turned floor x))
+floor_fewer call floor x here fits = by (floor_turned floor x) (floor_after call floor x here fits)
+  where
+    nodes : floor.layout.nodes ≡ call.view.layout.nodes
+    nodes = ap (λ (l : Layout). l.nodes) here.layout
+
+    some_left : 0 < floor_left floor
+    some_left = floor_goes_on floor here.sound
+
+    by : (turn : Turn Floor ℕ) → FloorAfter call.view.layout call.name (floor_left floor) turn
+        → GoesBelow {A = Looked} lookup_left (lookup_at_left call.view.layout.slots (look.Floor floor)) (floored call turn)
+    by (Go next) after =
+        let same : next.layout.nodes ≡ call.view.layout.nodes = ap (λ (l : Layout). l.nodes) after.1 in
+        let less : floor_left next < floor_left floor = after.3 in
+        omega (arith, nodes, same, less)
+    by (Done node) after = omega (arith, nodes, some_left)
+
+pub floor_goes_below : (call : Call) (at : LookupAt) (floor : Floor) (x : ℕ) → at ≡ look.Floor floor → IsLookupAt call at → x < 2 ^ 64
+    → GoesBelow {A = Looked} lookup_left (lookup_at_left call.view.layout.slots at) (lookup_at_turned call at x)
+floor_goes_below call at floor x is here fits =
+    subst (λ (a : LookupAt). GoesBelow {A = Looked} lookup_left (lookup_at_left call.view.layout.slots a) (lookup_at_turned call a x)) (sym is)
+    (floor_fewer call floor x (subst (IsLookupAt call) is here) fits)
+
+-- it ends at a node of the layout
+pub floor_ends_within : (call : Call) (at : LookupAt) (floor : Floor) (x node : ℕ) → at ≡ look.Floor floor → IsLookupAt call at → x < 2 ^ 64
+    → floor_turned floor x ≡ Done node → node < call.view.layout.nodes
+floor_ends_within call at floor x node is here fits ends_at =
+    subst (FloorAfter call.view.layout call.name (floor_left floor)) ends_at (floor_after call floor x (subst (IsLookupAt call) is here) fits)
 
 -- the walk goes on, or has ended
 walk_fewer_by : (call : Call) (walk : Walk) (turn : Turn Walk Walked) → GoesBelow {A = Walked} walk_left (walk_left walk) turn

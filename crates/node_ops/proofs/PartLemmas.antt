@@ -1,24 +1,17 @@
 -- What the definitions of a part of a range scan compute to.
-use Rattle.std.proofs.Common.{◌≡◌, ℕ, zero, suc, ◌+◌, ◌-◌, ◌*◌, ◌<◌, ◌≤◌, ◌==◌, true, false, cond, ltb, Option, List, [], ◌∷◌, ◌++◌, length, take, get_or, refl, sym, subst, ap, ◌∙◌, arith}
+use Rattle.std.proofs.Common.{◌≡◌, ℕ, zero, suc, ◌+◌, ◌-◌, ◌*◌, ◌<◌, ◌≤◌, ◌==◌, true, false, cond, ltb, List, [], ◌∷◌, ◌++◌, length, take, get_or, refl, sym, subst, ap, ◌∙◌, arith}
 use Rattle.std.specs.Int.{bit_at}
 use Rattle.std.proofs.Math.Seq.{take-suc}
 use Rattle.std.proofs.lemmas.Bool.{eq-eqb, ne_eqb, ltb-true}
 use Rattle.std.proofs.lemmas.List.Sums.{fold-append}
-use Rattle.pm_words.specs.declared.machine.Turn.{Turn}
-use Rattle.pm_words.specs.declared.machine.Turn.TheVariants.{Go}
-use Rattle.pm_words.specs.Turns.{GoesBelow}
-use Rattle.call_stages.specs.declared.once.Once.{Once}
-use Rattle.call_stages.specs.Kinds.{Told}
-use Rattle.data_list.specs.declared.target.Next.{Next}
 use Rattle.node_ops.specs.declared.call.Call.{Call}
-use Rattle.node_ops.specs.declared.lookup.Looked.{Looked}
-use Rattle.node_ops.specs.declared.lookup.Lookup.{Lookup}
-use Rattle.node_ops.specs.declared.part.PartWords.{PartWords}
 use Rattle.node_ops.specs.declared.part.Reading.{Reading}
 use Rattle.node_ops.specs.declared.part.ReadingAt.TheVariants as at
-use Rattle.node_ops.specs.LookupSteps.{IsLookup, lookup_asks, lookup_turned, lookup_left}
-use Rattle.node_ops.specs.PartSteps.{load_from, next_at, lists, listing_in, after_at, reading_left, part_looked, part_left}
-use Rattle.node_ops.proofs.LookupSound.{SoundLooked, lookup_stays}
+use Rattle.node_ops.specs.declared.part.Part.TheVariants as part
+use Rattle.node_ops.specs.declared.part.Way.{Way}
+use Rattle.node_ops.specs.declared.part.Way.TheVariants as ways
+use Rattle.node_ops.specs.PartSteps.{load_from, next_at, lists, listing_in, after_at, part_left, after_bitmap, after_word, end_left, goes_on, low_value, reading_left, sorted_by, with_word}
+use Rattle.node_ops.proofs.PartSound.{goes_call}
 
 -- the next slot is this one, if it is live
 pub next-live : (bitmap slot slots : ℕ) → slot < slots → bit_at bitmap slot ≡ 1 → next_at bitmap slot slots ≡ at.Load slot 0
@@ -45,31 +38,51 @@ listing-more reading slots place within =
     ap (λ n. listing_in reading (take n slots)) next ∙ ap (listing_in reading) (take-suc slots place 0 within) ∙ listing-push reading (take place slots) (get_or slots place 0)
 
 -- what is left from one of the live slots on
-pub load_left : (bitmap slot more slots : ℕ) → slot + more ≡ slots → reading_left slots (load_from bitmap slot more) ≤ 4 * more + 1
-load_left bitmap slot zero slots is = omega arith
-load_left bitmap slot (suc more) slots is =
-    let rest = load_left bitmap (slot + 1) more slots (omega arith) in
-    elim (bit_at bitmap slot == 1) as (λ b. reading_left slots (cond b (at.Load slot 0) (load_from bitmap (slot + 1) more)) ≤ 4 * suc more + 1) [
+pub load_left : (reading : Reading) (slot more : ℕ) → slot + more ≡ reading.call.view.layout.slots
+    → reading_left reading.call.view.layout.slots (goes_on reading (load_from reading.bitmap slot more)).way (goes_on reading (load_from reading.bitmap slot more)).at ≤ 4 * more + end_left reading.way
+load_left reading slot zero is = at reading.way
+  where
+    at : (way : Way) → reading_left reading.call.view.layout.slots (sorted_by (record reading { old = low_value reading reading.call.view.layout.slots }) way).way
+        (sorted_by (record reading { old = low_value reading reading.call.view.layout.slots }) way).at ≤ 4 * 0 + end_left way
+    at (ways.Served words) = omega arith
+    at (ways.Held words) = omega arith
+    at ways.Alone = omega arith
+load_left reading slot (suc more) is =
+    let slots = reading.call.view.layout.slots in
+    let rest = load_left reading (slot + 1) more (omega arith) in
+    elim (bit_at reading.bitmap slot == 1) as (λ b. reading_left slots (goes_on reading (cond b (at.Load slot 0) (load_from reading.bitmap (slot + 1) more))).way
+    (goes_on reading (cond b (at.Load slot 0) (load_from reading.bitmap (slot + 1) more))).at ≤ 4 * suc more + end_left reading.way) [
       | true ↦ omega arith
       | false ↦ omega arith
     ]
 
--- less is left after a word,
-pub word_fewer : (reading : Reading) (slot word : ℕ) → slot < reading.call.view.layout.slots → word < 4
-    → reading_left reading.call.view.layout.slots (after_at reading slot word) < 4 * (reading.call.view.layout.slots - slot) + 1 - word
-word_fewer reading slot word within small =
+-- less is left after the bitmap,
+pub bitmap_fewer : (reading : Reading) (got : ℕ) → reading_left reading.call.view.layout.slots (after_bitmap reading got).way (after_bitmap reading got).at < 4 * reading.call.view.layout.slots + 1 + end_left reading.way
+bitmap_fewer reading got =
+    let rest = load_left (record reading { bitmap = got }) 0 (reading.call.view.layout.slots - 0) (omega arith) in
+    omega (arith, rest)
+
+-- and after a word,
+pub word_fewer : (reading : Reading) (slot word got : ℕ) → slot < reading.call.view.layout.slots → word < 4
+    → reading_left reading.call.view.layout.slots (after_word reading slot word got).way (after_word reading slot word got).at < 4 * (reading.call.view.layout.slots - slot) + end_left reading.way - word
+word_fewer reading slot word got within small =
     let slots = reading.call.view.layout.slots in
-    let rest : reading_left slots (next_at reading.bitmap (slot + 1) slots) ≤ 4 * (slots - (slot + 1)) + 1 = load_left reading.bitmap (slot + 1) (slots - (slot + 1)) slots (omega arith) in
-    elim (ltb (word + 1) 4) as (λ b. ltb (word + 1) 4 ≡ b → reading_left slots (cond b (at.Load slot (word + 1)) (next_at reading.bitmap (slot + 1) slots)) < 4 * (slots - slot) + 1 - word) [
+    let then_reading = record reading { entries = with_word reading.entries slot word got } in
+    let rest = load_left then_reading (slot + 1) (slots - (slot + 1)) (omega arith) in
+    elim (ltb (word + 1) 4) as (λ b. ltb (word + 1) 4 ≡ b → reading_left slots (goes_on then_reading (cond b (at.Load slot (word + 1)) (next_at reading.bitmap (slot + 1) slots))).way
+    (goes_on then_reading (cond b (at.Load slot (word + 1)) (next_at reading.bitmap (slot + 1) slots))).at < 4 * (slots - slot) + end_left reading.way - word) [
       | true ↦ λ is. let more : word + 1 < 4 = ltb-true _ _ is in omega arith
-      | false ↦ λ is. omega arith
+      | false ↦ λ is. omega (arith, rest)
     ] refl
 
--- and after a turn of the look-up
-pub looking_fewer : (lookup next : Lookup) (x count : ℕ) (behind : Option Next) → IsLookup lookup → Told lookup.call.view.layout lookup.call.view.generation (lookup_asks lookup) x
-    → Go next ≡ lookup_turned lookup x → lookup_left next < lookup_left lookup
-    → GoesBelow {A = Once PartWords} part_left (lookup_left lookup + (4 * lookup.call.view.layout.slots + 2)) (part_looked lookup.call count behind (lookup_turned lookup x))
-looking_fewer lookup next x count behind sound told is fewer =
-    let stays = subst (SoundLooked lookup.call) (sym is) (lookup_stays lookup x sound told) in
-    let same : next.call.view.layout.slots ≡ lookup.call.view.layout.slots = ap (λ (call : Call). call.view.layout.slots) stays.1 in
-    subst (λ (turn : Turn Lookup Looked). GoesBelow {A = Once PartWords} part_left (lookup_left lookup + (4 * lookup.call.view.layout.slots + 2)) (part_looked lookup.call count behind turn)) is (omega arith)
+-- so has the part
+pub bitmap_goes : (reading : Reading) (got : ℕ) → part_left (part.Reading (after_bitmap reading got)) < 4 * reading.call.view.layout.slots + 1 + end_left reading.way
+bitmap_goes reading got =
+    subst (λ (call : Call). reading_left call.view.layout.slots (after_bitmap reading got).way (after_bitmap reading got).at < 4 * reading.call.view.layout.slots + 1 + end_left reading.way)
+    (sym (goes_call (record reading { bitmap = got }) (next_at got 0 reading.call.view.layout.slots))) (bitmap_fewer reading got)
+
+pub word_goes : (reading : Reading) (slot word got : ℕ) → slot < reading.call.view.layout.slots → word < 4
+    → part_left (part.Reading (after_word reading slot word got)) < 4 * (reading.call.view.layout.slots - slot) + end_left reading.way - word
+word_goes reading slot word got within small =
+    subst (λ (call : Call). reading_left call.view.layout.slots (after_word reading slot word got).way (after_word reading slot word got).at < 4 * (reading.call.view.layout.slots - slot) + end_left reading.way - word)
+    (sym (goes_call (record reading { entries = with_word reading.entries slot word got }) (after_at reading slot word))) (word_fewer reading slot word got within small)

@@ -9,7 +9,6 @@ use Rattle.std.specs.FinMap.Entries.{where_key, below_all, is_sorted-where_key, 
 use Rattle.std.specs.List.{AllByRecursion}
 use Rattle.std.proofs.lemmas.Bool.{cases_eq, and_from, eq-eqb, eqb-true}
 use Rattle.std.proofs.lemmas.Cmp.{nat_cmp_total}
-use Rattle.std.proofs.lemmas.List.{get_or_default}
 use Rattle.cat_key.specs.Names.{IsName, AreNameWords, IsPacked, name_cmp, words_of, bytes_of}
 use Rattle.cat_key.proofs.Packing.{packed_from_words, bytes_of-words_of}
 use Rattle.cat_key.proofs.WordOrder.{packed_cmp}
@@ -21,7 +20,8 @@ use Rattle.data_node.specs.Orders.{words_in, comes_before}
 use Rattle.data_node.proofs.SpotLemmas.{same_name, at_found}
 use Rattle.split_merge.specs.Plans.{put_in}
 use Rattle.split_merge.proofs.Sorting.{Strict, all_weaker, put_all}
-use Rattle.node_ops.specs.PartSteps.{no_entry, entry_in, entry_name, live_order}
+use Rattle.node_ops.specs.PartSteps.{entry_in, entry_name, live_order}
+use Rattle.node_ops.proofs.PartSound.{words_same}
 use Rattle.node_ops.proofs.PartLaw.{HasEntry}
 use Rattle.node_ops.proofs.PartOrder.{live_order_strict}
 
@@ -79,9 +79,6 @@ module _ (reads : List (List ℕ)) (bitmap slots : ℕ) (many : length reads ≡
   pub all_good : AllByRecursion Good order
   all_good = live_order_live (comes_before reads) bitmap slots
 
-  words_same : (slot : ℕ) → slot < slots → words_in reads slot ≡ entry_name (entry_in reads slot)
-  words_same slot within = let few : slots ≤ 64 = limit in let size : length reads ≡ 64 = many in ap entry_name (get_or_default reads slot [] no_entry (omega arith))
-
   module _ (s : Spot) (bits : s bitmap_offset ≡ bitmap) (same : (slot : ℕ) → slot < slots → IsLive bitmap slot → HasEntry s reads slot) (range : List ℕ → Bool) (m : Map) (means : Means slots range s m)
       (stays : StaysIn slots range s) (named : (name : List ℕ) (value : ℕ) → range name ≡ true → at m name ≡ Some value → IsName name) where
     live_here : (slot : ℕ) → IsLive bitmap slot → IsLiveIn s slot
@@ -112,7 +109,7 @@ module _ (reads : List (List ℕ)) (bitmap slots : ℕ) (many : length reads ≡
     below_by : (x y : ℕ) → Good x → Good y → comes_before reads x y ≡ true → is_lt (name_cmp (name_at x) (name_at y)) ≡ true
     below_by x y gx gy is =
         let words : slice_cmp nat_cmp (words_in reads x) (words_in reads y) ≡ name_cmp (name_at x) (name_at y) =
-        (λ i. slice_cmp nat_cmp (words_same x gx.0 i) (words_same y gy.0 i)) ∙ packed_cmp (entry_name (entry_in reads x)) (entry_name (entry_in reads y)) (packed x gx) (packed y gy) in
+        (λ i. slice_cmp nat_cmp (words_same reads x many (let below : x < slots = gx.0 in let few : slots ≤ 64 = limit in omega arith) i) (words_same reads y many (let below : y < slots = gy.0 in let few : slots ≤ 64 = limit in omega arith) i)) ∙ packed_cmp (entry_name (entry_in reads x)) (entry_name (entry_in reads y)) (packed x gx) (packed y gy) in
         let is_now : is_lt (ordering_then (name_cmp (name_at x) (name_at y)) (nat_cmp x y)) ≡ true = sym (ap (λ o. is_lt (ordering_then o (nat_cmp x y))) words) ∙ is in
         elim (name_cmp (name_at x) (name_at y)) as (λ o. name_cmp (name_at x) (name_at y) ≡ o → is_lt (ordering_then o (nat_cmp x y)) ≡ true → is_lt o ≡ true) [
           | Less ↦ λ e up. refl

@@ -1,5 +1,5 @@
 -- What a part of a range scan tells is a part of the map.
-use Rattle.std.proofs.Common.{◌≡◌, ℕ, zero, suc, ◌+◌, ◌-◌, ◌<◌, ◌≤◌, ◌==◌, ltb, Bool, true, false, not, cond, ◌&&◌, Option, Some, List, [], ◌∷◌, ◌++◌, length, take, map, set, inl, inr, refl, sym, subst, ap, ◌∙◌, arith, append-nil}
+use Rattle.std.proofs.Common.{◌≡◌, ℕ, zero, suc, ◌+◌, ◌-◌, ◌<◌, ◌≤◌, ◌==◌, ltb, Bool, true, false, not, cond, ◌&&◌, Option, Some, List, [], ◌∷◌, ◌++◌, length, take, map, set, inl, inr, ◌⊎◌, refl, sym, subst, ap, ◌∙◌, arith, append-nil}
 use Rattle.std.specs.Int.{bit_at}
 use Rattle.std.specs.FinMap.{entries}
 use Rattle.std.specs.FinMap.Entries.{where_key}
@@ -22,43 +22,49 @@ use Rattle.data_node.specs.Orders.{comes_before}
 use Rattle.data_node.proofs.KeyLemmas.{key-number}
 use Rattle.shapes.proofs.NameLists.{all_by, filter-twice}
 use Rattle.index_law.specs.Facts.{Facts, map_now, range_of}
-use Rattle.index_law.specs.Lawful.{HasNames, IsRead, SureReads}
+use Rattle.index_law.specs.Lawful.{HasNames, IsRead, Sure, SureHolds, SureReads}
+use Rattle.data_node.specs.Lists.{StaysIn}
+use Rattle.data_node.specs.Spots.{bitmap_offset}
+use Rattle.call_stages.specs.Stages.{Knows}
 use Rattle.index_law.proofs.AnchorTexts.{key-order, named-text}
 use Rattle.call_stages.specs.declared.once.Once.{Once}
 use Rattle.call_stages.specs.declared.once.Once.TheVariants as once
 use Rattle.pm_words.specs.declared.again.Again.TheVariants as again
 use Rattle.call_stages.specs.declared.once.Placed.{Placed}
 use Rattle.call_stages.specs.Kinds.{version_address}
-use Rattle.split_merge.specs.Plans.{put_in}
-use Rattle.split_merge.proofs.Sorting.{put_size}
 use Rattle.node_ops.specs.declared.call.Call.{Call}
 use Rattle.node_ops.specs.declared.lookup.Looked.{Looked}
 use Rattle.node_ops.specs.declared.lookup.Looked.TheVariants as looked
 use Rattle.node_ops.specs.declared.lookup.Lookup.{Lookup}
-use Rattle.data_list.specs.declared.target.Next.{Next}
+use Rattle.data_list.specs.declared.target.Sighting.{Sighting}
+use Rattle.data_list.specs.Walks.{high_of}
+use Rattle.permutation.specs.declared.load.LoadPermutation.{LoadPermutation}
+use Rattle.permutation.specs.Loads.{load_turned}
+use Rattle.permutation.specs.Permutations.{IsPermutationOf}
+use Rattle.permutation.specs.Stores.{words_first}
+use Rattle.permutation_law.specs.Permuted.{permutation_in}
 use Rattle.node_ops.specs.declared.part.Listing.{Listing}
 use Rattle.node_ops.specs.declared.part.PartWords.{PartWords}
 use Rattle.node_ops.specs.declared.part.Reading.{Reading}
 use Rattle.node_ops.specs.declared.part.ReadingAt.{ReadingAt}
 use Rattle.node_ops.specs.declared.part.ReadingAt.TheVariants as at
+use Rattle.node_ops.specs.declared.part.Part.{Part}
 use Rattle.node_ops.specs.declared.part.Part.TheVariants as part
+use Rattle.node_ops.specs.declared.part.Way.{Way}
+use Rattle.node_ops.specs.declared.part.Way.TheVariants as ways
+use Rattle.node_ops.specs.declared.running.Running.TheVariants.{Parting}
 use Rattle.node_ops.specs.Calls.{name_in}
 use Rattle.node_ops.specs.LookupSteps.{lookup_turned}
-use Rattle.node_ops.specs.PartSteps.{no_entry, no_listing, entry_in, entry_name, live_order, is_from, order_in, lists, part_words, part_checked, behind_of, part_looked, early_of, IsReading, reading_at_asks, reading_turned}
-use Rattle.node_ops.specs.CallStages.{behind_sight, reading_held}
-use Rattle.node_ops.specs.Parts.{pair_of, pairs_in, IsPartOf, PartTells, IsHeard, PartsHear}
+use Rattle.node_ops.specs.PartSteps.{no_entry, no_listing, entry_in, entry_name, live_order, is_from, order_by, order_in, sorted_in, lists, listing_in, compared_by, version_at, part_call, part_words, part_checked, part_looked, part_held, part_locked, ordering_turned, early_of, IsFreely, IsPart, IsReading, reading_turned, part_turned, sorted_slots}
+use Rattle.node_ops.specs.CallStages.{behind_sight, part_stage, reading_whole, slots_loaded, stage_by}
+use Rattle.node_ops.specs.CallStages.{knows as words_known}
+use Rattle.node_ops.specs.Permuting.{way_reading}
+use Rattle.node_ops.specs.Parts.{HasCompared, IsPartTold, IsToldVersion, Relies, pair_of, pairs_in, IsPartOf, PartTells, IsHeard, PartsHear}
 use Rattle.node_ops.proofs.PartLaw.{slots_say}
+use Rattle.node_ops.proofs.PartOrder.{live_order_few}
+use Rattle.node_ops.proofs.PartServed.{held_order, served_order}
+use Rattle.node_ops.proofs.PartSound.{IsReadingBut, but}
 use Rattle.node_ops.proofs.PartNames.{pair_at, all_good, packed, names_are}
-
--- no more slots are live than there are
-pub order_few : (before : ℕ → ℕ → Bool) (bitmap n : ℕ) → length (live_order before bitmap n) ≤ n
-order_few before bitmap zero = omega arith
-order_few before bitmap (suc n) =
-    let rest = order_few before bitmap n in
-    elim (bit_at bitmap n == 1) as (λ b. length (cond b (put_in before n (live_order before bitmap n)) (live_order before bitmap n)) ≤ suc n) [
-      | true ↦ let one = put_size before n (live_order before bitmap n) in omega arith
-      | false ↦ omega arith
-    ]
 
 module _ (reading : Reading) where
   abbrev entry : ℕ → List ℕ
@@ -131,11 +137,22 @@ to_pair e = record { name = e.0; value = e.1 }
 pub record TellsPart (l : Layout) (f : Facts) (reading : Reading) (words : PartWords) : Type 0 where
   pub now : IsPartOf (map_now f) (range_of l f words.node) (name_in reading.call) reading.count words
   pub then_was : IsPartOf (after f.base f.history words.place) (range_of l f words.node) (name_in reading.call) reading.count words
-  pub compared : words.compared ≡ length (pairs_in (map_now f) (range_of l f words.node))
+  pub compared : HasCompared (way_reading reading.call reading.hold.locked reading.way) (length (pairs_in (map_now f) (range_of l f words.node))) words
   pub fit : length (pairs_in (after f.base f.history words.place) (range_of l f words.node)) ≤ l.slots
 
-module _ (reading : Reading) (sound : IsReading reading) (f : Facts) (since : ℕ) (named : HasNames (map_now f))
-    (knows : IsRead reading.call.view.layout f since reading.call.node (reading_held (record reading { at = at.Check }))) where
+-- What a part knows of its node that has all words of its live slots.
+pub record KnowsAll (reading : Reading) (f : Facts) : Type 0 where
+  pub means : Means reading.call.view.layout.slots (range_of reading.call.view.layout f reading.call.node) (f.now reading.call.node) (map_now f)
+  pub stays : StaysIn reading.call.view.layout.slots (range_of reading.call.view.layout f reading.call.node) (f.now reading.call.node)
+  pub inside : range_of reading.call.view.layout f reading.call.node (name_in reading.call) ≡ true
+  pub knows : Knows (name_in reading.call) (words_known ((bitmap_offset, reading.bitmap) ∷ slots_loaded reading.entries reading.bitmap reading.call.view.layout.slots)) (f.now reading.call.node)
+  pub old : number_at (map_now f) (name_in reading.call) ≡ reading.old
+  pub within : reading.hold.clock ≤ length f.history
+  pub same : (place : ℕ) → reading.hold.clock ≤ place → place ≤ length f.history → (name : List ℕ) → range_of reading.call.view.layout f reading.call.node name ≡ true
+      → number_at (after f.base f.history place) name ≡ number_at (map_now f) name
+  pub order : order_in reading ≡ sorted_in reading
+
+module _ (reading : Reading) (sound : IsReadingBut reading) (f : Facts) (named : HasNames (map_now f)) (knows : KnowsAll reading f) where
   abbrev slots : ℕ
   slots = reading.call.view.layout.slots
 
@@ -164,11 +181,11 @@ module _ (reading : Reading) (sound : IsReading reading) (f : Facts) (since : �
 
     are : map own order ≡ where_key name_cmp range (entries m)
     are =
-        names_are reading.entries reading.bitmap slots sound.many sound.call.view.layout.slots.1 s knows.knows.seen.0 (slots_say s reading.entries reading.bitmap slots knows.knows.seen.1) range m means knows.settled.stays names
+        names_are reading.entries reading.bitmap slots sound.many sound.call.view.layout.slots.1 s knows.knows.seen.0 (slots_say s reading.entries reading.bitmap slots knows.knows.seen.1) range m means knows.stays names
 
     is_packed : (slot : ℕ) → (slot < slots) × (bit_at reading.bitmap slot ≡ 1) → IsPacked (entry_name (entry reading slot))
     is_packed slot good =
-        packed reading.entries reading.bitmap slots sound.many sound.call.view.layout.slots.1 s knows.knows.seen.0 (slots_say s reading.entries reading.bitmap slots knows.knows.seen.1) range m means knows.settled.stays names slot good
+        packed reading.entries reading.bitmap slots sound.many sound.call.view.layout.slots.1 s knows.knows.seen.0 (slots_say s reading.entries reading.bitmap slots knows.knows.seen.1) range m means knows.stays names slot good
 
     keeps_above : (slot : ℕ) → (slot < slots) × (bit_at reading.bitmap slot ≡ 1) → keeps reading slot ≡ above (own slot)
     keeps_above slot good =
@@ -192,10 +209,28 @@ module _ (reading : Reading) (sound : IsReading reading) (f : Facts) (since : �
     many : length order ≡ length (pairs_in m range)
     many = sym (length-map order own) ∙ ap length are ∙ sym (length-map (where_key name_cmp range (entries m)) to_pair)
 
-    pub is_part : number_at m low ≡ reading.old → IsPartOf m range low reading.count (part_words reading)
-    unfolding order_in
-    is_part had =
-        let few = order_few (comes_before reading.entries) reading.bitmap slots in
+    -- with this order
+    abbrev words_with : List ℕ → PartWords
+    words_with xs = record {
+      node = reading.call.node;
+      version = version_at reading.hold.locked reading.at;
+      place = reading.hold.clock;
+      old = reading.old;
+      high = high_of reading.behind;
+      len = (listing_in reading xs).len;
+      entries = (listing_in reading xs).entries;
+      compared = compared_by reading.way (length xs);
+      hops = reading.call.hops;
+    }
+
+    sorted_or_not : (way : Way) → (compared_by way (length order) ≡ 0) ⊎ (compared_by way (length order) ≡ length (pairs_in m range))
+    sorted_or_not (ways.Served words) = inl refl
+    sorted_or_not (ways.Held words) = inr many
+    sorted_or_not ways.Alone = inr many
+
+    is_part_with : number_at m low ≡ reading.old → IsPartOf m range low reading.count (words_with order)
+    is_part_with had =
+        let few = live_order_few (comes_before reading.entries) reading.bitmap slots in
         let limit : slots ≤ 64 = sound.call.view.layout.slots.1 in
         let size : length no_listing.entries ≡ 64 = length-replicate 64 no_entry in
         let most = lists_few reading order no_listing in
@@ -214,22 +249,33 @@ module _ (reading : Reading) (sound : IsReading reading) (f : Facts) (since : �
               (all_first (λ e. AreNameWords (entry_name e)) reading.count (map (entry reading) (filter (keeps reading) order)) (all_kept reading (λ e. AreNameWords (entry_name e)) order
               (all_by (λ slot. (slot < slots) × (bit_at reading.bitmap slot ≡ 1)) (λ slot. AreNameWords (entry_name (entry reading slot))) (λ slot good. let is = is_packed slot good in (bytes_of (entry_name (entry reading slot)), is.named, is.whole)) order all)));
           had = sym had;
-          compared = inr many;
+          compared = sorted_or_not reading.way;
         }
 
+    pub is_part : number_at m low ≡ reading.old → IsPartOf m range low reading.count (part_words reading)
+    unfolding sorted_slots
+    is_part had = subst (λ (xs : List ℕ). IsPartOf m range low reading.count (words_with xs)) (sym knows.order) (is_part_with had)
+
+  -- how many names it sorted
+  compared_so : (way : Way) → HasCompared (way_reading reading.call reading.hold.locked way) (length (pairs_in (map_now f) range))
+      (record (words_with (map_now f) knows.means (λ name value inside there. named name value there) order) { compared = compared_by way (length order) })
+  compared_so (ways.Served words) = refl
+  compared_so (ways.Held words) = many (map_now f) knows.means (λ name value inside there. named name value there)
+  compared_so ways.Alone = many (map_now f) knows.means (λ name value inside there. named name value there)
+
   pub tells_part : TellsPart reading.call.view.layout f reading (part_words reading)
-  unfolding order_in
+  unfolding sorted_slots
   tells_part =
-      let same = (λ (name : List ℕ) (inside : range name ≡ true). knows.time.same reading.hold.clock (omega arith) knows.time.within name inside) in
+      let same = (λ (name : List ℕ) (inside : range name ≡ true). knows.same reading.hold.clock (omega arith) knows.within name inside) in
       let past = after f.base f.history reading.hold.clock in
-      let means_past : Means slots range s past = record { tidy = knows.settled.means.tidy; agrees = λ name is_name inside. subst (Finds slots s name) (sym (same name inside)) (knows.settled.means.agrees name is_name inside) } in
+      let means_past : Means slots range s past = record { tidy = knows.means.tidy; agrees = λ name is_name inside. subst (Finds slots s name) (sym (same name inside)) (knows.means.agrees name is_name inside) } in
       let named_past = (λ (name : List ℕ) (value : ℕ) (inside : range name ≡ true) (there : number_at past name ≡ Some value). named name value (sym (same name inside) ∙ there)) in
-      let few = order_few (comes_before reading.entries) reading.bitmap slots in
+      let few = live_order_few (comes_before reading.entries) reading.bitmap slots in
       let all = many past means_past named_past in
       record {
-        now = is_part (map_now f) knows.settled.means (λ name value inside there. named name value there) knows.old;
+        now = is_part (map_now f) knows.means (λ name value inside there. named name value there) knows.old;
         then_was = is_part past means_past named_past (same low knows.inside ∙ knows.old);
-        compared = many (map_now f) knows.settled.means (λ name value inside there. named name value there);
+        compared = subst (λ (xs : List ℕ). HasCompared (way_reading reading.call reading.hold.locked reading.way) (length (pairs_in (map_now f) range)) (words_with (map_now f) knows.means (λ name value inside there. named name value there) xs)) (sym knows.order) (compared_so reading.way);
         fit = omega (arith, few, all);
       }
 
@@ -240,10 +286,29 @@ not_early (once.Spent clock) words is = cc
 not_early (once.Worn node word) words is = cc
 not_early (once.Again why) words is = cc
 
-pub looked_on : (call : Call) (count : ℕ) (behind : Option Next) (turn : Turn Lookup Looked) (words : PartWords) → part_looked call count behind turn ≡ Done (once.Done words) → ⊥
-looked_on call count behind (Go lookup) words is = cc
-looked_on call count behind (Done (looked.Early answer)) words is = not_early answer words (cc)
-looked_on call count behind (Done (looked.Found found)) words is = cc
+looked_on : (count : ℕ) (turn : Turn Lookup Looked) (words : PartWords) → part_looked count turn ≡ Done (once.Done words) → ⊥
+looked_on count (Go next) words is = cc
+looked_on count (Done (looked.Early answer)) words is = not_early answer words (cc)
+looked_on count (Done (looked.Found found)) words is = cc
+
+ordering_on : (call : Call) (seen : Sighting) (count : ℕ) (turn : Turn LoadPermutation (Option (List ℕ))) (words : PartWords) → ordering_turned call seen count turn ≡ Done (once.Done words) → ⊥
+ordering_on call seen count (Go load) words is = cc
+ordering_on call seen count (Done order) words is = cc
+
+locking_on : (call : Call) (seen : Sighting) (count locked x : ℕ) (words : PartWords) → part_locked call seen count locked x ≡ Done (once.Done words) → ⊥
+locking_on call seen count locked x words is = elim (x == seen.version) as (λ b. cond b (Go (part_held call seen count locked)) (Done (once.Again (again.Moved call.node seen.version x))) ≡ Done (once.Done words) → ⊥) [
+  | true ↦ λ go. cc
+  | false ↦ λ moved. cc
+] is
+
+-- so it has loaded all live slots
+pub ends_reading : (p : Part) (x : ℕ) (words : PartWords) → part_turned p x ≡ Done (once.Done words) → (P : Part → Type 0)
+    → ((reading : Reading) → reading_turned reading reading.at x ≡ Done (once.Done words) → P (part.Reading reading)) → P p
+ends_reading (part.Looking lookup count) x words is P so = absurd (looked_on count (lookup_turned lookup x) words is)
+ends_reading (part.Ordering call seen count load) x words is P so = absurd (ordering_on call seen count (load_turned load x) words is)
+ends_reading (part.Locking call seen count locked) x words is P so = absurd (locking_on call seen count locked x words is)
+ends_reading (part.Dating call seen count way) x words is P so = absurd (cc)
+ends_reading (part.Reading reading) x words is P so = so reading is
 
 -- the second load gives the version word that its walk saw
 pub done_checked : (reading : Reading) (x : ℕ) (words : PartWords) → part_checked reading x ≡ once.Done words → (x ≡ reading.hold.locked) × (part_words reading ≡ words)
@@ -257,30 +322,105 @@ done_checked reading x words is =
 pub done_words : (reading : Reading) (x : ℕ) (words : PartWords) → reading_turned reading at.Check x ≡ Done (once.Done words) → (x ≡ reading.hold.locked) × (part_words reading ≡ words)
 done_words reading x words is = done_checked reading x words (cc)
 
-reading_tells : (l : Layout) (g : ℕ) (f : Facts) (caller index since : ℕ) (reading : Reading) (at : ReadingAt) (x : ℕ) (words : PartWords) → reading.call.view.layout ≡ l → IsReading (record reading { at = at })
-    → HasNames (map_now f) → SureReads l g f since reading.call.node reading.hold.locked (behind_sight reading.behind) (Some (reading_held (record reading { at = at }))) → (reading_at_asks reading.call at ≡ Load (version_address l reading.call.node) → x ≡ f.version reading.call.node)
+pub given_words : (reading : Reading) (x : ℕ) (words : PartWords) → reading_turned reading at.Unlock x ≡ Done (once.Done words) → part_words reading ≡ words
+given_words reading x words is = cc
+
+-- What a part knows that ends, and where it has the order from. It reads the node's words as they are.
+module _ (l : Layout) (g : ℕ) (f : Facts) (row : List ℕ) (caller index since : ℕ) (reading : Reading) (layout : reading.call.view.layout ≡ l) where
+  -- without a lock
+  pub free_knows : (x : ℕ) → IsReading (record reading { at = at.Check }) → Sure l g f caller index since (part_stage (part.Reading (record reading { at = at.Check })))
+      → Relies l f row (Parting (part.Reading (record reading { at = at.Check }))) → f.version reading.call.node ≡ reading.hold.locked → KnowsAll (record reading { at = at.Check }) f
+  free_knows x sound sure relies still = by reading.way refl sound.here.0
+    where
+      whole : Reading
+      whole = record reading { at = at.Check }
+
+      own : Layout
+      own = reading.call.view.layout
+
+      reads : SureReads l g f since reading.call.node reading.hold.locked (behind_sight reading.behind) (Some (reading_whole reading)) → order_in whole ≡ sorted_in whole → KnowsAll whole f
+      reads knows order =
+          let read = subst (λ k. IsRead k f since reading.call.node (reading_whole reading)) (sym layout) (knows.read still) in
+          record { means = read.settled.means; stays = read.settled.stays; inside = read.inside; knows = read.knows; old = read.old; within = read.time.within; same = read.time.same; order = order }
+
+      is_known : SureReads l g f since reading.call.node reading.hold.locked (behind_sight reading.behind) (Some (reading_whole reading))
+          → Knows (name_in reading.call) (words_known ((bitmap_offset, reading.bitmap) ∷ slots_loaded reading.entries reading.bitmap reading.call.view.layout.slots)) (f.now reading.call.node)
+      is_known knows = (knows.read still).knows
+
+      by : (way : Way) → reading.way ≡ way → IsFreely reading.way → KnowsAll whole f
+      by (ways.Held words) is free = absurd (subst IsFreely is free)
+      by ways.Alone is free =
+          reads (subst (λ (w : Way). Sure l g f caller index since (stage_by w reading.call.node reading.hold.locked (behind_sight reading.behind) (reading_whole reading))) is sure) (ap (order_by whole) is)
+      by (ways.Served words) is free =
+          let knows = subst (λ (w : Way). Sure l g f caller index since (stage_by w reading.call.node reading.hold.locked (behind_sight reading.behind) (reading_whole reading))) is sure in
+          let serves = relies.permutation (record { node = reading.call.node; version = reading.hold.locked; seen = words_first words 8 }) (ap (way_reading reading.call reading.hold.locked) is) still in
+          reads knows (served_order whole (but whole sound) words (f.now reading.call.node) (permutation_in l row reading.call.node) is (is_known knows) serves.tells
+          (subst (λ (k : Layout). IsPermutationOf k.slots (permutation_in l row reading.call.node) (f.now reading.call.node)) (sym layout) serves.order))
+
+  -- with the lock
+  pub held_sure : IsReading (record reading { at = at.Unlock }) → Sure l g f caller index since (part_stage (part.Reading (record reading { at = at.Unlock })))
+      → SureHolds l g f caller index since reading.call.node reading.hold.locked (reading_whole reading)
+  held_sure sound sure = subst (λ (w : Way). Sure l g f caller index since (stage_by w reading.call.node reading.hold.locked (behind_sight reading.behind) (reading_whole reading))) sound.here.made sure
+
+  pub held_knows : IsReading (record reading { at = at.Unlock }) → Sure l g f caller index since (part_stage (part.Reading (record reading { at = at.Unlock }))) → KnowsAll (record reading { at = at.Unlock }) f
+  held_knows sound sure =
+      let knows = subst (λ (k : Layout). SureHolds k g f caller index since reading.call.node reading.hold.locked (reading_whole reading)) (sym layout) (held_sure sound sure) in
+      record {
+        means = knows.means;
+        stays = knows.stays;
+        inside = knows.inside;
+        knows = knows.knows;
+        old = knows.old;
+        within = knows.time.within;
+        same = knows.time.same;
+        order = held_order (record reading { at = at.Unlock }) sound.call.view.layout.slots.1 sound.here.made;
+      }
+
+reading_tells : (l : Layout) (g : ℕ) (f : Facts) (row : List ℕ) (caller index since : ℕ) (reading : Reading) (at : ReadingAt) (x : ℕ) (words : PartWords) → reading.call.view.layout ≡ l → IsReading (record reading { at = at })
+    → HasNames (map_now f) → Sure l g f caller index since (part_stage (part.Reading (record reading { at = at }))) → Relies l f row (Parting (part.Reading (record reading { at = at })))
+    → IsToldVersion l f (part.Reading (record reading { at = at })) x
     → reading_turned (record reading { at = at }) at x ≡ Done (once.Done words) → TellsPart l f reading words
-reading_tells l g f caller index since reading (at.Load slot word) x words layout sound named knows gives is = absurd (cc)
-reading_tells l g f caller index since reading at.Check x words layout sound named knows gives is =
+reading_tells l g f row caller index since reading at.Clock x words layout sound named knows relies gives is = absurd (cc)
+reading_tells l g f row caller index since reading at.Bitmap x words layout sound named knows relies gives is = absurd (cc)
+reading_tells l g f row caller index since reading (at.Load slot word) x words layout sound named knows relies gives is = absurd (cc)
+reading_tells l g f row caller index since reading (at.Store store) x words layout sound named knows relies gives is = absurd (cc)
+reading_tells l g f row caller index since reading at.Check x words layout sound named knows relies gives is =
     let whole = record reading { at = at.Check } in
     let done = done_words whole x words is in
-    let own = subst (λ k. IsRead k f since reading.call.node (reading_held whole)) (sym layout) (knows.read (sym (gives (ap (λ (k : Layout). Load (version_address k reading.call.node)) layout)) ∙ done.0)) in
-    let told = tells_part whole sound f since named own in
+    let still : f.version reading.call.node ≡ reading.hold.locked = sym (gives (ap (λ (k : Layout). Load (version_address k reading.call.node)) layout)) ∙ done.0 in
+    let told = tells_part whole (but whole sound) f named (free_knows l g f row caller index since reading layout x sound knows relies still) in
     let here : TellsPart reading.call.view.layout f reading (part_words whole) = record { now = told.now; then_was = told.then_was; compared = told.compared; fit = told.fit } in
     subst (λ (q : Layout × PartWords). TellsPart q.0 f reading q.1) (λ k. (layout k, done.1 k)) here
+reading_tells l g f row caller index since reading at.Unlock x words layout sound named knows relies gives is =
+    let whole = record reading { at = at.Unlock } in
+    let done = given_words whole x words is in
+    let told = tells_part whole (but whole sound) f named (held_knows l g f row caller index since reading layout sound knows) in
+    let here : TellsPart reading.call.view.layout f reading (part_words whole) = record { now = told.now; then_was = told.then_was; compared = told.compared; fit = told.fit } in
+    subst (λ (q : Layout × PartWords). TellsPart q.0 f reading q.1) (λ k. (layout k, done k)) here
 
 pub part_tells : PartTells
-part_tells l g f row caller index since (part.Looking lookup count behind) x words sound named knows relies gives is = absurd (looked_on lookup.call count (behind_of lookup.at behind) (lookup_turned lookup x) words is)
-part_tells l g f row caller index since (part.Reading reading) x words sound named knows relies gives is =
-    let told = reading_tells l g f caller index since reading reading.at x words sound.layout sound.here named knows gives is in
-    record { now = told.now; then_was = told.then_was; compared = told.compared; fit = told.fit }
+part_tells l g f row caller index since p x words sound named knows relies gives is =
+    ends_reading p x words is (λ (q : Part). (part_call q).view.layout ≡ l → IsPart q → Sure l g f caller index since (part_stage q) → Relies l f row (Parting q) → IsToldVersion l f q x → IsPartTold l f q words)
+    (λ reading done layout ok sure rely told.
+    let is_told = reading_tells l g f row caller index since reading reading.at x words layout ok named sure rely told done in
+    record { now = is_told.now; then_was = is_told.then_was; compared = is_told.compared; fit = is_told.fit })
+    sound.layout sound.here knows relies gives
+
+reading_hears : (reading : Reading) (at : ReadingAt) (x : ℕ) (words : PartWords) → reading_turned (record reading { at = at }) at x ≡ Done (once.Done words) → IsHeard (part.Reading (record reading { at = at })) x words
+reading_hears reading at.Clock x words is = absurd (cc)
+reading_hears reading at.Bitmap x words is = absurd (cc)
+reading_hears reading (at.Load slot word) x words is = absurd (cc)
+reading_hears reading (at.Store store) x words is = absurd (cc)
+reading_hears reading at.Check x words is =
+    let done = done_words (record reading { at = at.Check }) x words is in
+    subst (IsHeard (part.Reading (record reading { at = at.Check })) x) done.1 (record { node = refl; hops = refl; gives = inl (refl, done.0) })
+reading_hears reading at.Unlock x words is =
+    let done = given_words (record reading { at = at.Unlock }) x words is in
+    subst (IsHeard (part.Reading (record reading { at = at.Unlock })) x) done (record {
+      node = refl;
+      hops = refl;
+      gives = inr refl;
+    })
 
 pub parts_hear : PartsHear
-parts_hear (part.Looking lookup count behind) x words is = absurd (looked_on lookup.call count (behind_of lookup.at behind) (lookup_turned lookup x) words is)
-parts_hear (part.Reading reading) x words is = hears reading.at is
-  where
-    hears : (at : ReadingAt) → reading_turned (record reading { at = at }) at x ≡ Done (once.Done words) → IsHeard (part.Reading (record reading { at = at })) x words
-    hears (at.Load slot word) is = absurd (cc)
-    hears at.Check is =
-        let done = done_words (record reading { at = at.Check }) x words is in
-        subst (IsHeard (part.Reading (record reading { at = at.Check })) x) done.1 (record { node = refl; hops = refl; gives = inl (refl, done.0); high = refl })
+parts_hear p x words is = ends_reading p x words is (λ (q : Part). IsHeard q x words) (λ reading done. reading_hears reading reading.at x words done)

@@ -12,7 +12,7 @@ use Rattle.call_stages.specs.declared.once.Placed.{Placed}
 use Rattle.call_stages.specs.Stages.{Knows, Sight, Held, Stage, Idle, Saw, Wears, Reads, Holds, Eyes, Splits, Leaves, Meets, Joins, IsLoose}
 use Rattle.call_stages.specs.Prevs.{no_debt, Deals, keeps}
 use Rattle.call_stages.specs.Footings.{Footing, Minds}
-use Rattle.permutation.specs.Sparing.{SparingStep, on_nodes, on_layer}
+use Rattle.permutation.specs.Sparing.{SparingStep, on_nodes, on_layer, on_permutation}
 use Rattle.data_list.specs.declared.walk.Walk.{Walk}
 use Rattle.data_list.specs.WalkStages.{walk_watching}
 use Rattle.data_list.proofs.WalkLaw.{walk_loose, view_loose}
@@ -26,7 +26,7 @@ use Rattle.node_ops.specs.Calls.{IsCall, name_in}
 use Rattle.call_stages.specs.Lines.{HeldLine}
 use Rattle.node_ops.specs.CallStages.{words_from, seen_hit, stage_after, reply_of, held_by, walk_by, lookup_at_stage, footing_after}
 use Rattle.node_ops.proofs.SeenLemmas.{Seen, Stand, seen_back, stand_whole, name_stands}
-use Rattle.node_ops.proofs.LookupLaw.{PlainStep, steps, reads_layer, hit_words, found_known}
+use Rattle.node_ops.proofs.LookupLaw.{PlainStep, steps, reads_layer, loads_permutation, hit_words, found_known}
 
 -- the name in the slot that has it
 pub hit_words_known : (s : Spot) (call : Call) (bitmap : ℕ) (hit : Hit) → IsCall call → Seen s (seen_hit call bitmap (Some hit)) → IsLive bitmap hit.slot
@@ -80,6 +80,7 @@ plain_foots : (l : Layout) (g c : ℕ) (line : Option HeldLine) (s : Stage) (act
     → SparingStep l g c (record { stage = s; line = line; debt = no_debt }) action x (record { stage = t; line = line; debt = no_debt }) answer
 plain_foots l g c line s action x t answer single (steps step) = on_nodes (single_minds s t line single) (inl refl) step (single_deals s t single)
 plain_foots l g c line s action x t answer single (reads_layer has) = on_layer refl has
+plain_foots l g c line s action x t answer single (loads_permutation none here of) = on_permutation none here of
 
 pub plain : (l : Layout) (g c : ℕ) (line : Option HeldLine) (s : Stage) (action : Action) (x : ℕ) (turn : Turn Running (Once Placed)) → IsSingle s → IsPlainAfter line turn
     → PlainStep l g s action x (stage_after turn) (reply_of turn) → Plain l g c line s action x turn

@@ -1,6 +1,6 @@
 -- What is known of a part, and what a recheck tells of it.
-use Rattle.std.proofs.Common.{◌≡◌, ℕ, ◌<◌, ◌≤◌, ◌==◌, Bool, true, false, not, cond, ◌&&◌, List, length, map, take, inl, inr, ◌⊎◌, refl, sym, subst, ap, ◌∙◌, arith}
-use Rattle.std.specs.Prelude.{Some, slice_index}
+use Rattle.std.proofs.Common.{◌≡◌, ℕ, ◌+◌, ◌<◌, ◌≤◌, ◌==◌, Bool, true, false, not, cond, ◌&&◌, List, [], ◌++◌, append-nil, length, map, take, inl, inr, ◌⊎◌, refl, sym, subst, ap, ◌∙◌, arith}
+use Rattle.std.specs.Prelude.{Some, slice_index, slice_set}
 use Rattle.std.specs.FinMap.{entries}
 use Rattle.std.specs.List.{filter}
 use Rattle.std.proofs.lemmas.Bool.{eqb-true, eq-eqb}
@@ -17,19 +17,23 @@ use mathlib.Core.Option.{some}
 use lib.ListN.{get_elem?}
 use Rattle.pm_words.specs.declared.action.Action.TheVariants.{Load}
 use Rattle.pm_words.specs.declared.layout.Layout.{Layout}
-use Rattle.pm_words.specs.Rows.{got}
+use Rattle.pm_words.specs.Rows.{acted, got}
 use Rattle.pm_words.specs.declared.machine.Turn.TheVariants.{Done}
+use Rattle.data_node.specs.Bits.{live_count}
 use Rattle.data_node.specs.Orders.{comes_before}
+use Rattle.data_node.proofs.LiveCounts.{live_most}
+use Rattle.permutation.proofs.Places.{length-first_slots}
 use Rattle.call_stages.specs.declared.once.Once.TheVariants as once
 use Rattle.call_stages.specs.Kinds.{clock_address, version_address, looks, reads_on, confirms}
 use Rattle.call_stages.specs.AnySteps.{AnyStep, on_nodes}
-use Rattle.call_stages.specs.Stages.{Stage, Idle}
-use Rattle.index_law.specs.Facts.{Facts, range_of}
-use Rattle.index_law.specs.Lawful.{HasNames, Lawful, Sure}
+use Rattle.call_stages.specs.Stages.{Stage, Idle, Reads, counted}
+use Rattle.index_law.specs.Facts.{Facts, facts_of, range_of}
+use Rattle.index_law.specs.Lawful.{HasNames, Lawful, Sure, SureHolds, SureReads}
 use Rattle.index_law.specs.Standing.{IsUnchanged, StandsSince}
-use Rattle.index_law.specs.Worlds.{Party, World, counted_write, facts, stepped}
+use Rattle.index_law.specs.Worlds.{Party, World, counted_write, facts, stepped, written}
 use Rattle.index_law.proofs.Maps.{after-longer}
-use Rattle.index_law.proofs.Rows.{version_in-here}
+use Rattle.index_law.proofs.Rows.{facts-version, version_in-here, with_version}
+use Rattle.index_law.proofs.Versions.{freed-free}
 use Rattle.index_law.proofs.Standing.{standing_is_kept, reads_stand}
 use Rattle.node_ops.specs.declared.part.Part.{Part}
 use Rattle.node_ops.specs.declared.part.Part.TheVariants as part
@@ -41,18 +45,23 @@ use Rattle.node_ops.specs.declared.recheck.Recheck.TheVariants.{Dating, Checking
 use Rattle.node_ops.specs.Calls.{IsCall, name_in}
 use Rattle.node_ops.specs.declared.running.Running.TheVariants.{Parting}
 use Rattle.node_ops.specs.RunningSteps.{Sound}
-use Rattle.node_ops.specs.CallStages.{behind_sight, reading_held, reading_stage}
-use Rattle.node_ops.specs.LookupSteps.{lookup_turned}
+use Rattle.node_ops.specs.CallStages.{behind_sight, part_stage, reading_whole, stage_by}
+use Rattle.node_ops.specs.declared.part.Way.{Way}
+use Rattle.node_ops.specs.declared.part.Way.TheVariants as ways
 use Rattle.node_ops.specs.Parts.{EndsAt, HaveWords, IsPartOf, IsToldVersion, Relies, from_name, pairs_in}
-use Rattle.node_ops.specs.PartSteps.{IsPart, behind_of, order_in, part_asks, part_call, reading_at_asks, reading_turned}
+use Rattle.node_ops.specs.PartSteps.{IsFreely, IsPart, compared_by, order_by, sorted_slots, part_asks, part_call, part_count, part_turned, part_words, reading_at_asks, reading_turned}
 use Rattle.node_ops.specs.RecheckSteps.{rechecked}
 use Rattle.node_ops.specs.Rechecks.{AsksForAll, KnownPart, IsKnown, PartsAreKnown, PartsAreFew, KnownIsKept, StatusesLeaveKnown}
 use Rattle.node_ops.specs.Rechecks.{RecheckSure, RechecksAreTold, RechecksStaySure, RechecksOutlast, IsRechecked, RechecksTell, IsSameAt, SameTells}
 use Rattle.node_ops.proofs.PartBounds.{parts_end, ends_are_ranges}
-use Rattle.node_ops.proofs.PartTelling.{order_few, looked_on, done_words, part_tells, parts_hear}
+use Rattle.node_ops.proofs.PartOrder.{live_order_few}
+use Rattle.node_ops.proofs.PartTelling.{done_words, ends_reading, given_words, part_tells, parts_hear}
 
 own_call : (p : Part) → IsPart p → IsCall (part_call p)
-own_call (part.Looking lookup count behind) is = is.0.call
+own_call (part.Looking lookup count) is = is.0.call
+own_call (part.Ordering call seen count load) is = is.there.sound
+own_call (part.Locking call seen count locked) is = is.0.sound
+own_call (part.Dating call seen count way) is = is.0.sound
 own_call (part.Reading reading) is = is.call
 
 pub known_is_kept : KnownIsKept
@@ -71,54 +80,168 @@ told_version : (w : World) (p : Part) (x : ℕ) → Sound w.layout w.generation 
 told_version w p x sound told loads =
     told ∙ ap (got w.layout w.words) loads ∙ sym (version_in-here w.layout w.words (part_call p).node (subst (λ (k : Layout). (part_call p).node < k.nodes) sound.layout (own_call p sound.here).node))
 
--- what is known of a part at its second load, and then after that
-reading_known : (w : World) (i : ℕ) (party : Party) (reading : Reading) (at : ReadingAt) (x : ℕ) (words : PartWords) → Lawful w → HaveWords (facts w) → get_elem? w.parties i ≡ some party
-    → party.stage ≡ reading_stage (record reading { at = at }) → Sound w.layout w.generation (Parting (part.Reading (record reading { at = at }))) → x ≡ got w.layout w.words (reading_at_asks reading.call at)
-    → Relies w.layout (facts w) w.words (Parting (part.Reading (record reading { at = at }))) → reading_turned (record reading { at = at }) at x ≡ Done (once.Done words)
-    → IsKnown w.layout w.generation (facts (stepped w i party (reading_at_asks reading.call at) Idle)) (record { low = name_in reading.call; count = reading.count; words = words })
-reading_known w i party reading (at.Load slot word) x words lawful fits there stage sound told relies is = absurd (cc)
-reading_known w i party reading at.Check x words lawful fits there stage sound told relies is =
-    let whole = record reading { at = at.Check } in
-    let p = part.Reading whole in
-    let k : KnownPart = record { low = name_in reading.call; count = reading.count; words = words } in
+-- What is said of a part's answer while its node's words are as they were.
+record IsAnswered (w : World) (reading : Reading) (words : PartWords) : Type 0 where
+  pub ends : EndsAt (range_of w.layout (facts w) words.node) (name_in reading.call) words.high
+  pub told : IsPartOf (after w.base w.history words.place) (range_of w.layout (facts w) words.node) (name_in reading.call) reading.count words
+  pub fit : length (pairs_in (after w.base w.history words.place) (range_of w.layout (facts w) words.node)) ≤ w.layout.slots
+
+answered : (w : World) (i : ℕ) (party : Party) (reading : Reading) (x : ℕ) (words : PartWords) → Lawful w → HaveWords (facts w) → get_elem? w.parties i ≡ some party
+    → party.stage ≡ part_stage (part.Reading reading) → Sound w.layout w.generation (Parting (part.Reading reading)) → x ≡ got w.layout w.words (part_asks (part.Reading reading))
+    → Relies w.layout (facts w) w.words (Parting (part.Reading reading)) → part_turned (part.Reading reading) x ≡ Done (once.Done words) → IsAnswered w reading words
+answered w i party reading x words lawful fits there stage sound told relies is =
+    let p = part.Reading reading in
     let sure = subst (Sure w.layout w.generation (facts w) party.caller party.index party.since) stage (lawful.sure i party there) in
     let gives = told_version w p x sound told in
-    let done = done_words whole x words is in
-    let hears = parts_hear p x words is in
     let tells = part_tells w.layout w.generation (facts w) w.words party.caller party.index party.since p x words sound lawful.named sure relies gives is in
-    let ends = parts_end w.layout w.generation (facts w) w.words party.caller party.index party.since p x words sound lawful.list fits sure relies gives is in
-    let still : (facts w).version reading.call.node ≡ reading.hold.locked = sym (gives (ap (λ (l : Layout). Load (version_address l reading.call.node)) sound.layout)) ∙ done.0 in
-    let stands : StandsSince w.layout w.generation (facts w) (range_of w.layout (facts w) words.node) words.node words.version words.place =
-    subst (λ (q : PartWords). StandsSince w.layout w.generation (facts w) (range_of w.layout (facts w) q.node) q.node q.version q.place) done.1
-    (reads_stand w.layout w.generation (facts w) 0 0 party.since reading.call.node reading.hold.locked reading.hold.clock (behind_sight reading.behind) (reading_held whole) (range_of w.layout (facts w) reading.call.node) sure refl still (λ name inside. inside)) in
-    let here : IsKnown w.layout w.generation (facts w) k = record {
-      bounds = range_of w.layout (facts w) words.node;
-      named = sound.here.call.packed.named;
-      ends = ends;
-      within = (stands.unchanged (ap (facts w).version hears.node ∙ still ∙ ap (λ (q : PartWords). q.version) done.1)).within;
-      part = tells.then_was;
+    record {
+      ends = parts_end w.layout w.generation (facts w) w.words party.caller party.index party.since p x words sound lawful.list fits sure relies gives is;
+      told = tells.then_was;
       fit = tells.fit;
-      stands = stands;
+    }
+
+-- without a lock it is known at the second load, and then after that
+free_known : (w : World) (i : ℕ) (party : Party) (reading : Reading) (x : ℕ) (words : PartWords) → Lawful w → get_elem? w.parties i ≡ some party
+    → party.stage ≡ part_stage (part.Reading (record reading { at = at.Check })) → Sound w.layout w.generation (Parting (part.Reading (record reading { at = at.Check })))
+    → x ≡ got w.layout w.words (part_asks (part.Reading (record reading { at = at.Check })))
+    → reading_turned (record reading { at = at.Check }) at.Check x ≡ Done (once.Done words) → IsAnswered w reading words
+    → IsKnown w.layout w.generation (facts (stepped w i party (part_asks (part.Reading (record reading { at = at.Check }))) Idle)) (record { low = name_in reading.call; count = reading.count; words = words })
+free_known w i party reading x words lawful there stage sound told is so = by reading.way refl sound.here.here.0
+  where
+    whole : Reading
+    whole = record reading { at = at.Check }
+
+    k : KnownPart
+    k = record { low = name_in reading.call; count = reading.count; words = words }
+
+    done : (x ≡ reading.hold.locked) × (part_words whole ≡ words)
+    done = done_words whole x words is
+
+    still : (facts w).version reading.call.node ≡ reading.hold.locked
+    still = sym (told_version w (part.Reading whole) x sound told (ap (λ (l : Layout). Load (version_address l reading.call.node)) sound.layout)) ∙ done.0
+
+    reads : SureReads w.layout w.generation (facts w) party.since reading.call.node reading.hold.locked (behind_sight reading.behind) (Some (reading_whole reading)) → party.stage ≡ Reads reading.call.node reading.hold.locked (behind_sight reading.behind) (Some (reading_whole reading))
+        → IsKnown w.layout w.generation (facts (stepped w i party (reading_at_asks reading.call reading.hold at.Check) Idle)) k
+    reads sure at_stage =
+        let stands : StandsSince w.layout w.generation (facts w) (range_of w.layout (facts w) words.node) words.node words.version words.place =
+        subst (λ (q : PartWords). StandsSince w.layout w.generation (facts w) (range_of w.layout (facts w) q.node) q.node q.version q.place) done.1
+        (reads_stand w.layout w.generation (facts w) 0 0 party.since reading.call.node reading.hold.locked reading.hold.clock (behind_sight reading.behind) (reading_whole reading) (range_of w.layout (facts w) reading.call.node) sure refl still (λ name inside. inside)) in
+        let hears = parts_hear (part.Reading whole) x words is in
+        let here : IsKnown w.layout w.generation (facts w) k = record {
+          bounds = range_of w.layout (facts w) words.node;
+          named = sound.here.call.packed.named;
+          ends = so.ends;
+          within = (stands.unchanged (ap (facts w).version hears.node ∙ still ∙ ap (λ (q : PartWords). q.version) done.1)).within;
+          part = so.told;
+          fit = so.fit;
+          stands = stands;
+        } in
+        let step = subst (λ (q : Layout × (ℕ × Stage)). AnyStep q.0 q.1.0 q.1.1 (reading_at_asks reading.call reading.hold at.Check) x Idle (Some (once.Done (record { old = reading.old; place = reading.hold.clock; hops = reading.call.hops }))))
+        (λ j. (sound.layout j, (sound.generation j, sym at_stage j)))
+        (on_nodes (looks (reads_on (confirms {k = behind_sight reading.behind} {h = reading_whole reading} sound.here.call.node done.0 refl sound.here.reads refl refl)))) in
+        known_is_kept w i party (reading_at_asks reading.call reading.hold at.Check) x Idle _ k lawful there step told here
+
+    by : (way : Way) → reading.way ≡ way → IsFreely reading.way → IsKnown w.layout w.generation (facts (stepped w i party (reading_at_asks reading.call reading.hold at.Check) Idle)) k
+    by (ways.Held made) way free = absurd (subst IsFreely way free)
+    by ways.Alone way free =
+        let at_stage = stage ∙ ap (λ (v : Way). stage_by v reading.call.node reading.hold.locked (behind_sight reading.behind) (reading_whole reading)) way in
+        reads (subst (Sure w.layout w.generation (facts w) party.caller party.index party.since) at_stage (lawful.sure i party there)) at_stage
+    by (ways.Served read) way free =
+        let at_stage = stage ∙ ap (λ (v : Way). stage_by v reading.call.node reading.hold.locked (behind_sight reading.behind) (reading_whole reading)) way in
+        reads (subst (Sure w.layout w.generation (facts w) party.caller party.index party.since) at_stage (lawful.sure i party there)) at_stage
+
+-- with the lock it is known once the node is given back
+held_known : (w : World) (i : ℕ) (party : Party) (reading : Reading) (x : ℕ) (words : PartWords) → Lawful w → get_elem? w.parties i ≡ some party
+    → party.stage ≡ part_stage (part.Reading (record reading { at = at.Unlock })) → Sound w.layout w.generation (Parting (part.Reading (record reading { at = at.Unlock })))
+    → reading_turned (record reading { at = at.Unlock }) at.Unlock x ≡ Done (once.Done words) → IsAnswered w reading words
+    → IsKnown w.layout w.generation (facts (stepped w i party (part_asks (part.Reading (record reading { at = at.Unlock }))) Idle)) (record { low = name_in reading.call; count = reading.count; words = words })
+held_known w i party reading x words lawful there stage sound is so =
+    let whole = record reading { at = at.Unlock } in
+    let l = w.layout in
+    let f = facts w in
+    let n = reading.call.node in
+    let freed : ℕ = reading.hold.locked + 1 in
+    let done = given_words whole x words is in
+    let at_stage = stage ∙ ap (λ (v : Way). stage_by v reading.call.node reading.hold.locked (behind_sight reading.behind) (reading_whole reading)) sound.here.here.made in
+    let knows : SureHolds l w.generation f party.caller party.index party.since n reading.hold.locked (reading_whole reading) = subst (Sure l w.generation f party.caller party.index party.since) at_stage (lawful.sure i party there) in
+    let none : counted_write party ≡ [] = ap (written party.caller party.index) (ap counted at_stage) in
+    let same_history : w.history ++ counted_write party ≡ w.history = ap (λ (more : List Write). w.history ++ more) none ∙ append-nil w.history in
+    let asks : acted l w.words (reading_at_asks reading.call reading.hold at.Unlock) ≡ slice_set w.words (version_address l n) freed = ap (λ (k : Layout). slice_set w.words (version_address k n) freed) sound.layout in
+    let after_it : facts (stepped w i party (reading_at_asks reading.call reading.hold at.Unlock) Idle) ≡ with_version f n freed =
+    (λ j. facts_of l (asks j) w.base (same_history j)) ∙ facts-version l w.words w.base w.history n freed lawful.row.whole knows.here in
+    let now : (with_version f n freed).version n ≡ freed = ap (λ (b : Bool). cond b freed (f.version n)) (eq-eqb n n refl) in
+    let stands : StandsSince l w.generation (with_version f n freed) (range_of l f n) n freed reading.hold.clock = record {
+      here = knows.here;
+      free = freed-free reading.hold.locked w.generation knows.lock;
+      seen = omega (arith, now);
+      inside = λ same name inside. inside;
+      unchanged = λ same. record {
+        within = knows.time.within;
+        same = λ place late soon name inside. knows.time.same place late soon name inside ∙ sym (knows.time.same reading.hold.clock (omega arith) knows.time.within name inside);
+      };
     } in
-    let step = subst (λ (q : Layout × (ℕ × Stage)). AnyStep q.0 q.1.0 q.1.1 (reading_at_asks reading.call at.Check) x Idle (Some (once.Done (record { old = reading.old; place = reading.hold.clock; hops = reading.call.hops }))))
-    (λ j. (sound.layout j, (sound.generation j, sym stage j)))
-    (on_nodes (looks (reads_on (confirms {k = behind_sight reading.behind} {h = reading_held whole} sound.here.call.node done.0 refl sound.here.reads refl refl)))) in
-    known_is_kept w i party (reading_at_asks reading.call at.Check) x Idle _ k lawful there step told here
+    subst (λ (φ : Facts). IsKnown l w.generation φ (record { low = name_in reading.call; count = reading.count; words = words })) (sym after_it) (record {
+      bounds = range_of l f words.node;
+      named = sound.here.call.packed.named;
+      ends = so.ends;
+      within = subst (λ (q : PartWords). q.place ≤ length w.history) done knows.time.within;
+      part = so.told;
+      fit = so.fit;
+      stands = subst (λ (q : PartWords). StandsSince l w.generation (with_version f n freed) (range_of l f q.node) q.node q.version q.place) done stands;
+    })
+
+reading_known : (w : World) (i : ℕ) (party : Party) (reading : Reading) (at : ReadingAt) (x : ℕ) (words : PartWords) → Lawful w → HaveWords (facts w) → get_elem? w.parties i ≡ some party
+    → party.stage ≡ part_stage (part.Reading (record reading { at = at })) → Sound w.layout w.generation (Parting (part.Reading (record reading { at = at }))) → x ≡ got w.layout w.words (part_asks (part.Reading (record reading { at = at })))
+    → Relies w.layout (facts w) w.words (Parting (part.Reading (record reading { at = at }))) → reading_turned (record reading { at = at }) at x ≡ Done (once.Done words)
+    → IsKnown w.layout w.generation (facts (stepped w i party (part_asks (part.Reading (record reading { at = at }))) Idle)) (record { low = name_in reading.call; count = reading.count; words = words })
+reading_known w i party reading at.Clock x words lawful fits there stage sound told relies is = absurd (cc)
+reading_known w i party reading at.Bitmap x words lawful fits there stage sound told relies is = absurd (cc)
+reading_known w i party reading (at.Load slot word) x words lawful fits there stage sound told relies is = absurd (cc)
+reading_known w i party reading (at.Store store) x words lawful fits there stage sound told relies is = absurd (cc)
+reading_known w i party reading at.Check x words lawful fits there stage sound told relies is =
+    let so = answered w i party (record reading { at = at.Check }) x words lawful fits there stage sound told relies is in
+    free_known w i party reading x words lawful there stage sound told is (record { ends = so.ends; told = so.told; fit = so.fit })
+reading_known w i party reading at.Unlock x words lawful fits there stage sound told relies is =
+    let so = answered w i party (record reading { at = at.Unlock }) x words lawful fits there stage sound told relies is in
+    held_known w i party reading x words lawful there stage sound is (record { ends = so.ends; told = so.told; fit = so.fit })
 
 pub parts_are_known : PartsAreKnown
-parts_are_known w i party (part.Looking lookup count behind) x words lawful fits there stage sound told relies is = absurd (looked_on lookup.call count (behind_of lookup.at behind) (lookup_turned lookup x) words is)
-parts_are_known w i party (part.Reading reading) x words lawful fits there stage sound told relies is = reading_known w i party reading reading.at x words lawful fits there stage sound told relies is
+parts_are_known w i party p x words lawful fits there stage sound told relies is =
+    ends_reading p x words is (λ (q : Part). party.stage ≡ part_stage q → Sound w.layout w.generation (Parting q) → x ≡ got w.layout w.words (part_asks q) → Relies w.layout (facts w) w.words (Parting q)
+    → IsKnown w.layout w.generation (facts (stepped w i party (part_asks q) Idle)) (record { low = name_in (part_call q); count = part_count q; words = words }))
+    (λ reading done at_stage ok loads rely. reading_known w i party reading reading.at x words lawful fits there at_stage ok loads rely done)
+    stage sound told relies
+
+-- what it sorted
+compared_few : (way : Way) (names slots : ℕ) → names ≤ slots → compared_by way names ≤ slots
+compared_few (ways.Served words) names slots few = omega arith
+compared_few (ways.Held words) names slots few = few
+compared_few ways.Alone names slots few = few
+
+order_few : (reading : Reading) (way : Way) → length (order_by reading way) ≤ reading.call.view.layout.slots
+unfolding sorted_slots
+order_few reading (ways.Served words) =
+    let size = length-first_slots (slice_index words) (live_count reading.call.view.layout.slots reading.bitmap) in let most = live_most reading.call.view.layout.slots reading.bitmap in omega arith
+order_few reading (ways.Held words) =
+    let size = length-first_slots (slice_index words) (live_count reading.call.view.layout.slots reading.bitmap) in let most = live_most reading.call.view.layout.slots reading.bitmap in omega arith
+order_few reading ways.Alone = live_order_few (comes_before reading.entries) reading.bitmap reading.call.view.layout.slots
 
 few_by : (reading : Reading) (at : ReadingAt) (x : ℕ) (words : PartWords) → reading_turned (record reading { at = at }) at x ≡ Done (once.Done words) → words.compared ≤ reading.call.view.layout.slots
-unfolding order_in
+few_by reading at.Clock x words is = absurd (cc)
+few_by reading at.Bitmap x words is = absurd (cc)
 few_by reading (at.Load slot word) x words is = absurd (cc)
+few_by reading (at.Store store) x words is = absurd (cc)
 few_by reading at.Check x words is =
     let done = done_words (record reading { at = at.Check }) x words is in
-    subst (λ (w : PartWords). w.compared ≤ reading.call.view.layout.slots) done.1 (order_few (comes_before reading.entries) reading.bitmap reading.call.view.layout.slots)
+    subst (λ (w : PartWords). w.compared ≤ reading.call.view.layout.slots) done.1 (compared_few reading.way _ _ (order_few reading reading.way))
+few_by reading at.Unlock x words is =
+    let done = given_words (record reading { at = at.Unlock }) x words is in
+    subst (λ (w : PartWords). w.compared ≤ reading.call.view.layout.slots) done (compared_few reading.way _ _ (order_few reading reading.way))
 
 pub parts_are_few : PartsAreFew
-parts_are_few l g (part.Looking lookup count behind) x words sound is = absurd (looked_on lookup.call count (behind_of lookup.at behind) (lookup_turned lookup x) words is)
-parts_are_few l g (part.Reading reading) x words sound is = subst (λ (m : Layout). words.compared ≤ m.slots) sound.layout (few_by reading reading.at x words is)
+parts_are_few l g p x words sound is =
+    ends_reading p x words is (λ (q : Part). (part_call q).view.layout ≡ l → words.compared ≤ l.slots)
+    (λ reading done layout. subst (λ (m : Layout). words.compared ≤ m.slots) layout (few_by reading reading.at x words done)) sound.layout
 
 pub statuses_leave_known : StatusesLeaveKnown
 statuses_leave_known l g f f' k same is = subst (λ (φ : Facts). IsKnown l g φ k) (sym same) (record {

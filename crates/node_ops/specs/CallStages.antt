@@ -48,6 +48,8 @@ use Rattle.node_ops.specs.declared.running.Running.TheVariants.{Getting, Putting
 use Rattle.node_ops.specs.declared.part.Reading.{Reading}
 use Rattle.node_ops.specs.declared.part.ReadingAt.{ReadingAt}
 use Rattle.node_ops.specs.declared.part.ReadingAt.TheVariants as at
+use Rattle.node_ops.specs.declared.part.Way.{Way}
+use Rattle.node_ops.specs.declared.part.Way.TheVariants as ways
 use Rattle.node_ops.specs.declared.part.Part.{Part}
 use Rattle.node_ops.specs.declared.part.Part.TheVariants as part
 use Rattle.node_ops.specs.PartSteps.{entry_in}
@@ -307,10 +309,7 @@ slots_loaded entries bitmap (suc slot) =
 abbrev pub loaded_at : List (List ℕ) → ℕ → ℕ → ReadingAt → List (ℕ × ℕ)
 loaded_at entries bitmap slots (at.Load slot word) =
     words_loaded (entry_in entries slot) slot word (slots_loaded entries bitmap slot)
-loaded_at entries bitmap slots at.Check = slots_loaded entries bitmap slots
-
-abbrev pub loaded : Reading → List (ℕ × ℕ)
-loaded reading = loaded_at reading.entries reading.bitmap reading.call.view.layout.slots reading.at
+loaded_at entries bitmap slots _ = slots_loaded entries bitmap slots
 
 -- what it keeps of what its walk saw: where its node leads
 abbrev pub behind_sight : Option Next → Sight
@@ -322,17 +321,37 @@ behind_sight (Some next) = record {
   beyond = anchor_seen (key_words next.anchor);
 }
 
--- it has the node as a get that knows what its name has
-abbrev pub reading_held : Reading → Held
-reading_held reading =
-    decided reading.call reading.hold reading.old (knows ((bitmap_offset, reading.bitmap) ∷ loaded reading))
+-- it has all words of its live slots, as a get that knows what its name has
+abbrev pub reading_whole : Reading → Held
+reading_whole reading =
+    decided reading.call reading.hold reading.old (knows ((bitmap_offset, reading.bitmap) ∷ slots_loaded reading.entries
+    reading.bitmap reading.call.view.layout.slots))
+
+-- it has loaded so much
+abbrev pub reading_at_held : Reading → ReadingAt → Held
+reading_at_held reading at.Clock = just_held (name_in reading.call)
+reading_at_held reading at.Bitmap = timed reading.call reading.hold nothing
+reading_at_held reading (at.Load slot word) =
+    timed reading.call reading.hold (knows ((bitmap_offset, reading.bitmap) ∷ loaded_at reading.entries reading.bitmap
+    reading.call.view.layout.slots (at.Load slot word)))
+reading_at_held reading _ = reading_whole reading
+
+-- what a part has of its node: with the lock it holds it, and without one it has it as long as the version word stands
+-- that its walk saw
+abbrev pub stage_by : Way → ℕ → ℕ → Sight → Held → Stage
+stage_by (ways.Held words) n word kept held = Holds n word held
+stage_by _ n word kept held = Reads n word kept (Some held)
 
 abbrev pub reading_stage : Reading → Stage
 reading_stage reading =
-    Reads reading.call.node reading.hold.locked (behind_sight reading.behind) (Some (reading_held reading))
+    stage_by reading.way reading.call.node reading.hold.locked (behind_sight reading.behind) (reading_at_held reading
+    reading.at)
 
 abbrev pub part_stage : Part → Stage
-part_stage (part.Looking lookup count behind) = lookup_at_stage (behind_sight behind) lookup.call lookup.at
+part_stage (part.Looking lookup count) = lookup_stage lookup
+part_stage (part.Ordering call seen count load) = Reads call.node seen.version (sight_in seen) None
+part_stage (part.Locking call seen count locked) = Reads call.node seen.version (sight_in seen) None
+part_stage (part.Dating call seen count way) = Reads call.node seen.version (sight_in seen) None
 part_stage (part.Reading reading) = reading_stage reading
 
 abbrev pub stage_of : Running → Stage

@@ -32,7 +32,7 @@ abbrev pub has_landed : Running → Bool
 has_landed (Getting (get.Looking lookup)) = lookup_landed lookup.at
 has_landed (Putting (put.Single (single_put.Looking lookup value))) = lookup_landed lookup.at
 has_landed (Deleting (del.Single (single_del.Looking lookup))) = lookup_landed lookup.at
-has_landed (Parting (part.Looking lookup count behind)) = lookup_landed lookup.at
+has_landed (Parting (part.Looking lookup count)) = lookup_landed lookup.at
 has_landed _ = true
 
 -- The actions, ten for each, of the hops that a call's walk might have made and didn't.

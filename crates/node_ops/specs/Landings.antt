@@ -29,7 +29,7 @@ abbrev pub walk_in : Running → Option Walk
 walk_in (Getting (get.Looking lookup)) = lookup_walk lookup.at
 walk_in (Putting (put.Single (single_put.Looking lookup value))) = lookup_walk lookup.at
 walk_in (Deleting (del.Single (single_del.Looking lookup))) = lookup_walk lookup.at
-walk_in (Parting (part.Looking lookup count behind)) = lookup_walk lookup.at
+walk_in (Parting (part.Looking lookup count)) = lookup_walk lookup.at
 walk_in _ = None
 
 -- As the walk goes on, the call stays as it is. As it ends, the call has the target's node, and the hops of the walk.

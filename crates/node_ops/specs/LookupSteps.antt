@@ -37,8 +37,8 @@ use Rattle.data_list.specs.Keys.{key_words}
 use Rattle.data_list.specs.Walks.{sighting_of, walk_from, walk_asks, walk_turned, walk_left, IsWalk}
 use Rattle.data_list.specs.Laws.{IsSighting}
 use Rattle.node_ops.specs.Calls.{IsCall, call_address, at_node}
-use Rattle.search_layer.specs.declared.floor.Floor.{Floor}
-use Rattle.search_layer.specs.FloorSteps.{IsFloor, floor_starts, floor_asks, floor_turned, floor_left}
+use Rattle.tree_floor.specs.declared.floor.Floor.{Floor}
+use Rattle.tree_floor.specs.Floors.{IsFloor, floor_starts, floor_asks, floor_turned, floor_left}
 use Rattle.version_lock.specs.Versions.{IsLockWord}
 
 -- what a name has, if a slot has it

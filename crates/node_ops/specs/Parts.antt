@@ -24,12 +24,15 @@ use Rattle.call_stages.specs.declared.once.Once.{Once}
 use Rattle.call_stages.specs.declared.once.Once.TheVariants as once
 use Rattle.call_stages.specs.declared.once.Placed.{Placed}
 use Rattle.call_stages.specs.Kinds.{version_address}
-use Rattle.call_stages.specs.Stages.{Held, Stage, Holds}
+use Rattle.call_stages.specs.Stages.{Held, Holds}
 use Rattle.permutation_law.specs.Laws.{Serves}
 use Rattle.index_law.specs.Facts.{Facts, map_now, range_of, IsListed}
 use Rattle.index_law.specs.Lawful.{HasNames, IsList, Lawful, Sure}
 use Rattle.index_law.specs.Worlds.{Party, World, facts, stepped}
+use Rattle.node_ops.specs.declared.call.Call.{Call}
 use Rattle.node_ops.specs.declared.part.PartWords.{PartWords}
+use Rattle.node_ops.specs.declared.part.Way.{Way}
+use Rattle.node_ops.specs.declared.part.Way.TheVariants as ways
 use Rattle.node_ops.specs.declared.part.Part.{Part}
 use Rattle.node_ops.specs.declared.part.Part.TheVariants as part
 use Rattle.node_ops.specs.declared.running.Running.{Running}
@@ -37,14 +40,9 @@ use Rattle.node_ops.specs.declared.running.Running.TheVariants.{Getting, Putting
 use Rattle.node_ops.specs.Calls.{name_in}
 use Rattle.node_ops.specs.CallStages.{part_stage, stage_of, stage_after}
 use Rattle.node_ops.specs.Permuting.{PermutationRead, reading_of}
-use Rattle.node_ops.specs.PartSteps.{part_call, part_asks, part_turned, part_behind, part_count, part_listed}
-use Rattle.node_ops.specs.PartSteps.{behind_of, entry_name, words_placed}
+use Rattle.node_ops.specs.PartSteps.{part_call, part_asks, part_turned, part_count, part_listed}
+use Rattle.node_ops.specs.PartSteps.{entry_name, words_placed}
 use Rattle.node_ops.specs.RunningSteps.{running_call, running_asks, running_turned, listed_in, count_in, Sound}
-
--- the next node as it has it after a turn, unless that ends it
-abbrev pub behind_seen : Part → Option Next
-behind_seen (part.Looking lookup count behind) = behind_of lookup.at behind
-behind_seen (part.Reading reading) = reading.behind
 
 -- the pairs of a map whose names pass the test, in rising order of names
 abbrev pub pairs_in : Map → (List ℕ → Bool) → List Pair
@@ -84,8 +82,14 @@ pub record HeldEnd : Type 0 where
   pub high : Option (List ℕ)
 
 -- What a part knows of that, which holds its node.
+abbrev pub way_end : Way → Call → Option Next → Option HeldEnd
+way_end (ways.Held words) call behind =
+    Some (record { node = call.node; low = name_in call; high = high_of behind })
+way_end _ call behind = None
+
 abbrev pub part_end : Part → Option HeldEnd
-part_end p = None
+part_end (part.Reading reading) = way_end reading.way reading.call reading.behind
+part_end _ = None
 
 abbrev pub end_of : Running → Option HeldEnd
 end_of (Getting get) = None
@@ -156,12 +160,11 @@ GivesVersion l action x words = ((action ≡ Load (version_address l words.node)
 abbrev pub Confirms : Running → ℕ → PartWords → Type 0
 Confirms running x words = GivesVersion (running_call running).view.layout (running_asks running) x words
 
--- its answer is what its call has, the version word that its action gives, and the anchor of the next node as it has it
+-- its answer is what its call has, and the version word that its action gives
 pub record IsHeard (p : Part) (x : ℕ) (words : PartWords) : Type 0 where
   pub node : words.node ≡ (part_call p).node
   pub hops : words.hops ≡ (part_call p).hops
   pub gives : Confirms (Parting p) x words
-  pub high : words.high ≡ high_of (part_behind p)
 
 abbrev pub PartsHear : Type 0
 PartsHear = (p : Part) (x : ℕ) (words : PartWords) → part_turned p x ≡ Done (once.Done words) → IsHeard p x words

@@ -9,10 +9,20 @@ use Rattle.call_stages.specs.declared.once.Placed.{Placed}
 use Rattle.call_stages.specs.AnySteps.{AnyStep}
 use Rattle.call_stages.specs.Kinds.{Told, LeadsWithin}
 use Rattle.call_stages.specs.Stages.{Held, Sight, Reads, Tells, counted}
-use Rattle.permutation.specs.Sortings.{Sorting, Unsorted, Sorts, Keeps, permutation_address}
+use Rattle.permutation.specs.declared.load.LoadPermutation.{LoadPermutation}
+use Rattle.permutation.specs.Loads.{load_read}
+use Rattle.permutation.specs.Stores as stores
+use Rattle.permutation.specs.Sortings.{Sorting, Unsorted, Stored, Sorts, Keeps, permutation_address}
 use Rattle.permutation.specs.Sortings.{permutation_version_address}
 use Rattle.permutation_law.specs.Laws.{Spares}
+use Rattle.node_ops.specs.declared.call.Call.{Call}
 use Rattle.node_ops.specs.declared.part.Part.{Part}
+use Rattle.node_ops.specs.declared.part.Part.TheVariants as part
+use Rattle.node_ops.specs.declared.part.Reading.{Reading}
+use Rattle.node_ops.specs.declared.part.ReadingAt.{ReadingAt}
+use Rattle.node_ops.specs.declared.part.ReadingAt.TheVariants as at
+use Rattle.node_ops.specs.declared.part.Way.{Way}
+use Rattle.node_ops.specs.declared.part.Way.TheVariants as ways
 use Rattle.node_ops.specs.declared.running.Running.{Running}
 use Rattle.node_ops.specs.declared.running.Running.TheVariants.{Getting, Putting, Deleting, Parting}
 use Rattle.node_ops.specs.CallStages.{stage_of, stage_after, reply_of}
@@ -26,8 +36,14 @@ pub record PermutationRead : Type 0 where
   pub seen : List (ℕ × ℕ)
 
 -- What a part has stored of the permutation of the node that it holds.
+abbrev pub reading_sorting : Reading → ReadingAt → Sorting
+reading_sorting reading (at.Store store) = stores.sorting_of store
+reading_sorting reading at.Unlock = Stored reading.call.node reading.hold.locked
+reading_sorting reading _ = Unsorted
+
 abbrev pub part_sorting : Part → Sorting
-part_sorting p = Unsorted
+part_sorting (part.Reading reading) = reading_sorting reading reading.at
+part_sorting _ = Unsorted
 
 abbrev pub sorting_of : Running → Sorting
 sorting_of (Getting get) = Unsorted
@@ -40,8 +56,20 @@ sorting_after (Go next) = sorting_of next
 sorting_after (Done answer) = Unsorted
 
 -- What a part has read of the permutation of its node, which served it so far.
+abbrev pub read_by : LoadPermutation → Option (List (ℕ × ℕ)) → Option PermutationRead
+read_by load None = None
+read_by load (Some seen) = Some (record { node = load.node; version = load.version; seen = seen })
+
+abbrev pub way_reading : Call → ℕ → Way → Option PermutationRead
+way_reading call version (ways.Served words) =
+    Some (record { node = call.node; version = version; seen = stores.words_first words 8 })
+way_reading call version _ = None
+
 abbrev pub part_reading : Part → Option PermutationRead
-part_reading p = None
+part_reading (part.Ordering call seen count load) = read_by load (load_read load)
+part_reading (part.Dating call seen count way) = way_reading call seen.version way
+part_reading (part.Reading reading) = way_reading reading.call reading.hold.locked reading.way
+part_reading _ = None
 
 abbrev pub reading_of : Running → Option PermutationRead
 reading_of (Getting get) = None

@@ -3,7 +3,8 @@
 //!
 //! Each takes the floor of its name in the search layer, walks from there to the node of its name, loads the clock, and
 //! looks the name up. A write locks the node before it loads the clock. A read takes no lock: it loads the node's
-//! version word once more at last, and what it read counts only where that is the word with which its walk ended.
+//! version word once more at last, and what it read counts only where that is the word with which its walk ended. A
+//! part of a scan locks its node only where that has no permutation by which to go.
 //!
 //! A write then stores in such an order that a crash at any moment leaves the node as it was before the call or as it
 //! is after it: what a bitmap makes live is durable before the bitmap is stored, and the bitmap before the clock counts
@@ -33,7 +34,7 @@ pub use fill::{Fill, FillAt};
 pub use finish::{Finish, FinishAt};
 pub use get::Get;
 pub use lookup::{Directory, Found, Hit, Hold, Looked, Lookup, LookupAt};
-pub use part::{Listing, Part, PartWords, Reading, ReadingAt};
+pub use part::{Listing, Part, PartWords, Reading, ReadingAt, Way};
 pub use put::Put;
 pub use recheck::{Recheck, Same};
 pub use running::Running;

@@ -24,7 +24,7 @@ use data_node::{PRINT_WORDS, candidates, lowest_live, without_live};
 use pm_words::offsets::node;
 use pm_words::offsets::shared::CLOCK;
 use pm_words::{Action, Again, Machine, Turn};
-use search_layer::Floor;
+use tree_floor::Floor;
 use version_lock::{freed_of, locked_of};
 
 /// What a call has of its node: the version word, which a write has locked and a read has seen free, and the clock that

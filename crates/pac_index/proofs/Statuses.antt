@@ -13,11 +13,12 @@ use Rattle.data_list.specs.declared.walk.Walk.{Walk}
 use Rattle.data_list.specs.Walks.{walk_turned}
 use Rattle.pm_alloc.specs.declared.gone.Release.{Release}
 use Rattle.pm_alloc.specs.Gone.{release_from, release_turned}
-use Rattle.search_layer.specs.declared.floor.Floor.{Floor}
-use Rattle.search_layer.specs.declared.set.Set.{Set}
-use Rattle.search_layer.specs.declared.set.Unset.{Unset}
-use Rattle.search_layer.specs.FloorSteps.{floor_turned}
-use Rattle.search_layer.specs.SetSteps.{set_starts, set_turned, unset_starts, unset_turned}
+use Rattle.tree_floor.specs.declared.floor.Floor.{Floor}
+use Rattle.tree_floor.specs.Floors.{floor_turned}
+use Rattle.tree_update.specs.declared.change.Ended.{Ended}
+use Rattle.tree_update.specs.declared.set.Set.{Set}
+use Rattle.tree_update.specs.declared.set.Unset.{Unset}
+use Rattle.tree_update.specs.Sets.{set_starts, set_turned, unset_starts, unset_turned}
 use Rattle.smo_log.specs.declared.line.Entry.{Entry}
 use Rattle.smo_log.specs.declared.read.LineSeen.{LineSeen}
 use Rattle.smo_log.specs.declared.read.ReadLine.{ReadLine}
@@ -131,11 +132,11 @@ module _ (free : Bool) (work : Work) (some : 0 < work.terms.layout.nodes) where
   changed_next : (line : ℕ) (entry : Entry) → Finds l free (changed work.terms line entry)
   changed_next line entry = elim (entry.kind == merge_kind) as (λ b. Finds l free (cond b (at.Stamping line entry) (clears work.terms line))) [ true ↦ λ xs told. told | false ↦ λ xs told. told ]
 
-  set_next : (line : ℕ) (entry : Entry) (turn : Turn Set (Unit {0})) → Leads l free (has_set work line entry turn)
+  set_next : (line : ℕ) (entry : Entry) (turn : Turn Set Ended) → Leads l free (has_set work line entry turn)
   set_next line entry (Go set) = (refl, λ xs told. told)
   set_next line entry (Done answer) = (refl, changed_next line entry)
 
-  unset_next : (line : ℕ) (entry : Entry) (turn : Turn Unset (Unit {0})) → Leads l free (has_unset work line entry turn)
+  unset_next : (line : ℕ) (entry : Entry) (turn : Turn Unset Ended) → Leads l free (has_unset work line entry turn)
   unset_next line entry (Go unset) = (refl, λ xs told. told)
   unset_next line entry (Done answer) = (refl, changed_next line entry)
 

@@ -96,7 +96,7 @@ pub record Answers (call : CoreCall) (index : ℕ) (old : Member) (answer : Once
 
 -- The machine of a part of a range scan, before its first action.
 abbrev pub part_in : Member → List ℕ → ℕ → Part
-part_in v low count = part.Looking (starts (new_call (view_in v) low None)) count None
+part_in v low count = part.Looking (starts (new_call (view_in v) low None)) count
 
 -- What a part of a range scan is answered: as a call that looks its low name up, what its own machine ends with, and
 -- what it lists is the map's on the longer history, at its place. Its caller knows it from then on.

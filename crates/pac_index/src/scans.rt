@@ -30,8 +30,9 @@ pub enum Scanned {
 impl Shared {
     /// A range scan by one of the callers before the last, which is the updater's: a part from the name `from` on, and
     /// further ones, each from where the one before it ended, until `count` names are listed or the last part has no
-    /// upper bound. A part takes no lock, and is tried again while it is turned back, so a scan may wait for as long as
-    /// others lock a node of it or change that under it. It counts as one call, however many parts it has.
+    /// upper bound. A part locks its node only to keep the order of its names. It is tried again while it is turned
+    /// back, so a scan may wait for as long as others lock a node of it or change that under it. It counts as one call,
+    /// however many parts it has.
     ///
     /// It takes memory for what it lists. Where there is none, the caller is as after the parts that were answered.
     pub fn scan<R: Wait>(

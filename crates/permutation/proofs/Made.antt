@@ -4,7 +4,6 @@ use Rattle.std.proofs.Math.Seq.{take-suc}
 use Rattle.std.proofs.lemmas.Bool.{cases_eq}
 use Rattle.std.proofs.lemmas.List.{get_or-replicate, get_or-set_same, get_or-set_other, length-replicate, take_all}
 use Rattle.data_node.specs.Bits.{printed}
-use Rattle.data_node.specs.Slots.{prints_of}
 use Rattle.data_node.proofs.BitLemmas.{prints_of-printed, printed_below}
 use Rattle.permutation.specs.Permutations.{first_slots, words_to, AreWordsOf, WordsHaveSlots}
 use Rattle.permutation.proofs.Bytes.{one_more}

@@ -1,5 +1,5 @@
 -- The fresh image, the row that is made of an image, and the image that a crash leaves.
-use Rattle.std.proofs.Common.{◌≡◌, ◌≢◌, ℕ, zero, suc, ◌+◌, ◌-◌, ◌^◌, ◌<◌, ◌≤◌, ⊎_elim, List, [], ◌∷◌, ◌++◌, length, replicate, slice_index, slice_set, drop, refl, sym, ap, ◌∙◌, subst, arith, length-set, length-append, length-drop, lit<}
+use Rattle.std.proofs.Common.{◌≡◌, ◌≢◌, ℕ, zero, suc, ◌+◌, ◌-◌, ◌^◌, ◌<◌, ◌≤◌, ⊎_elim, inl, inr, List, [], ◌∷◌, ◌++◌, length, replicate, slice_index, slice_set, drop, refl, sym, ap, ◌∙◌, subst, arith, length-set, length-append, length-drop, lit<}
 use Rattle.std.proofs.lemmas.Bool.{cases_eq, cases_lt}
 use Rattle.std.proofs.lemmas.List.{length-replicate, get_or-set_same, get_or-set_other, get_or-drop, get_or-take, length-take-le, get_or-replicate, get_or_past, get_or_append_left, get_or-append-add, replicate-append-replicate}
 use Rattle.std.specs.Int.{w64, from_le_bytes}
@@ -7,7 +7,7 @@ use Rattle.std.specs.Prelude.{codes}
 use Rattle.pm_words.specs.declared.layout.Layout.{Layout}
 use Rattle.pm_words.specs.Layouts.{IsLayout}
 use Rattle.pm_words.specs.Locations.{Location, HasLocation, IsVolatile, address_of, row_parts, part_of_address, behind_start, Word, Header, Root, Node, Line, Leaf, Cell, Cached, Durable, HasWord, image_parts, part_of_word, behind_part, image_words, row_words, volatile_words, word_number, word_at, cached_address, durable_address, at}
-use Rattle.pm_words.specs.Images.{IsImage, header, fresh_words, fresh_word}
+use Rattle.pm_words.specs.Images.{IsImage, header, first_leaf, fresh_words, fresh_word}
 use Rattle.pm_words.specs.Rows.{IsRow, cached_row, durable_row, row_of}
 use Rattle.pm_words.proofs.Parts.{earlier}
 use Rattle.pm_words.proofs.Apart.{address_fits, words_within, word_at-set_other, word_at-set_same}
@@ -18,7 +18,7 @@ length-zeros n = length-replicate {A = ℕ} n 0
 zeros_are : (n k : ℕ) → slice_index (replicate n 0) k ≡ 0
 zeros_are n k = ⊎_elim (λ (lt : k < n). get_or-replicate n k 0 0 lt) (λ (ge : n ≤ k). get_or_past (replicate n 0) k 0 (let size = length-zeros n in omega arith)) (cases_lt k n)
 
--- the fresh image but for its leaf
+-- the fresh image but for its root and its leaf
 abbrev bare : Layout → List ℕ
 bare l = header l ++ 1 ∷ replicate (image_words l - 6) 0
 
@@ -51,6 +51,13 @@ bare_fits l layout (suc (suc (suc (suc zero)))) = let most = layout.callers.1 in
 bare_fits l layout (suc (suc (suc (suc (suc zero))))) = lit< tt
 bare_fits l layout (suc (suc (suc (suc (suc (suc k)))))) = let none = zeros_are (image_words l - 6) k in omega arith
 
+-- and but for its leaf
+abbrev rooted : Layout → List ℕ
+rooted l = slice_set (bare l) (word_number l (Root 0)) first_leaf
+
+length-rooted : (l : Layout) → length (rooted l) ≡ image_words l
+length-rooted l = length-set (bare l) (word_number l (Root 0)) first_leaf ∙ length-bare l
+
 -- a header word stands at its number
 pub header_at : (l : Layout) (words : List ℕ) (k : ℕ) → word_at l words (Header k) ≡ slice_index words k
 header_at l words k = ap (slice_index words) (let same : 0 + k ≡ k = omega arith in same)
@@ -61,46 +68,62 @@ six_words l = omega arith
 leaf_has : (l : Layout) → HasWord l (Leaf 0 3)
 leaf_has l = (omega arith, omega arith)
 
+root_has : (l : Layout) → HasWord l (Root 0)
+root_has l = lit< tt
+
 -- a word of any part but the header stands behind the generation
 late : (l : Layout) (w : Word) → 0 < part_of_word w → 6 ≤ word_number l w
 late l w behind = let last = earlier (image_parts l) 0 (part_of_word w) 7 (behind_part l w) (lit< tt) behind in omega arith
 
-zero_at : (l : Layout) (w : Word) → HasWord l w → 0 < part_of_word w → w ≢ Leaf 0 3 → word_at l (fresh_words l) w ≡ 0
-zero_at l w has behind other = word_at-set_other l (bare l) (Leaf 0 3) w 1 (leaf_has l) has other ∙
-    bare_zero l (word_number l w) (late l w behind)
+zero_at : (l : Layout) (w : Word) → HasWord l w → 0 < part_of_word w → w ≢ Leaf 0 3 → w ≢ Root 0 → word_at l (fresh_words l) w ≡ 0
+zero_at l w has behind other root = word_at-set_other l (rooted l) (Leaf 0 3) w 1 (leaf_has l) has other ∙
+    word_at-set_other l (bare l) (Root 0) w first_leaf (root_has l) has root ∙ bare_zero l (word_number l w) (late l w behind)
 
 pub fresh_at : (l : Layout) (w : Word) → HasWord l w → word_at l (fresh_words l) w ≡ fresh_word l w
-fresh_at l (Header k) has = word_at-set_other l (bare l) (Leaf 0 3) (Header k) 1 (leaf_has l) has (λ e. cc) ∙
-    header_at l (bare l) k ∙ bare_header l k
-fresh_at l (Root o) has = zero_at l (Root o) has (lit< tt) (λ e. cc)
-fresh_at l (Node n o) has = zero_at l (Node n o) has (lit< tt) (λ e. cc)
-fresh_at l (Line c j o) has = zero_at l (Line c j o) has (lit< tt) (λ e. cc)
-fresh_at l (Leaf zero zero) has = zero_at l (Leaf 0 0) has (lit< tt) (λ e. cc)
-fresh_at l (Leaf zero (suc zero)) has = zero_at l (Leaf 0 1) has (lit< tt) (λ e. cc)
-fresh_at l (Leaf zero (suc (suc zero))) has = zero_at l (Leaf 0 2) has (lit< tt) (λ e. cc)
-fresh_at l (Leaf zero (suc (suc (suc zero)))) has = word_at-set_same l (bare l) (Leaf 0 3) 1 (length-bare l) has
-fresh_at l (Leaf zero (suc (suc (suc (suc o))))) has = zero_at l (Leaf 0 (suc (suc (suc (suc o))))) has (lit< tt) (λ e. cc)
-fresh_at l (Leaf (suc k) o) has = zero_at l (Leaf (suc k) o) has (lit< tt) (λ e. cc)
-fresh_at l (Cell kind k o) has = zero_at l (Cell kind k o) has (omega arith) (λ e. cc)
+fresh_at l (Header k) has = word_at-set_other l (rooted l) (Leaf 0 3) (Header k) 1 (leaf_has l) has (λ e. cc) ∙
+    word_at-set_other l (bare l) (Root 0) (Header k) first_leaf (root_has l) has (λ e. cc) ∙ header_at l (bare l) k ∙ bare_header l k
+fresh_at l (Root zero) has = word_at-set_other l (rooted l) (Leaf 0 3) (Root 0) 1 (leaf_has l) has (λ e. cc) ∙
+    word_at-set_same l (bare l) (Root 0) first_leaf (length-bare l) has
+fresh_at l (Root (suc o)) has = zero_at l (Root (suc o)) has (lit< tt) (λ e. cc) (λ e. cc)
+fresh_at l (Node n o) has = zero_at l (Node n o) has (lit< tt) (λ e. cc) (λ e. cc)
+fresh_at l (Line c j o) has = zero_at l (Line c j o) has (lit< tt) (λ e. cc) (λ e. cc)
+fresh_at l (Leaf zero zero) has = zero_at l (Leaf 0 0) has (lit< tt) (λ e. cc) (λ e. cc)
+fresh_at l (Leaf zero (suc zero)) has = zero_at l (Leaf 0 1) has (lit< tt) (λ e. cc) (λ e. cc)
+fresh_at l (Leaf zero (suc (suc zero))) has = zero_at l (Leaf 0 2) has (lit< tt) (λ e. cc) (λ e. cc)
+fresh_at l (Leaf zero (suc (suc (suc zero)))) has = word_at-set_same l (rooted l) (Leaf 0 3) 1 (length-rooted l) has
+fresh_at l (Leaf zero (suc (suc (suc (suc o))))) has = zero_at l (Leaf 0 (suc (suc (suc (suc o))))) has (lit< tt) (λ e. cc) (λ e. cc)
+fresh_at l (Leaf (suc k) o) has = zero_at l (Leaf (suc k) o) has (lit< tt) (λ e. cc) (λ e. cc)
+fresh_at l (Cell kind k o) has = zero_at l (Cell kind k o) has (omega arith) (λ e. cc) (λ e. cc)
+
+rooted_fits : (l : Layout) → IsLayout l → (k : ℕ) → slice_index (rooted l) k < 2 ^ 64
+rooted_fits l layout k =
+    let address = word_number l (Root 0) in
+    let inside : address < length (bare l) = let within = words_within l (Root 0) (root_has l) in let size = length-bare l in omega arith in
+    elim (cases_eq k address) [
+      | inl same ↦ subst (λ (n : ℕ). slice_index (rooted l) n < 2 ^ 64) (sym same) (let stored = get_or-set_same (bare l) address first_leaf 0 inside in omega arith)
+      | inr other ↦ let kept = get_or-set_other (bare l) address k first_leaf 0 other in let before = bare_fits l layout k in omega arith
+    ]
 
 pub fresh_image : (l : Layout) → IsLayout l → IsImage l (fresh_words l)
 fresh_image l layout =
     let address = word_number l (Leaf 0 3) in
-    let inside : address < length (bare l) = let within = words_within l (Leaf 0 3) (leaf_has l) in let size = length-bare l in
+    let inside : address < length (rooted l) =
+    let within = words_within l (Leaf 0 3) (leaf_has l) in let size = length-rooted l in
     omega arith in
     record {
       layout = layout;
-      whole = length-set (bare l) address 1 ∙ length-bare l;
+      whole = length-set (rooted l) address 1 ∙ length-rooted l;
       header_stands = λ k lt. fresh_at l (Header k) (omega arith) ∙ get_or_append_left (header l) (1 ∷ []) 0 k lt;
       fits = λ k. ⊎_elim
-          (λ (same : k ≡ address). subst (λ (n : ℕ). slice_index (fresh_words l) n < 2 ^ 64) (sym same) (let stored = get_or-set_same (bare l) address 1 0 inside in omega arith))
-          (λ (other : k ≡ address → ⊥). let kept = get_or-set_other (bare l) address k 1 0 other in let before = bare_fits l layout k in omega arith)
+          (λ (same : k ≡ address). subst (λ (n : ℕ). slice_index (fresh_words l) n < 2 ^ 64) (sym same) (let stored = get_or-set_same (rooted l) address 1 0 inside in omega arith))
+          (λ (other : k ≡ address → ⊥). let kept = get_or-set_other (rooted l) address k 1 0 other in let before = rooted_fits l layout k in omega arith)
           (cases_eq k address);
     }
 
 -- what the stores of the code make of a row of zeros
 abbrev stored : List ℕ → ℕ → ℕ → ℕ → ℕ → ℕ → List ℕ
-stored words magic nodes slots callers leaf = slice_set (slice_set (slice_set (slice_set (slice_set (slice_set (slice_set words 0 magic) 1 1) 2 nodes) 3 slots) 4 callers) 5 1) leaf 1
+stored words magic nodes slots callers leaf =
+    slice_set (slice_set (slice_set (slice_set (slice_set (slice_set (slice_set (slice_set words 0 magic) 1 1) 2 nodes) 3 slots) 4 callers) 5 1) 8 first_leaf) leaf 1
 
 abbrev stored_for : Layout → List ℕ → List ℕ
 stored_for l words = stored words (from_le_bytes w64 (codes "PACCAT01")) l.nodes l.slots l.callers (word_number l (Leaf 0 3))

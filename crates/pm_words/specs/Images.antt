@@ -22,14 +22,21 @@ pub record IsImage (l : Layout) (words : List ℕ) : Type 0 where
   pub header_stands : (k : ℕ) → k < 5 → word_at l words (Header k) ≡ slice_index (header l) k
   pub fits : (k : ℕ) → slice_index words k < 2 ^ 64
 
--- an image without names: generation 1, and in leaf 0 the zero key and node 0, which is stored as 1
-abbrev pub fresh_words : Layout → List ℕ
-fresh_words l = slice_set (header l ++ 1 ∷ replicate (image_words l - 6) 0) (word_number l (Leaf 0 3)) 1
+-- an image without names: generation 1, the root word refers to leaf 0, and that has the zero key and node 0, which is
+-- stored as 1
+abbrev pub first_leaf : ℕ
+first_leaf = 2 ^ 16
 
--- the same word by word: all are 0 but the header, the generation and the node of leaf 0
+abbrev pub fresh_words : Layout → List ℕ
+fresh_words l =
+    slice_set (slice_set (header l ++ 1 ∷ replicate (image_words l - 6) 0) (word_number l (Root 0)) first_leaf)
+    (word_number l (Leaf 0 3)) 1
+
+-- the same word by word: all are 0 but the header, the generation, the root and the node of leaf 0
 abbrev pub fresh_word : Layout → Word → ℕ
 fresh_word l (Header k) = slice_index (header l ++ 1 ∷ []) k
-fresh_word l (Root o) = 0
+fresh_word l (Root zero) = first_leaf
+fresh_word l (Root (suc o)) = 0
 fresh_word l (Node n o) = 0
 fresh_word l (Line c j o) = 0
 fresh_word l (Leaf zero o) = slice_index (0 ∷ 0 ∷ 0 ∷ 1 ∷ []) o

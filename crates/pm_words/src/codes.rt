@@ -33,6 +33,16 @@ pub mod kind {
     pub const MERGE: u64 = 2;
 }
 
+/// A reference of the search layer, which is `KIND` times the kind of what it refers to, and the number of that. The
+/// kinds 2 to 5 are those of cells, by their form.
+pub mod reference {
+    /// What a kind counts for, above each number of a leaf or a cell.
+    pub const KIND: u64 = 1 << 16;
+
+    /// The kind of leaves.
+    pub const LEAF: u64 = 1;
+}
+
 /// The updater lock.
 pub mod updater_lock {
     /// No turn of the updater is being made.

@@ -3,9 +3,9 @@ ghost use Rattle.pm_words.specs.Layouts.{IsLayout};
 ghost use Rattle.pm_words.specs.Locations.{image_words};
 ghost use Rattle.pm_words.specs.Images.{IsImage, fresh_words};
 
-use crate::NoMemory;
 use crate::layout::Layout;
-use crate::offsets::{header, leaf};
+use crate::offsets::{header, leaf, root};
+use crate::{LINE_WORDS, NoMemory};
 use std::alloc::Global;
 use std::marker::Model;
 
@@ -14,6 +14,9 @@ pub(crate) const MAGIC: &[u8; 8] = b"PACCAT01";
 
 /// The format of the images that are made and read.
 pub(crate) const FORMAT: u64 = 1;
+
+/// The reference of leaf 0, to which the root of a fresh image refers.
+const FIRST_LEAF: u64 = 1 << 16;
 
 /// The generation of a fresh image.
 const FIRST_GENERATION: u64 = 1;
@@ -36,7 +39,7 @@ impl Model for Image {
 }
 
 impl Image {
-    /// The image of a catalogue without names. Its one leaf leads to node 0, and the root word is 0.
+    /// The image of a catalogue without names. The root refers to its one leaf, which leads to node 0.
     pub fn fresh(alloc: Global, layout: Layout) -> Result<Image, NoMemory>
         requires { IsLayout layout }
         ensures { IfOk result (λ i. i ≡ record { layout = layout; words = fresh_words layout }) }
@@ -48,6 +51,7 @@ impl Image {
         words[header::SLOTS as usize] = layout.slots();
         words[header::CALLERS as usize] = layout.callers();
         words[header::GENERATION as usize] = FIRST_GENERATION;
+        words[(LINE_WORDS + root::REFERENCE) as usize] = FIRST_LEAF;
         words[layout.leaf_word(0, leaf::NODE) as usize] = 1;
         Ok(Image { layout, words })
     }

@@ -23,7 +23,7 @@ pub mod header {
 
 /// The root line of an image. Its other words are 0.
 pub mod root {
-    /// The reference of the search layer's root; 0 is none.
+    /// The reference of the search layer's root.
     pub const REFERENCE: u64 = 0;
 }
 
@@ -71,7 +71,7 @@ pub mod leaf {
     /// The first of the key's words.
     pub const KEY: u64 = 0;
 
-    /// The number of the node plus one; 0 where the leaf is none of the layer's.
+    /// The number of the node plus one, where the root leads to the leaf.
     pub const NODE: u64 = 3;
 }
 

@@ -103,11 +103,11 @@ module _ (l : Layout) (words : List ℕ) (untold : IsUntold l words) where
           listed;
       dark = λ n here left. ⊎_elim
           (λ (e : n ≡ 0). absurd (first_apart (subst (IsMember list) e (left (inl e)))))
-          (λ (other : n ≢ 0). tell_else l words 0 0 row.whole untold.some n 0 other here (omega arith) ∙ untold.zero (Volatile n 0) (here, omega arith) (omega arith))
+          (λ (other : n ≢ 0). tell_else l words 0 0 row.whole untold.some n 0 other here (omega arith) ∙ untold.zero (Volatile n 0) (here, omega arith) (omega arith) refl)
           (cases_eq n 0);
       bare = λ n here left. ⊎_elim
           (λ (e : n ≡ 0). subst (λ k. at l (told_words l words 0 0) (Volatile k 1) ≡ 0) (sym e) (tell_prev l words 0 0 row.whole untold.some))
-          (λ (other : n ≢ 0). tell_else l words 0 0 row.whole untold.some n 1 other here (omega arith) ∙ untold.zero (Volatile n 1) (here, omega arith) (omega arith))
+          (λ (other : n ≢ 0). tell_else l words 0 0 row.whole untold.some n 1 other here (omega arith) ∙ untold.zero (Volatile n 1) (here, omega arith) (omega arith) refl)
           (cases_eq n 0);
       back = λ prev same leads. leads;
     };
@@ -177,9 +177,9 @@ module _ (l : Layout) (words : List ℕ) (untold : IsUntold l words) where
     free = λ n here_n unlisted. told.dark n here_n (λ listed. absurd (unlisted listed));
     back = told.back (λ n. at l now (Volatile n 1)) (λ n here_n none. refl) (subst (LeadBack (λ n. at l now (Volatile n 1)) here) (sym none) tt);
     none = λ n here_n unlisted. told.bare n here_n (λ listed. absurd (unlisted listed));
-    stamps = λ n here_n. told.beside (Volatile n 2) (here_n, omega arith) (other_word 2 refl) ∙ untold.zero (Volatile n 2) (here_n, omega arith) (omega arith);
-    clock = told.beside Clock tt (λ mark. mark) ∙ untold.zero Clock tt (omega arith);
-    updater = told.beside Updater tt (λ mark. mark) ∙ untold.zero Updater tt (omega arith);
+    stamps = λ n here_n. told.beside (Volatile n 2) (here_n, omega arith) (other_word 2 refl) ∙ untold.zero (Volatile n 2) (here_n, omega arith) (omega arith) refl;
+    clock = told.beside Clock tt (λ mark. mark) ∙ untold.zero Clock tt (omega arith) refl;
+    updater = told.beside Updater tt (λ mark. mark) ∙ untold.zero Updater tt (omega arith) refl;
   }
     where
       no_member : (n : ℕ) → IsMember left n → ⊥

@@ -9,7 +9,7 @@ use Rattle.cat_history.specs.declared.op.Write.{Write}
 use Rattle.pm_words.specs.Codes.{gone_status, empty_state}
 use Rattle.pm_words.specs.declared.layout.Layout.{Layout}
 use Rattle.pm_words.specs.Images.{Row}
-use Rattle.pm_words.specs.Locations.{Word, Location, Root, Cached, Durable, HasWord, at}
+use Rattle.pm_words.specs.Locations.{Word, Location, Clock, Updater, Volatile, Mark, Cached, Durable, HasWord, at}
 use Rattle.pm_words.specs.Rows.{IsRow, durable_row}
 use Rattle.version_lock.specs.Versions.{IsGeneration}
 use Rattle.data_node.specs.Lists.{ListNode, MakeList, Rise, range_in}
@@ -23,7 +23,10 @@ use Rattle.image_rules.proofs.MapLemmas.{sound_has_map}
 use Rattle.image_rules.specs.Weights.{image_weight}
 use Rattle.image_layer_rules.specs.Sound.{IsSoundByAll, in_image}
 use Rattle.search_layer.specs.Rows.{layer_words}
-use Rattle.search_layer.proofs.RowLemmas.{rows_alike}
+use Rattle.layer_map.specs.Places.{is_of_layer}
+use Rattle.search_layer.proofs.RowLemmas.{rows_alike, layer_alike}
+use Rattle.image_recovery_law.specs.RowMoves.{MarksTellIn}
+use Rattle.image_recovery_law.proofs.RowMoves.{tells_by}
 use Rattle.index_law.specs.Facts.{Facts, list_in, spot_in}
 use Rattle.index_law.specs.Weights.{gone_weight, index_weight}
 use Rattle.index_law.specs.Worlds.{facts}
@@ -44,7 +47,7 @@ use Rattle.index_core.proofs.Opening.{opening_is_index, opening_is_unused}
 use Rattle.image_recovery.specs.Plans.{columns, list_of}
 use Rattle.image_recovery.specs.Recovered.{IsRecoveredTo}
 use Rattle.recovery.specs.Opened.{IsOpenedFrom}
-use Rattle.recovery.specs.Tellings.{IsUntold, KeepsBeside}
+use Rattle.recovery.specs.Tellings.{IsUntold, IsNodeMark, KeepsBeside}
 
 -- what a list of nodes makes is the list that is read off the words
 read_list : (l : Layout) (words : List ℕ) (list : List ListNode) → MakeList l.nodes (spot_in l words) list → list_in l words ≡ list
@@ -84,7 +87,7 @@ module _ (from row : Row) (recovered : IsRecoveredTo from row) where
   untold = subst (λ (m : Layout). IsUntold m row.words) (sym recovered.layout) (record {
     some = recovered.rests.sound.nodes.some;
     makes = subst (MakeList l.nodes (spot_in l row.words)) (sym (read_list l row.words list made)) made;
-    zero = recovered.clear.volatile;
+    zero = recovered.clear;
   })
 
   -- Once the volatile words tell the list, they are those of an index.
@@ -107,6 +110,20 @@ module _ (from row : Row) (recovered : IsRecoveredTo from row) where
     kept_map : IsMapOf l list (columns_in l row.words Cached) (map_of base)
     kept_map = (recovered.rests.same_map (map_of base)).0 ((columns_keep_maps l from.words (map_of base)).1 keeps)
 
+    -- they are none of the layer's words
+    not_told : (p : Location) → is_of_layer p ≡ true → IsNodeMark p → ⊥
+    not_told Clock of_layer told = told
+    not_told Updater of_layer told = told
+    not_told (Volatile n o) of_layer told = let clash : false ≡ true = of_layer in cc
+    not_told (Mark kind n) of_layer told = told
+    not_told (Cached w) of_layer told = told
+    not_told (Durable w) of_layer told = told
+
+    marks_here : MarksTellIn l words
+    marks_here =
+        let same = layer_alike l row.words words (λ p has of_layer. beside_here p has (not_told p of_layer)) in
+        tells_by l row.words words same.cached same.marks recovered.marks
+
     orders_here : HaveNoOrders l words
     orders_here = subst (λ (m : Layout). HaveNoOrders m words) recovered.layout orders
 
@@ -115,8 +132,7 @@ module _ (from row : Row) (recovered : IsRecoveredTo from row) where
       row = subst (λ (m : Layout). IsRow m words) recovered.layout is_row;
       rests = subst (λ (c : Columns). Rests l list (columns from) c (columns_in l words Durable)) (sym cached_kept)
           (subst (λ (c : Columns). Rests l list (columns from) (columns_in l row.words Cached) c) (sym durable_kept) recovered.rests);
-      root = beside_here (Cached (Root 0)) (omega arith) (λ mark. mark) ∙ recovered.clear.cached_root;
-      safe_root = beside_here (Durable (Root 0)) (omega arith) (λ mark. mark) ∙ recovered.clear.durable_root;
+      marks = marks_here;
       keeps = subst (λ (c : Columns). IsMapOf l list c (map_of base)) (sym cached_kept) kept_map;
       tells = subst (λ (ms : List ListNode). TellsList l ms words) (read_list l row.words list made) (subst (λ (m : Layout). TellsList m (list_in m row.words) words) recovered.layout tells);
       orders = orders_here;
@@ -170,6 +186,7 @@ module _ (from row : Row) (recovered : IsRecoveredTo from row) where
           anchors = unused.anchors;
           rests = is_opening.rests;
           tells = is_opening.tells;
+          marks = marks_here;
           orders = orders_here;
           weighs = weighs;
           gone = unused.gone;
@@ -194,6 +211,7 @@ with_room from s room is = record {
   anchors = is.anchors;
   rests = is.rests;
   tells = is.tells;
+  marks = is.marks;
   orders = is.orders;
   weighs = is.weighs;
   gone = is.gone;

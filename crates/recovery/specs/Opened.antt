@@ -19,6 +19,7 @@ use Rattle.index_core.specs.Lone.{HasShortWays, IsQuiet, locks_left}
 use Rattle.index_core.specs.PartyStates.{idle_states}
 use Rattle.image_recovery_law.specs.Rest.{Rests}
 use Rattle.image_recovery_law.specs.Rows.{columns_in}
+use Rattle.image_recovery_law.specs.RowMoves.{MarksTellIn}
 use Rattle.index_opening_law.specs.Openings.{HaveNoOrders, TellsList}
 use Rattle.image_recovery.specs.Plans.{columns, list_of}
 
@@ -26,7 +27,8 @@ use Rattle.image_recovery.specs.Plans.{columns, list_of}
 -- has the image's shape and weight, in the next generation. No call is in flight, no node was locked in its run, and
 -- none is GONE or has a stamp. Both rows of its words are those of the image once it is recovered, all of it durable,
 -- with an empty log, a search layer that is exactly the list's, and no live slot out of its node's range; and the
--- volatile words tell the list, and of each node that it has no permutation. So the layer leads each name to its node.
+-- volatile words tell the list, what the layer's root leads to, and of each node that it has no permutation. So the
+-- layer leads each name to its node.
 pub record IsOpenedFrom (image : Row) (s : Index) : Type 0 where
   pub sound : IsSoundByAll image.layout image.words
   pub next : IsGeneration (suc (header_generation image.layout image.words))
@@ -42,6 +44,7 @@ pub record IsOpenedFrom (image : Row) (s : Index) : Type 0 where
   pub rests : Rests image.layout (list_of image) (columns image) (columns_in s.layout s.words Cached)
       (columns_in s.layout s.words Durable)
   pub tells : TellsList s.layout (list_of image) s.words
+  pub marks : MarksTellIn s.layout s.words
   pub orders : HaveNoOrders s.layout s.words
   pub weighs : index_weight s.layout (facts (world s)) ≡ image_weight image.layout image.words
   pub gone : gone_nodes s.layout.nodes (facts (world s)) ≡ 0

@@ -1,7 +1,7 @@
 -- A recovery between any two of its actions, and what is left where it is broken off.
 use Rattle.std.specs.Prelude.{◌≡◌, ℕ, suc, ◌+◌, ◌≤◌, ◌↔◌, [], None}
 use Rattle.pm_words.specs.Images.{Row, IsImage}
-use Rattle.pm_words.specs.Rows.{durable_row, evicted, row_of}
+use Rattle.pm_words.specs.Rows.{durable_row, evicted}
 use Rattle.cat_history.specs.Maps.{Map, map_of}
 use Rattle.cat_history.specs.Replays.{pairs_of}
 use Rattle.version_lock.specs.Versions.{IsGeneration}
@@ -12,7 +12,7 @@ use Rattle.image_rules.specs.Weights.{image_weight}
 use Rattle.image_layer_rules.specs.Sound.{IsSoundByAll}
 use Rattle.index_core.specs.Indexes.{parties_of}
 use Rattle.index_core.specs.PartyStates.{idle_states}
-use Rattle.image_recovery.specs.Recovered.{IsLeftOf, IsRecoverable}
+use Rattle.image_recovery.specs.Recovered.{IsLeftOf, IsOpenedOn, IsRecoverable}
 use Rattle.image_recovery.specs.Recoveries.{HasEnded, IsRecovering, MakesOne}
 use Rattle.recovery.specs.declared.stopping.Recovery.{Recovery}
 
@@ -34,12 +34,13 @@ pub record MayGoOn (r : Recovery) : Type 0 where
   pub image : Row
   pub is : IsRecoveryOf image r
 
--- It has begun, and made no action: the words are those of the image, all of them durable.
+-- It has begun, and made no action: the words are those of the image, all of them durable, but for the marks of what
+-- its layer reaches.
 pub record IsStarted (image : Row) (r : Recovery) : Type 0 where
   pub is : IsRecoveryOf image r
   pub none : r.moves.begun ≡ 0
   pub at_none : r.moves.making ≡ None
-  pub untouched : r.memory ≡ record { layout = image.layout; words = row_of image.layout image.words }
+  pub opened : IsOpenedOn image r.memory
 
 -- All its actions are made.
 abbrev pub IsDone : Recovery → Type 0

@@ -1,5 +1,5 @@
 -- How the volatile words of a recovered image come to tell its list.
-use Rattle.std.specs.Prelude.{◌≡◌, ℕ, ◌<◌, ◌⊎◌, List}
+use Rattle.std.specs.Prelude.{◌≡◌, ℕ, ◌<◌, ◌⊎◌, false, List}
 use Rattle.pm_words.specs.Codes.{live_status}
 use Rattle.pm_words.specs.declared.layout.Layout.{Layout}
 use Rattle.pm_words.specs.declared.action.Action.TheVariants.{Store}
@@ -8,14 +8,15 @@ use Rattle.pm_words.specs.Locations.{Location, Volatile, HasLocation, IsVolatile
 use Rattle.pm_words.specs.Rows.{acted}
 use Rattle.pm_words.specs.Offsets.{permutation_version_offset}
 use Rattle.data_node.specs.Lists.{MakeList}
+use Rattle.layer_map.specs.Places.{is_of_layer}
 use Rattle.call_stages.specs.Kinds.{prev_address, status_address}
 use Rattle.index_law.specs.Facts.{list_in, spot_in}
 
--- The nodes make a list, and no volatile word tells anything yet.
+-- The nodes make a list, and no volatile word tells anything yet, but for the marks of the layer.
 pub record IsUntold (l : Layout) (words : List ℕ) : Type 0 where
   pub some : 0 < l.nodes
   pub makes : MakeList l.nodes (spot_in l words) (list_in l words)
-  pub zero : (p : Location) → HasLocation l p → IsVolatile p → at l words p ≡ 0
+  pub zero : (p : Location) → HasLocation l p → IsVolatile p → is_of_layer p ≡ false → at l words p ≡ 0
 
 -- The status of a node, or its prev, or the version of its permutation.
 abbrev pub IsNodeMark : Location → Type 0

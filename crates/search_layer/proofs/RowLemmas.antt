@@ -1,183 +1,129 @@
--- What an action makes of the leaves that are read off a row.
-use Rattle.std.proofs.Common.{inl, inr, ◌⊎◌, ◌≡◌, ◌≢◌, ℕ, ◌<◌, ◌≤◌, ◌&&◌, Bool, true, false, cond, List, length, slice_index, slice_set, refl, sym, ap, ◌∙◌, subst, arith}
-use Rattle.std.specs.Prelude.{nat_lt}
-use Rattle.std.proofs.lemmas.Bool.{lt-ltb, ltb-true, cases_eq, cond_both, and_parts, and_from}
+-- The words of the layer in a row, and in an image.
+use Rattle.std.proofs.Common.{◌≡◌, ℕ, ◌<◌, ◌&&◌, true, false, inl, inr, cond, ltb, leb, refl, sym, ◌∙◌, arith, Bool, List, slice_set, ap}
+use Rattle.std.proofs.lemmas.Bool.{and_parts, ltb-true, leb-true, false≢true, lt-ltb}
 use Rattle.pm_words.specs.declared.layout.Layout.{Layout}
-use Rattle.std.proofs.lemmas.List.{get_or-set_same, get_or-set_other}
-use Rattle.pm_words.specs.Locations.{Word, Location, Cached, Durable, Leaf, HasLocation, address_of, word_number, leaf_count, row_words, image_words, durable_address, cached_address, at}
-use Rattle.pm_words.specs.Rows.{evicted}
-use Rattle.pm_words.proofs.Apart.{words_within, at-set_other, at-set_same}
-use Rattle.search_layer.specs.Leaves.{leaf_place}
-use Rattle.search_layer.specs.Rows.{layer_words, KeepsOthers, EvictionMixes}
-use Rattle.search_layer.specs.ChangeStages.{Stored}
-use Rattle.search_layer.specs.Rows.{AreEven, IsLayerMix, LayerWords, image_layer_words, LayerWordsStay, RowsAlike, ImagesAlike, EvenAreSame, MixesAreEven}
-use Rattle.pm_words.specs.Locations.{word_at}
-use Rattle.layer_map.specs.Places.{is_of_layer}
+use Rattle.pm_words.specs.Locations.{Word, Header, Root, Node, Line, Leaf, Cell, Location, Clock, Updater, Volatile, Mark, Cached, Durable, leaf_count, kind_words, at, word_at, HasLocation, address_of}
+use Rattle.pm_words.proofs.Apart.{at-set_other}
+use Rattle.tree_law.specs.Words.{LayerWord, RootWord, LeafWord, CellWord, room_of, tree_of}
+use Rattle.tree_law.proofs.StageLaw.{same_words}
+use Rattle.tree_law.proofs.TreeLaw.{layer_leads_to_nodes}
+use Rattle.tree_row.specs.Rows.{image_word, HasLayerWord, has_layer_word, layer_word, image_layer_word, IsOutsideWord, IsOutsideLayer}
+use Rattle.tree_row.specs.RowMarks.{IsNoMark, has_mark}
+use Rattle.tree_row.proofs.RowLaw.{outside_leaves, eviction_mixes}
+use Rattle.tree_row.proofs.MarkLaw.{store_leaves_marks, eviction_leaves_marks}
+use Rattle.layer_map.specs.Places.{is_layer_word, is_of_layer}
+use Rattle.search_layer.specs.Rows.{LayerWords, AreEven, IsLayerMix, root_words, LayerAlike, LayerWordsStay, RowsAlike, ImagesAlike, EvenAreSame, MixesAreEven, EvictionMixes}
+use Rattle.search_layer.specs.Kept.{KeptLeadsBelow}
 
-pub layer_words-here : (l : Layout) (words : List ℕ) (twin : Word → Location) (leaf o : ℕ) → leaf < leaf_count l → o < 8 → layer_words l words twin leaf o ≡ at l words (twin (Leaf leaf o))
-unfolding layer_words
-layer_words-here l words twin leaf o here small =
-    ap (λ b. cond b (at l words (twin (Leaf leaf o))) 0) (and_from (nat_lt leaf (leaf_count l)) (nat_lt o 8) (lt-ltb leaf (leaf_count l) here) (lt-ltb o 8 small))
+word_outside : (w : Word) → is_layer_word w ≡ false → IsOutsideWord w
+word_outside (Header o) e = tt
+word_outside (Root o) e = absurd (false≢true (sym e))
+word_outside (Node n o) e = tt
+word_outside (Line c j o) e = tt
+word_outside (Leaf k o) e = absurd (false≢true (sym e))
+word_outside (Cell kind k o) e = absurd (false≢true (sym e))
 
--- past the leaves' words there is none
-pub layer_words-past : (l : Layout) (words : List ℕ) (twin : Word → Location) (leaf o : ℕ) → 8 ≤ o → layer_words l words twin leaf o ≡ 0
-unfolding layer_words
-layer_words-past l words twin leaf o past =
-    cond_both (nat_lt leaf (leaf_count l) && nat_lt o 8) (at l words (twin (Leaf leaf o))) 0 (λ (x : ℕ). x ≡ 0)
-    (λ here. let parts = and_parts (nat_lt leaf (leaf_count l)) (nat_lt o 8) here in let small = ltb-true o 8 parts.1 in absurd (omega arith))
-    (λ e. refl)
+outside_layer : (p : Location) → is_of_layer p ≡ false → IsOutsideLayer p
+outside_layer Clock e = tt
+outside_layer Updater e = tt
+outside_layer (Volatile n o) e = tt
+outside_layer (Mark kind k) e = tt
+outside_layer (Cached w) e = word_outside w e
+outside_layer (Durable w) e = word_outside w e
 
-pub layer_words-alike : (l : Layout) (words words' : List ℕ) (twin : Word → Location) (leaf o : ℕ) → (leaf < leaf_count l → o < 8 → at l words' (twin (Leaf leaf o)) ≡ at l words (twin (Leaf leaf o)))
-    → layer_words l words' twin leaf o ≡ layer_words l words twin leaf o
-unfolding layer_words
-layer_words-alike l words words' twin leaf o same =
-    cond_both (nat_lt leaf (leaf_count l) && nat_lt o 8) (at l words' (twin (Leaf leaf o))) 0
-    (λ (x : ℕ). x ≡ cond (nat_lt leaf (leaf_count l) && nat_lt o 8) (at l words (twin (Leaf leaf o))) 0)
-    (λ here. let parts = and_parts (nat_lt leaf (leaf_count l)) (nat_lt o 8) here in
-    same (ltb-true leaf (leaf_count l) parts.0) (ltb-true o 8 parts.1) ∙ sym (rw here refl))
-    (λ past. sym (rw past refl))
+no_mark : (p : Location) → is_of_layer p ≡ false → IsNoMark p
+no_mark Clock e = tt
+no_mark Updater e = tt
+no_mark (Volatile n o) e = tt
+no_mark (Mark kind k) e = absurd (false≢true (sym e))
+no_mark (Cached w) e = tt
+no_mark (Durable w) e = tt
 
--- which leaf an address is of, and the offset
-abbrev leaf_at : Location → ℕ
-leaf_at (Cached (Leaf leaf o)) = leaf
-leaf_at (Durable (Leaf leaf o)) = leaf
-leaf_at _ = 0
+-- a number that a row has under a guard
+guarded_by : (b : Bool) (x y : ℕ) → (b ≡ true → y ≡ x) → cond b y 0 ≡ cond b x 0
+guarded_by true x y same = same refl
+guarded_by false x y same = refl
 
-abbrev offset_at : Location → ℕ
-offset_at (Cached (Leaf leaf o)) = o
-offset_at (Durable (Leaf leaf o)) = o
-offset_at _ = 0
+root_alike : (l : Layout) (words after : List ℕ) → ((o : ℕ) → o < 8 → at l after (Cached (Root o)) ≡ at l words (Cached (Root o))) → root_words l after ≡ root_words l words
+root_alike l words after same = λ x o. guarded_by (ltb o 8) (at l words (Cached (Root o))) (at l after (Cached (Root o))) (λ e. same o (ltb-true o 8 e)) x
 
--- a store at a leaf's cached word
-pub leaf_stored : (l : Layout) (words : List ℕ) (leaf o y : ℕ) → length words ≡ row_words l → leaf < leaf_count l → o < 8
-    → Stored (layer_words l words Cached) (layer_words l (slice_set words (leaf_place l leaf o) y) Cached) leaf o y
-leaf_stored l words leaf o y whole here small =
-    let has : HasLocation l (Cached (Leaf leaf o)) = (here, small) in
+pub root_word : (l : Layout) (words after : List ℕ) → root_words l after ≡ root_words l words → (o : ℕ) → o < 8 → at l after (Cached (Root o)) ≡ at l words (Cached (Root o))
+root_word l words after same o lt =
+    sym (ap (λ b. cond b (at l after (Cached (Root o))) 0) (lt-ltb o 8 lt)) ∙ ap (λ f. f o) same ∙ ap (λ b. cond b (at l words (Cached (Root o))) 0) (lt-ltb o 8 lt)
+
+pub layer_words_stay : LayerWordsStay
+layer_words_stay l words p word has e =
+    let twins = outside_leaves l words p word has (outside_layer p e) in
     record {
-      here = layer_words-here l (slice_set words (leaf_place l leaf o) y) Cached leaf o here small ∙ at-set_same l words (Cached (Leaf leaf o)) y whole has;
-      others = λ i p apart. layer_words-alike l words (slice_set words (leaf_place l leaf o) y) Cached i p
-          (λ there inside. at-set_other l words (Cached (Leaf leaf o)) (Cached (Leaf i p)) y has (there, inside) (λ e. apart (ap leaf_at e) (ap offset_at e)));
+      cached = twins.0;
+      durable = twins.1;
+      marks = store_leaves_marks l words p word has (no_mark p e);
+      root = root_alike l words (slice_set words (address_of l p) word) (λ o lt. at-set_other l words p (Cached (Root o)) word has lt (λ same. false≢true (sym e ∙ ap is_of_layer (sym same))));
     }
 
--- it leaves the durable ones
-pub durable_kept : (l : Layout) (words : List ℕ) (leaf o y : ℕ) → leaf < leaf_count l → o < 8
-    → layer_words l (slice_set words (leaf_place l leaf o) y) Durable ≡ layer_words l words Durable
-durable_kept l words leaf o y here small =
-    let same : (i p : ℕ) → layer_words l (slice_set words (leaf_place l leaf o) y) Durable i p ≡ layer_words l words Durable i p =
-    λ i p. layer_words-alike l words (slice_set words (leaf_place l leaf o) y) Durable i p
-    (λ there inside. at-set_other l words (Cached (Leaf leaf o)) (Durable (Leaf i p)) y (here, small) (there, inside) (λ e. cc)) in
-    λ k i p. same i p k
+pub has_from : (l : Layout) (p : LayerWord) → has_layer_word l p ≡ true → HasLayerWord l p
+has_from l RootWord e = let first : 0 < 8 = omega arith in first
+has_from l (LeafWord i o) e = let parts = and_parts (ltb i (leaf_count l)) (ltb o 8) e in (ltb-true _ _ parts.0, ltb-true _ _ parts.1)
+has_from l (CellWord kind n o) e =
+    let offset = and_parts (leb 2 kind && leb kind 5 && ltb n (leaf_count l)) (ltb o (kind_words kind)) e in
+    let number = and_parts (leb 2 kind && leb kind 5) (ltb n (leaf_count l)) offset.0 in
+    let kinds = and_parts (leb 2 kind) (leb kind 5) number.0 in
+    (leb-true _ _ kinds.0, leb-true _ _ kinds.1, ltb-true _ _ number.1, ltb-true _ _ offset.1)
 
--- a store at a leaf's durable word
-pub durable_stored : (l : Layout) (words : List ℕ) (leaf o y : ℕ) → length words ≡ row_words l → leaf < leaf_count l → o < 8
-    → Stored (layer_words l words Durable) (layer_words l (slice_set words (address_of l (Durable (Leaf leaf o))) y) Durable) leaf o y
-durable_stored l words leaf o y whole here small =
-    let has : HasLocation l (Durable (Leaf leaf o)) = (here, small) in
-    record {
-      here = layer_words-here l (slice_set words (address_of l (Durable (Leaf leaf o))) y) Durable leaf o here small ∙ at-set_same l words (Durable (Leaf leaf o)) y whole has;
-      others = λ i p apart. layer_words-alike l words (slice_set words (address_of l (Durable (Leaf leaf o))) y) Durable i p
-          (λ there inside. at-set_other l words (Durable (Leaf leaf o)) (Durable (Leaf i p)) y has (there, inside) (λ e. apart (ap leaf_at e) (ap offset_at e)));
-    }
+pub is_place : (p : LayerWord) → is_layer_word (image_word p) ≡ true
+is_place RootWord = refl
+is_place (LeafWord i o) = refl
+is_place (CellWord kind n o) = refl
 
-pub cached_kept : (l : Layout) (words : List ℕ) (leaf o y : ℕ) → leaf < leaf_count l → o < 8
-    → layer_words l (slice_set words (address_of l (Durable (Leaf leaf o))) y) Cached ≡ layer_words l words Cached
-cached_kept l words leaf o y here small =
-    let same : (i p : ℕ) → layer_words l (slice_set words (address_of l (Durable (Leaf leaf o))) y) Cached i p ≡ layer_words l words Cached i p =
-    λ i p. layer_words-alike l words (slice_set words (address_of l (Durable (Leaf leaf o))) y) Cached i p
-    (λ there inside. at-set_other l words (Durable (Leaf leaf o)) (Cached (Leaf i p)) y (here, small) (there, inside) (λ e. cc)) in
-    λ k i p. same i p k
+-- a number that a row or an image has at each word of the layer
+guarded : (l : Layout) (p : LayerWord) (x y : ℕ) → (HasLayerWord l p → y ≡ x) → cond (has_layer_word l p) y 0 ≡ cond (has_layer_word l p) x 0
+guarded l p x y same = elim (has_layer_word l p) as (λ a. has_layer_word l p ≡ a → cond a y 0 ≡ cond a x 0) [ true ↦ λ e. same (has_from l p e) | false ↦ λ e. refl ] refl
 
--- a store at a leaf's word keeps every other
-pub cached_keeps_others : (l : Layout) (words : List ℕ) (leaf o y : ℕ) → leaf < leaf_count l → o < 8 → KeepsOthers l words (slice_set words (leaf_place l leaf o) y)
-cached_keeps_others l words leaf o y here small p has outside = at-set_other l words (Cached (Leaf leaf o)) p y (here, small) has (λ e. let no : false ≡ true = sym outside ∙ ap is_of_layer e in cc)
-
-pub durable_keeps_others : (l : Layout) (words : List ℕ) (leaf o y : ℕ) → leaf < leaf_count l → o < 8 → KeepsOthers l words (slice_set words (address_of l (Durable (Leaf leaf o))) y)
-durable_keeps_others l words leaf o y here small p has outside = at-set_other l words (Durable (Leaf leaf o)) p y (here, small) has (λ e. let no : false ≡ true = sym outside ∙ ap is_of_layer e in cc)
-
--- an eviction
-evicted_cached : (l : Layout) (words : List ℕ) (word leaf o : ℕ) → word < image_words l → leaf < leaf_count l → o < 8 → at l (evicted l words word) (Cached (Leaf leaf o)) ≡ at l words (Cached (Leaf leaf o))
-evicted_cached l words word leaf o inside here small =
-    let within : word_number l (Leaf leaf o) < image_words l = words_within l (Leaf leaf o) (here, small) in
-    get_or-set_other words (durable_address l word) (address_of l (Cached (Leaf leaf o))) (slice_index words (cached_address l word)) 0 (λ e. omega (arith, e))
-
-evicted_durable : (l : Layout) (words : List ℕ) (word leaf o : ℕ) → length words ≡ row_words l → word < image_words l → leaf < leaf_count l → o < 8
-    → (at l (evicted l words word) (Durable (Leaf leaf o)) ≡ at l words (Cached (Leaf leaf o))) ⊎ (at l (evicted l words word) (Durable (Leaf leaf o)) ≡ at l words (Durable (Leaf leaf o)))
-evicted_durable l words word leaf o whole inside here small =
-    let within : word_number l (Leaf leaf o) < image_words l = words_within l (Leaf leaf o) (here, small) in
-    elim (cases_eq word (word_number l (Leaf leaf o))) [
-      | inl same ↦ inl (subst (λ n. slice_index (slice_set words (durable_address l n) (slice_index words (cached_address l n))) (address_of l (Durable (Leaf leaf o))) ≡ at l words (Cached (Leaf leaf o))) (sym same)
-          (get_or-set_same words (durable_address l (word_number l (Leaf leaf o))) (slice_index words (cached_address l (word_number l (Leaf leaf o)))) 0 (omega (arith, whole))))
-      | inr apart ↦ inr (get_or-set_other words (durable_address l word) (address_of l (Durable (Leaf leaf o))) (slice_index words (cached_address l word)) 0 (λ e. apart (omega (arith, e))))
-    ]
-
-pub eviction_mixes : EvictionMixes
-eviction_mixes l words word whole inside =
-    let same : (i p : ℕ) → layer_words l (evicted l words word) Cached i p ≡ layer_words l words Cached i p =
-    λ i p. layer_words-alike l words (evicted l words word) Cached i p (λ here small. evicted_cached l words word i p inside here small) in
-    record {
-      cached = λ k i p. same i p k;
-      durable = λ i p. mixes i p (nat_lt i (leaf_count l) && nat_lt p 8) refl;
-    }
-  where
-    mixes : (i p : ℕ) (b : Bool) → (nat_lt i (leaf_count l) && nat_lt p 8) ≡ b
-        → (layer_words l (evicted l words word) Durable i p ≡ layer_words l words Cached i p) ⊎ (layer_words l (evicted l words word) Durable i p ≡ layer_words l words Durable i p)
-    mixes i p true is =
-        let parts = and_parts (nat_lt i (leaf_count l)) (nat_lt p 8) is in
-        let here : i < leaf_count l = ltb-true i (leaf_count l) parts.0 in
-        let small : p < 8 = ltb-true p 8 parts.1 in
-        elim (evicted_durable l words word i p whole inside here small) [
-          | inl new ↦ inl (layer_words-here l (evicted l words word) Durable i p here small ∙ new ∙ sym (layer_words-here l words Cached i p here small))
-          | inr old ↦ inr (layer_words-here l (evicted l words word) Durable i p here small ∙ old ∙ sym (layer_words-here l words Durable i p here small))
-        ]
-    mixes i p false is = inr (layer_words-alike l words (evicted l words word) Durable i p
-        (λ here small. let yes : (nat_lt i (leaf_count l) && nat_lt p 8) ≡ true = and_from (nat_lt i (leaf_count l)) (nat_lt p 8) (lt-ltb i (leaf_count l) here) (lt-ltb p 8 small) in
-        let no_way : true ≡ false = sym yes ∙ is in absurd cc))
-
--- words of the layer alike
 pub rows_alike : RowsAlike
-unfolding layer_words
-rows_alike l words after twin other same =
-    let each : (leaf o : ℕ) → layer_words l after other leaf o ≡ layer_words l words twin leaf o =
-    λ leaf o. cond_both (nat_lt leaf (leaf_count l) && nat_lt o 8) (at l after (other (Leaf leaf o))) 0
-    (λ (x : ℕ). x ≡ cond (nat_lt leaf (leaf_count l) && nat_lt o 8) (at l words (twin (Leaf leaf o))) 0)
-    (λ here. let parts = and_parts (nat_lt leaf (leaf_count l)) (nat_lt o 8) here in
-    same (Leaf leaf o) (record { of_layer = refl; there = (ltb-true leaf (leaf_count l) parts.0, ltb-true o 8 parts.1) }) ∙ sym (rw here refl))
-    (λ past. sym (rw past refl)) in
-    λ k leaf o. each leaf o k
+rows_alike l words after twin other same = λ x. record { root = word RootWord x; leaf = λ i o. word (LeafWord i o) x; cell = λ kind n o. word (CellWord kind n o) x }
+  where
+    word : (p : LayerWord) → layer_word l after other p ≡ layer_word l words twin p
+    word p = guarded l p (at l words (twin (image_word p))) (at l after (other (image_word p))) (λ has. same (image_word p) (record { of_layer = is_place p; there = has }))
 
 pub images_alike : ImagesAlike
-unfolding layer_words image_layer_words
-images_alike l words image twin same =
-    let each : (leaf o : ℕ) → image_layer_words l image leaf o ≡ layer_words l words twin leaf o =
-    λ leaf o. cond_both (nat_lt leaf (leaf_count l) && nat_lt o 8) (word_at l image (Leaf leaf o)) 0
-    (λ (x : ℕ). x ≡ cond (nat_lt leaf (leaf_count l) && nat_lt o 8) (at l words (twin (Leaf leaf o))) 0)
-    (λ here. let parts = and_parts (nat_lt leaf (leaf_count l)) (nat_lt o 8) here in
-    same (Leaf leaf o) (record { of_layer = refl; there = (ltb-true leaf (leaf_count l) parts.0, ltb-true o 8 parts.1) }) ∙ sym (rw here refl))
-    (λ past. sym (rw past refl)) in
-    λ k leaf o. each leaf o k
+images_alike l words image twin same = λ x. record { root = word RootWord x; leaf = λ i o. word (LeafWord i o) x; cell = λ kind n o. word (CellWord kind n o) x }
+  where
+    word : (p : LayerWord) → image_layer_word l image p ≡ layer_word l words twin p
+    word p = guarded l p (at l words (twin (image_word p))) (word_at l image (image_word p)) (λ has. same (image_word p) (record { of_layer = is_place p; there = has }))
 
--- a store beside the layer
-pub layer_words_stay : LayerWordsStay
-layer_words_stay l words p word has outside =
-    let other : (q : Location) → is_of_layer q ≡ true → q ≢ p = λ q of_layer e. let no : false ≡ true = sym outside ∙ ap is_of_layer (sym e) ∙ of_layer in cc in
-    record {
-      cached = rows_alike l words (slice_set words (address_of l p) word) (λ w. Cached w) (λ w. Cached w) (λ w place. at-set_other l words p (Cached w) word has place.there (other (Cached w) place.of_layer));
-      durable = rows_alike l words (slice_set words (address_of l p) word) (λ w. Durable w) (λ w. Durable w) (λ w place. at-set_other l words p (Durable w) word has place.there (other (Durable w) place.of_layer));
-    }
+mark_has : (l : Layout) (kind n : ℕ) → has_mark l kind n ≡ true → HasLocation l (Mark kind n)
+mark_has l kind n e =
+    let number = and_parts (leb 1 kind && leb kind 5) (ltb n (leaf_count l)) e in
+    let kinds = and_parts (leb 1 kind) (leb kind 5) number.0 in
+    (leb-true _ _ kinds.0, leb-true _ _ kinds.1, ltb-true _ _ number.1)
 
--- words that are all durable
+pub layer_alike : LayerAlike
+layer_alike l words after same = record {
+  cached = rows_alike l words after Cached Cached (λ w place. same (Cached w) place.there place.of_layer);
+  durable = rows_alike l words after Durable Durable (λ w place. same (Durable w) place.there place.of_layer);
+  marks = λ x kind n. guarded_by (has_mark l kind n) (at l words (Mark kind n)) (at l after (Mark kind n)) (λ e. same (Mark kind n) (mark_has l kind n e) refl) x;
+  root = root_alike l words after (λ o lt. same (Cached (Root o)) lt refl);
+}
+
 pub even_are_same : EvenAreSame
-even_are_same w s even = λ k i o. even i o k
+even_are_same w s even = same_words w s even
 
 pub mixes_are_even : MixesAreEven
-mixes_are_even w s mix even is i o = elim (is i o) [ inl a ↦ a | inr b ↦ b ∙ even i o ]
-
--- each of the two is a mix
-pub mix_of_cached : (w s : LayerWords) → IsLayerMix w s w
-mix_of_cached w s i o = inl refl
-
-pub mix_of_durable : (w s : LayerWords) → IsLayerMix w s s
-mix_of_durable w s i o = inr refl
+mixes_are_even w s mix even is p = elim (is p) [ inl cached ↦ cached | inr durable ↦ durable ∙ even p ]
 
 pub even_with_itself : (w : LayerWords) → AreEven w w
-even_with_itself w i o = refl
+even_with_itself w p = refl
+
+pub mix_of_cached : (w s : LayerWords) → IsLayerMix w s w
+mix_of_cached w s p = inl refl
+
+pub mix_of_durable : (w s : LayerWords) → IsLayerMix w s s
+mix_of_durable w s p = inr refl
+
+pub row_eviction_mixes : EvictionMixes
+row_eviction_mixes l words word whole within =
+    let mixes = eviction_mixes l words word whole in
+    record { cached = mixes.0; durable = mixes.1; marks = eviction_leaves_marks l words word }
+
+pub kept_leads_below : KeptLeadsBelow
+kept_leads_below l w is = layer_leads_to_nodes (room_of (leaf_count l) l.nodes) (tree_of w) is.tree

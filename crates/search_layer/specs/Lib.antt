@@ -1,10 +1,8 @@
 pub mod Rows
-pub mod Leaves
 pub mod Kept
-pub mod Reading
-pub mod FloorSteps
-pub mod ChangeSteps
-pub mod SetSteps
 pub mod ChangeStages
 pub mod Laws
-pub mod Runs
+pub mod Beside
+pub mod RootLine
+pub mod Floors
+pub mod Fresh

@@ -1,35 +1,32 @@
-//! The laws of the layer and of its machines. The functions do nothing: each names what is proved.
-ghost use Rattle.search_layer.specs.Rows.{LayerWordsStay, RowsAlike, ImagesAlike, EvenAreSame, MixesAreEven};
-ghost use Rattle.search_layer.specs.Rows.{EvictionMixes};
-ghost use Rattle.search_layer.specs.Leaves.{LeavesLead, LayerIsFinite, LayerLeadsToNodes, FewIsCount};
-ghost use Rattle.search_layer.specs.Kept.{KeptLeadsBelow};
-ghost use Rattle.search_layer.specs.Laws.{FloorIsExact, FloorAnswersANode, FloorStays, FloorOnlyLoads, FloorTold};
-ghost use Rattle.search_layer.specs.Laws.{FloorGoesOn, ChangesAreSteps, ChangesStayOnLayer};
-ghost use Rattle.search_layer.specs.Laws.{ChangesStaySound, SetsStaySound, UnsetsStaySound, ChangeStepKeeps};
-ghost use Rattle.search_layer.specs.Laws.{ChangeCanAct, ChangeIsBacked, ChangeEvicts, UnsetKeepsZero};
-ghost use Rattle.search_layer.specs.Laws.{LeavesAreBacked, LeavesEvict};
-ghost use Rattle.search_layer.specs.Laws.{ChangeBegins, ChangeEnds, LayerIsEither, MixIsEither, StepIsEither};
-ghost use Rattle.search_layer.specs.Laws.{SetsBeginSound, UnsetsBeginSound, FreshIsAtRest};
-ghost use Rattle.search_layer.specs.Runs.{EachMomentKeeps, RunsEndChanged};
+//! The laws, for the proofs of crates above. The functions do nothing: each names what is proved.
 
-/// A store of a word that isn't of the layer leaves those of the layer, and rows and images that have them alike have
-/// one layer. Whichever word becomes durable by itself makes a mix of the cached and the durable ones; where all were
-/// durable, they stay so.
+ghost use Rattle.search_layer.specs.Rows.{LayerWordsStay, RowsAlike, ImagesAlike, EvenAreSame, MixesAreEven};
+ghost use Rattle.search_layer.specs.Rows.{LayerAlike, EvictionMixes};
+ghost use Rattle.search_layer.specs.Kept.{KeptLeadsBelow};
+ghost use Rattle.search_layer.specs.Floors.{FloorIsExact, FloorAnswersANode, FloorStays, FloorGoesOn};
+ghost use Rattle.search_layer.specs.Floors.{FloorOnlyLoads, FloorTold};
+ghost use Rattle.search_layer.specs.Laws.{ChangesAreSteps, ChangesStaySound, SetsStaySound, UnsetsStaySound};
+ghost use Rattle.search_layer.specs.Laws.{SetsBeginSound, UnsetsBeginSound, ChangesStayOnLayer};
+ghost use Rattle.search_layer.specs.Laws.{ChangeStepKeeps, ChangeCanAct, ChangeIsBacked, ChangeEvicts};
+ghost use Rattle.search_layer.specs.Laws.{ChangeBegins, ChangeEnds, LayerIsEither, MixIsEither, StepIsEither};
+ghost use Rattle.search_layer.specs.Laws.{UnsetKeepsZero, LayerStaysRooted, MixStaysRooted, RootedBegins};
+ghost use Rattle.search_layer.specs.Beside.{BesideLeavesLayer, DrainIsEviction, SureStays, OthersKeep};
+ghost use Rattle.search_layer.specs.Beside.{EvictionsKeep, RestStays, RestOutlasts, RestEvicts};
+ghost use Rattle.search_layer.specs.RootLine.{RootBegins, RootStepKeeps, RootOutlasts, RootOthersKeep};
+ghost use Rattle.search_layer.specs.RootLine.{RootEvictionsKeep};
+ghost use Rattle.search_layer.specs.Fresh.{FreshIsAtRest};
+
+/// A store of a word that isn't of the layer leaves the layer's words and the marks, and rows and images that have the
+/// former alike have one layer. Whichever word becomes durable by itself makes a mix of the cached and the durable
+/// ones; where all were durable, they stay so.
 pub fn row_law()
     ensures stays { LayerWordsStay }
+    ensures layers { LayerAlike }
     ensures alike { RowsAlike }
     ensures images { ImagesAlike }
     ensures same { EvenAreSame }
     ensures even { MixesAreEven }
     ensures mixes { EvictionMixes }
-{}
-
-/// A row of leaves in order keeps a finite map from keys to nodes, whose keys are as many as its leaves in use.
-pub fn layer_law()
-    ensures leads { LeavesLead }
-    ensures finite { LayerIsFinite }
-    ensures nodes { LayerLeadsToNodes }
-    ensures few { FewIsCount }
     ensures kept { KeptLeadsBelow }
 {}
 
@@ -44,29 +41,26 @@ pub fn floor_law()
     ensures told { FloorTold }
 {}
 
-/// Each turn of a change, whatever number it is told, is a step of one of the kinds, on a word of the layer, and leaves
-/// it sound; so with sets and unsets.
+/// Each turn of a change, whatever number it is told, is a step, on a word of the layer, and leaves it sound; so with
+/// sets and unsets.
 pub fn turn_law()
     ensures steps { ChangesAreSteps }
-    ensures on_layer { ChangesStayOnLayer }
     ensures sound { ChangesStaySound }
     ensures set { SetsStaySound }
     ensures unset { UnsetsStaySound }
     ensures set_begins { SetsBeginSound }
     ensures unset_begins { UnsetsBeginSound }
+    ensures on_layer { ChangesStayOnLayer }
 {}
 
-/// A step of a change may be done, and keeps the row in order; the switch store changes the layer at the key, and no
-/// other step changes it. Between steps the cached row, the durable row and each mix of the two are in order, with the
-/// layer before up to the switch store, and the changed one once that is durable; all words are durable before it.
+/// A step of a change may be done, keeps the row in order and what its stage knows; the switch store changes the layer
+/// at the key, and no other step changes it. Between steps the cached row, the durable row and each mix of the two are
+/// in order, with the layer before up to the switch store, and the changed one once that is durable.
 pub fn change_law()
     ensures acts { ChangeCanAct }
     ensures keeps { ChangeStepKeeps }
     ensures backed { ChangeIsBacked }
     ensures evicts { ChangeEvicts }
-    ensures leaves_backed { LeavesAreBacked }
-    ensures leaves_evict { LeavesEvict }
-    ensures zero { UnsetKeepsZero }
 {}
 
 /// A change may begin where all is durable, and all is durable again once it is done. At each moment the cached layer
@@ -79,15 +73,39 @@ pub fn stage_law()
     ensures step { StepIsEither }
 {}
 
-/// A set or an unset that begins on a row at rest, beside parties that leave the layer to it and under any evictions:
-/// at each moment, whichever words become durable, they are in order and their layer is that before the change or the
-/// one that it makes; and once it is done, it is the latter, and all words of the layer are durable.
-pub fn run_law()
-    ensures moments { EachMomentKeeps }
-    ensures ends { RunsEndChanged }
+/// Where the zero key leads somewhere it does so at every moment of a set, and of an unset of another key, which may
+/// begin there; an unset leaves it where it led.
+pub fn zero_law()
+    ensures zero { UnsetKeepsZero }
+    ensures layer { LayerStaysRooted }
+    ensures mix { MixStaysRooted }
+    ensures begins { RootedBegins }
 {}
 
-/// The row of a fresh image is at rest, with the zero key alone: so the laws are not empty.
+/// Parties that leave the layer's words and the marks to it keep what a change knows of the row, and so does whatever
+/// becomes durable by itself, or is drained as it is cached. A layer at rest stays at rest.
+pub fn beside_law()
+    ensures leaves { BesideLeavesLayer }
+    ensures drains { DrainIsEviction }
+    ensures stays { SureStays }
+    ensures others { OthersKeep }
+    ensures evicts { EvictionsKeep }
+    ensures rests { RestStays }
+    ensures outlasts { RestOutlasts }
+    ensures rest_evicts { RestEvicts }
+{}
+
+/// The words of the root's line behind the first are drained with it, as they are cached: a change leaves the cached
+/// ones and, but for that, the durable ones. So where they are 0 they stay so.
+pub fn root_law()
+    ensures begins { RootBegins }
+    ensures keeps { RootStepKeeps }
+    ensures outlasts { RootOutlasts }
+    ensures others { RootOthersKeep }
+    ensures evicts { RootEvictionsKeep }
+{}
+
+/// The layer of a fresh image is in order, with the zero key alone: so the laws are not empty.
 pub fn fresh_law()
     ensures { FreshIsAtRest }
 {}

@@ -1,23 +1,14 @@
 //! The search layer: which node to begin with in looking for a name.
 //!
-//! It is a finite map from keys to nodes (`layer_map`), kept in a row of leaves. A key is three words, zero or those of
-//! a name, and names compare as their keys do. `Floor` reads the row beside whoever changes it, and is exact where
-//! nobody does. `Set` and `Unset` change one key, by one store of a node word each; the holder of the updater lock
-//! alone runs them. Crates above say of the words no more than `specs/Rows` and `specs/Kept` do, so none of them knows
-//! of a leaf.
+//! It is a finite map from keys to nodes (`layer_map`), kept in a radix tree of leaves and cells. A key is three words,
+//! zero or those of a name, and names compare as their keys do. The `Floor` of `tree_floor` reads the tree beside
+//! whoever changes it, and is exact where nobody does. The `Set` and `Unset` of `tree_update` change one key, by one
+//! store of a reference or of a node word each; the holder of the updater lock alone runs them. Here stands what crates
+//! above say of the layer's words and of these machines: no more than `specs/` says, so none of them knows of a leaf or
+//! of a cell.
+//!
+//! A stage of a change is its machine's state. A party beside the updater leaves the words of the layer and the marks,
+//! and so what a stage knows.
 #![tactic(auto)]
 
-mod alone;
-mod change;
-mod floor;
-mod key;
 pub mod laws;
-mod reader;
-mod set;
-
-pub use alone::{floor_alone, set_alone, unset_alone};
-pub use change::{Change, ChangeAt};
-pub use floor::{Entry, Floor};
-pub use key::Key;
-pub use reader::{Read, Reader, ReaderAt};
-pub use set::{Set, Unset};

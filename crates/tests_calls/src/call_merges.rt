@@ -4,23 +4,22 @@ ghost use Rattle.std.specs.Prelude.{◌≡◌};
 ghost use Rattle.pm_words.specs.Layouts.{IsLayout};
 
 use crate::calls::{Ask, del, done, done_after, get, is_answered, put, see_calls, three_nodes};
-use crate::rows::{B, FREE, G, GONE, READY, ROW, Row, line_at, node_at, volatile_at};
+use crate::rows::{B, FLOOR, FREE, G, GONE, READY, ROW, Row, line_at, node_at, volatile_at};
 use call_stages::{Once, Placed};
 use pm_words::offsets::{line, node, volatile};
 use pm_words::{Again, Layout};
 use std::process::Abort;
 use std::test::Fail;
 
-/// Node 0 gets the names a and b, and node 2 the name g. The floor takes 7 loads, since no leaf is used, a walk to node
-/// 0 takes 9, and one to node 2 as many more; a put of a new name takes 67 actions behind the walk.
+/// Node 0 gets the names a and b, and node 2 the name g. A walk to node 0 takes 9 loads, and one to node 2 as many more; a put of a new name takes 67 actions behind the walk.
 fn three_names(rt: &impl Abort, row: &mut Row)
     ensures { row.new.layout ≡ row.old.layout }
 {
     three_nodes(rt, row);
     let calls = [
-        (put(b'a', 1), done(None, 0), 7 + 9 + 67),
-        (put(b'b', 2), done(None, 1), 7 + 9 + 67),
-        (put(b'g', 3), done_after(None, 2, 1), 7 + 9 + 9 + 67),
+        (put(b'a', 1), done(None, 0), FLOOR + 9 + 67),
+        (put(b'b', 2), done(None, 1), FLOOR + 9 + 67),
+        (put(b'g', 3), done_after(None, 2, 1), FLOOR + 9 + 9 + 67),
     ];
     see_calls(rt, row, &calls);
 }
@@ -94,12 +93,12 @@ fn see_merged(rt: &impl Abort, row: &Row) {
     assert_eq!(rt; around, [READY, GONE, 0, 0]);
 }
 
-/// A delete that leaves one name, beside a node that has one, merges. Actions: 7 for the floor, 9 for the walk, 15
+/// A delete that leaves one name, beside a node that has one, merges. Behind the floor, actions: 9 for the walk, 15
 /// until the name is found, next, 17 for a line, 17 for the bitmap, and the add; then 20 up to the words of both nodes,
 /// 40 for the opened line, 8 loads and stores for the copy, a store of fingerprints, 32 for two lines, 17 for the
 /// bitmap, 17 for the switch, 3 for GONE and prevs, 17 for READY, and 2 stores. Its line is left READY.
 fn merges(rt: &impl Abort, row: &mut Row) {
-    let actions = 67 + 20 + 40 + 8 + 1 + 32 + 17 + 17 + 3 + 17 + 2;
+    let actions = FLOOR + 60 + 20 + 40 + 8 + 1 + 32 + 17 + 17 + 3 + 17 + 2;
     let is_merged = is_answered(rt, row, del(b'a'), done(Some(1), 3), actions);
     let stores = stores_of_merge(rt, &row.layout);
     assert_eq!(rt;
@@ -107,7 +106,7 @@ fn merges(rt: &impl Abort, row: &mut Row) {
         (true, stores.len())
     );
     see_merged(rt, row);
-    let is_found = is_answered(rt, row, get(b'g'), done(Some(3), 4), 7 + 9 + 15);
+    let is_found = is_answered(rt, row, get(b'g'), done(Some(3), 4), FLOOR + 9 + 15);
     assert!(rt; is_found);
 }
 
@@ -124,8 +123,8 @@ fn a_delete_merges_its_node_with_the_next(rt: HostRuntime) -> Result<(), Fail> {
 /// the neighbour's version, locks that, loads its bitmap, and gives both back.
 fn merges_nothing(rt: &impl Abort, row: &mut Row) {
     let calls = [
-        (put(b'h', 4), done_after(None, 3, 1), 7 + 9 + 9 + 67),
-        (del(b'a'), done(Some(1), 4), 67 + 7),
+        (put(b'h', 4), done_after(None, 3, 1), FLOOR + 9 + 9 + 67),
+        (del(b'a'), done(Some(1), 4), FLOOR + 60 + 7),
     ];
     see_calls(rt, row, &calls);
     let words = [
@@ -162,8 +161,8 @@ fn mark_all(rt: &impl Abort, row: &mut Row)
 /// At the end of the list a delete that leaves few names takes no line.
 fn calls_at_the_end() -> [(Ask, Once<Placed>, u64); 2] {
     [
-        (put(b'a', 1), done(None, 0), 5 + 6 + 67),
-        (del(b'a'), done(Some(1), 1), 5 + 6 + 35),
+        (put(b'a', 1), done(None, 0), FLOOR + 6 + 67),
+        (del(b'a'), done(Some(1), 1), FLOOR + 6 + 35),
     ]
 }
 
@@ -184,7 +183,7 @@ fn finds_no_line(rt: &impl Abort, row: &mut Row)
     ensures { row.new.layout ≡ row.old.layout }
 {
     let full = Once::Again(Again::LogFull);
-    let is_full = is_answered(rt, row, del(b'a'), full, 7 + 9 + 15 + 1 + 8 + 1);
+    let is_full = is_answered(rt, row, del(b'a'), full, FLOOR + 9 + 15 + 1 + 8 + 1);
     let words = [(0, node::BITMAP, 0b11, 0b11), (0, node::NEXT, 2, 2)];
     assert_eq!(rt; (is_full, row.other_twins(rt, &words)), (true, words.len()));
     let is_ready = row.state(rt, 0) == (READY, READY);
@@ -194,9 +193,9 @@ fn finds_no_line(rt: &impl Abort, row: &mut Row)
 /// One that leaves more names needs no line.
 fn calls_without_a_line() -> [(Ask, Once<Placed>, u64); 3] {
     [
-        (put(b'c', 5), done(None, 3), 7 + 9 + 67),
-        (put(b'd', 6), done(None, 4), 7 + 9 + 67),
-        (del(b'a'), done(Some(1), 5), 7 + 9 + 34),
+        (put(b'c', 5), done(None, 3), FLOOR + 9 + 67),
+        (put(b'd', 6), done(None, 4), FLOOR + 9 + 67),
+        (del(b'a'), done(Some(1), 5), FLOOR + 9 + 34),
     ]
 }
 

@@ -7,7 +7,8 @@ ghost use Rattle.node_ops.specs.RunningSteps.{IsRunning, Sound, running_leads, r
 ghost use Rattle.node_ops.specs.CallStages.{SoundAfter};
 
 use crate::rows::{
-    A, FREE, G, P, READY, ROW, RUN, Row, leaf_at, may_tell, node_at, volatile_at, word_of,
+    A, FLOOR, FORM_4, FREE, G, LEAF, P, READY, ROW, RUN, Row, cell_at, leaf_at, may_tell, node_at,
+    root_at, volatile_at, word_of,
 };
 use call_stages::{Once, Placed, View};
 use cat_key::Name;
@@ -179,7 +180,7 @@ pub(crate) fn done_after(old: Option<u64>, place: u64, hops: u64) -> Once<Placed
 
 /// Puts, gets and deletes on a node of four slots, one after another: what each answers, and in how many actions.
 ///
-/// The floor takes 5 loads, one for each leaf, since none is used. A walk to the one node takes 6 loads: version,
+/// The floor takes 5 loads: the root's word refers to a leaf, which has three words of a key and a node word. A walk to the one node takes 6 loads: version,
 /// status, three words of the anchor, and next. The look-up of a write takes 11 actions more until the fingerprints are
 /// loaded, the lock, the clock, the bitmap and eight words of fingerprints, and three or four for each slot with the
 /// name's fingerprint. A get takes no lock, so it has one action less there; it loads the version again at its end, and
@@ -198,19 +199,19 @@ fn calls_on_four_slots() -> [(Ask, Once<Placed>, u64); 13] {
         limit: 8,
     };
     [
-        (put(b'a', 1), done(None, 0), 5 + 73),
-        (put(b'b', 2), done(None, 1), 5 + 73),
-        (put(b'c', 3), done(None, 2), 5 + 73),
-        (put(b'd', 4), done(None, 3), 5 + 73),
-        (put(b'a', 9), done(Some(1), 4), 5 + 40),
-        (put(b'e', 5), Once::Again(Again::NoFree), 5 + 37),
-        (get(b'a'), done(Some(9), 5), 5 + 21),
-        (get(b'e'), done(None, 5), 5 + 17),
-        (del(b'b'), done(Some(2), 5), 5 + 40),
-        (del(b'b'), done(None, 6), 5 + 19),
-        (put(b'a', 10), done(Some(9), 7), 5 + 77),
-        (late, spent, 5 + 9),
-        (last, spent, 5 + 9),
+        (put(b'a', 1), done(None, 0), FLOOR + 73),
+        (put(b'b', 2), done(None, 1), FLOOR + 73),
+        (put(b'c', 3), done(None, 2), FLOOR + 73),
+        (put(b'd', 4), done(None, 3), FLOOR + 73),
+        (put(b'a', 9), done(Some(1), 4), FLOOR + 40),
+        (put(b'e', 5), Once::Again(Again::NoFree), FLOOR + 37),
+        (get(b'a'), done(Some(9), 5), FLOOR + 21),
+        (get(b'e'), done(None, 5), FLOOR + 17),
+        (del(b'b'), done(Some(2), 5), FLOOR + 40),
+        (del(b'b'), done(None, 6), FLOOR + 19),
+        (put(b'a', 10), done(Some(9), 7), FLOOR + 77),
+        (late, spent, FLOOR + 9),
+        (last, spent, FLOOR + 9),
     ]
 }
 
@@ -241,8 +242,7 @@ fn one_caller_on_four_slots(rt: HostRuntime) -> Result<(), Fail> {
     Ok(())
 }
 
-/// A put that finds its node full splits it, and is to be made again: then it goes to the fresh node. The floor takes 6
-/// loads, since no leaf is used. The split takes 1 load of next, 17 actions for a line, 3 for the claim, 24 loads of
+/// A put that finds its node full splits it, and is to be made again: then it goes to the fresh node. The split takes 1 load of next, 17 actions for a line, 3 for the claim, 24 loads of
 /// the node's words, 14 stores and three fences for the fresh node, 40 actions for the opened line, 3 stores up to the
 /// switch and its fence, a store and a fence for the bitmap, 17 actions for READY, and 2 stores. Its line is left
 /// READY.
@@ -250,14 +250,14 @@ fn calls_that_split() -> [(Ask, Once<Placed>, u64); 8] {
     let split = 1 + 17 + 3 + 24 + 14 + 48 + 40 + 3 + 16 + 17 + 17 + 2;
     let again = Once::Again(Again::NeedsSplit { node: 0 });
     [
-        (put(b'c', 1), done(None, 0), 6 + 73),
-        (put(b'a', 2), done(None, 1), 6 + 73),
-        (put(b'd', 3), done(None, 2), 6 + 73),
-        (put(b'b', 4), done(None, 3), 6 + 73),
-        (put(b'e', 5), again, 6 + 17 + split),
-        (put(b'e', 5), done_after(None, 4, 1), 6 + 9 + 6 + 67),
-        (get(b'c'), done_after(Some(1), 5, 1), 6 + 9 + 6 + 15),
-        (get(b'b'), done(Some(4), 5), 6 + 9 + 15),
+        (put(b'c', 1), done(None, 0), FLOOR + 73),
+        (put(b'a', 2), done(None, 1), FLOOR + 73),
+        (put(b'd', 3), done(None, 2), FLOOR + 73),
+        (put(b'b', 4), done(None, 3), FLOOR + 73),
+        (put(b'e', 5), again, FLOOR + 17 + split),
+        (put(b'e', 5), done_after(None, 4, 1), FLOOR + 9 + 6 + 67),
+        (get(b'c'), done_after(Some(1), 5, 1), FLOOR + 9 + 6 + 15),
+        (get(b'b'), done(Some(4), 5), FLOOR + 9 + 15),
     ]
 }
 
@@ -283,9 +283,9 @@ fn a_put_splits_its_full_node(rt: HostRuntime) -> Result<(), Fail> {
 
 fn calls_on_many_slots() -> [(Ask, Once<Placed>, u64); 3] {
     [
-        (put(b'a', 1), done(None, 0), 5 + 73),
-        (get(b'a'), done(Some(1), 1), 5 + 21),
-        (del(b'a'), done(Some(1), 1), 5 + 41),
+        (put(b'a', 1), done(None, 0), FLOOR + 73),
+        (get(b'a'), done(Some(1), 1), FLOOR + 21),
+        (del(b'a'), done(Some(1), 1), FLOOR + 41),
     ]
 }
 
@@ -298,13 +298,13 @@ fn sixty_four_slots_take_no_longer(rt: HostRuntime) -> Result<(), Fail> {
     Ok(())
 }
 
-/// A walk ends at a version word that is locked, behind the 5 loads of the floor.
+/// A walk ends at a version word that is locked, behind the loads of the floor.
 fn calls_where_locked(word: u64) -> [(Ask, Once<Placed>, u64); 3] {
     let locked = Once::Again(Again::Locked { node: 0, word });
     [
-        (get(b'a'), locked, 5 + 1),
-        (put(b'a', 1), locked, 5 + 1),
-        (del(b'a'), locked, 5 + 1),
+        (get(b'a'), locked, FLOOR + 1),
+        (put(b'a', 1), locked, FLOOR + 1),
+        (del(b'a'), locked, FLOOR + 1),
     ]
 }
 
@@ -312,9 +312,9 @@ fn calls_where_locked(word: u64) -> [(Ask, Once<Placed>, u64); 3] {
 fn calls_where_worn(word: u64) -> [(Ask, Once<Placed>, u64); 3] {
     let worn = Once::Worn { node: 0, word };
     [
-        (get(b'a'), done(None, 0), 5 + 17),
-        (put(b'a', 1), worn, 5 + 6),
-        (del(b'a'), worn, 5 + 6),
+        (get(b'a'), done(None, 0), FLOOR + 17),
+        (put(b'a', 1), worn, FLOOR + 6),
+        (del(b'a'), worn, FLOOR + 6),
     ]
 }
 
@@ -348,11 +348,10 @@ pub(crate) fn three_nodes(rt: &impl Abort, row: &mut Row)
     row.set(rt, 1, node::ANCHOR, P);
 }
 
-/// Calls on that list: each goes to the node of its name, and tells its hops. The floor takes 7 loads, since no leaf is
-/// used, and leads to node 0. At a node that leads on, the three words of the next node's anchor are loaded too, so 9
+/// Calls on that list: each goes to the node of its name, and tells its hops. The floor leads to node 0. At a node that leads on, the three words of the next node's anchor are loaded too, so 9
 /// loads each. After the walk all is as on one node.
 fn calls_by_walks() -> [(Ask, Once<Placed>, u64); 7] {
-    let [first, second, third] = [7 + 9, 7 + 9 + 9, 7 + 9 + 9 + 6];
+    let [first, second, third] = [FLOOR + 9, FLOOR + 9 + 9, FLOOR + 9 + 9 + 6];
     let late = Ask::Del {
         letter: b'p',
         limit: 4,
@@ -383,28 +382,31 @@ fn calls_on_three_nodes(rt: HostRuntime) -> Result<(), Fail> {
     Ok(())
 }
 
-/// The layer has a leaf with a key of one letter that leads to this node.
+/// The layer has a leaf with a key of one letter that leads to this node, in an entry of the root's cell.
 fn lead(rt: &impl Abort, row: &mut Row, number: u64, letter: u8, to: u64)
     ensures { row.new.layout ≡ row.old.layout }
 {
     let key_at = leaf_at(rt, &row.layout, number, leaf::KEY);
     let node_at = leaf_at(rt, &row.layout, number, leaf::NODE);
+    let entry_at = cell_at(rt, &row.layout, 0, 4 + number % 4);
     row.put(rt, key_at, word_of(letter));
     row.put(rt, node_at, to.wrapping_add(1));
+    row.put(rt, entry_at, (u64::from(letter) << 32) + LEAF + number % 4);
 }
 
-/// Gets on the same list, with a layer that leads from f to node 1, from g to node 2, and from q to no node: a floor
-/// takes four loads of each of the three used leaves, and one of each of the other four. From f to node 1 is too far:
-/// there the walk loads six words up to prev, and goes on at node 0. Wherever it begins, it comes to the node of its
-/// name.
+/// Gets on the same list, with a layer that leads from f to node 1, from g to node 2, and from q to no node. A floor
+/// takes 9 loads of the root's word and of its cell: the depth, three words of the prefix, four entries. Where the name
+/// is a key it takes the three words of that and the node word of the leaf; else it goes to the leaf below, whose key
+/// it needn't read. From f to node 1 is too far: there the walk loads six words up to prev, and goes on at node 0. From
+/// q to no node begins at node 0. Wherever it begins, it comes to the node of its name.
 fn calls_by_floors() -> [(Ask, Once<Placed>, u64); 5] {
-    let floor = 3 * 4 + 4;
+    let [key, below] = [9 + 4, 9 + 1];
     [
-        (get(b'e'), done(None, 0), floor + 9 + 11),
-        (get(b'f'), done_after(None, 0, 1), floor + 6 + 9 + 11),
-        (get(b'g'), done(None, 0), floor + 9 + 11),
-        (get(b'o'), done(None, 0), floor + 9 + 11),
-        (get(b'z'), done_after(None, 0, 1), floor + 9 + 6 + 11),
+        (get(b'e'), done(None, 0), below + 9 + 11),
+        (get(b'f'), done_after(None, 0, 1), key + 6 + 9 + 11),
+        (get(b'g'), done(None, 0), key + 9 + 11),
+        (get(b'o'), done(None, 0), below + 9 + 11),
+        (get(b'z'), done_after(None, 0, 2), below + 9 + 9 + 6 + 11),
     ]
 }
 
@@ -413,26 +415,28 @@ fn walks_begin_at_the_floor(rt: HostRuntime) -> Result<(), Fail> {
     let layout = Layout::new(3, 4, 1)?;
     let mut row = Row::new(layout, vec![in rt.alloc(); 0u64; ROW]?);
     three_nodes(&rt, &mut row);
-    for (number, letter, to) in [(3, b'g', 2), (2, b'q', 9), (1, b'f', 1)] {
+    let root = root_at(&row.layout);
+    row.put(&rt, root, FORM_4);
+    for (number, letter, to) in [(0, 0, 0), (3, b'g', 2), (2, b'q', 9), (1, b'f', 1)] {
         lead(&rt, &mut row, number, letter, to);
     }
     see_calls(&rt, &mut row, &calls_by_floors());
     Ok(())
 }
 
-/// The loads of a get from node 0, which has the name in its first slot: the leaves, the walk, the clock, and the words
+/// The loads of a get from node 0, which has the name in its first slot: the floor, the walk, the clock, and the words
 /// of the node, its version word the first and the last of them.
 fn loads_of_get(rt: &impl Abort, layout: &Layout) -> [u64; 26]
     requires { IsLayout layout.now }
 {
     let at = |offset: u64| node_at(rt, layout, 0, offset);
-    let leaf = |number: u64| leaf_at(rt, layout, number, leaf::NODE);
+    let leaf = |offset: u64| leaf_at(rt, layout, 0, offset);
     [
-        leaf(0),
-        leaf(1),
-        leaf(2),
-        leaf(3),
-        leaf(4),
+        root_at(layout),
+        leaf(leaf::KEY),
+        leaf(leaf::KEY + 1),
+        leaf(leaf::KEY + 2),
+        leaf(leaf::NODE),
         at(node::VERSION),
         volatile_at(rt, layout, 0, volatile::STATUS),
         at(node::ANCHOR),
@@ -460,7 +464,7 @@ fn loads_of_get(rt: &impl Abort, layout: &Layout) -> [u64; 26]
 /// A get loads the version word before all that it relies on, the clock before the words that it reads, and the version
 /// word again at its end. It makes no other actions than these loads.
 fn see_loads(rt: &impl Abort, row: &mut Row) {
-    let is_put = is_answered(rt, row, put(b'a', 1), done(None, 0), 5 + 73);
+    let is_put = is_answered(rt, row, put(b'a', 1), done(None, 0), FLOOR + 73);
     row.note_loads();
     let is_told = is_answered(rt, row, get(b'a'), done(Some(1), 1), 26);
     assert!(rt; is_put && is_told);

@@ -6,7 +6,7 @@ ghost use Rattle.node_ops.specs.RunningSteps.{Sound};
 
 use crate::calls::{del, done_after, named, put, run, started, view};
 use crate::meanwhile::run_beside;
-use crate::rows::{ROW, RUN, Row, word_of};
+use crate::rows::{FLOOR, ROW, RUN, Row, word_of};
 use node_ops::{Part, PartWords, Running};
 use pm_words::Layout;
 use pm_words::offsets::node;
@@ -113,7 +113,7 @@ fn put_all(rt: &impl Abort, row: &mut Row, letters: &[u8])
     }
 }
 
-/// A part of the only node, without a name that it begins with.
+/// A part of the only node, without a name that it begins with, which goes by the node's permutation.
 fn from(letter: u8, count: u64, listed: &[u8]) -> Want {
     Want {
         letter,
@@ -122,28 +122,29 @@ fn from(letter: u8, count: u64, listed: &[u8]) -> Want {
         old: None,
         node: 0,
         high: None,
-        compared: 4,
-        actions: 5 + 33,
+        compared: 0,
+        actions: FLOOR + 34,
     }
 }
 
-/// Parts of a node that never had a name. A part takes the 22 actions of a get that finds no name.
+/// Parts of a node that never had a name, which is its permutation. Behind the floor the walk takes 6 actions, the
+/// permutation 9, and the clock, the bitmap and the last load of the version word one each.
 #[test]
 fn an_empty_node_has_an_empty_part(rt: HostRuntime) -> Result<(), Fail> {
     let layout = Layout::new(1, 8, 1)?;
     let mut row = Row::new(layout, vec![in rt.alloc(); 0u64; ROW]?);
     row.live(&rt, 0, 0);
     let empty = Want {
-        compared: 0,
-        actions: 5 + 17,
+        actions: FLOOR + 18,
         ..from(b'a', 10, b"")
     };
     assert_eq!(rt; other_part(&rt, &mut row, 0, &[empty]), 1);
     Ok(())
 }
 
-/// Parts of one node, with names above and below the low one. Each live slot takes four loads, and a low name that is
-/// there four more, as of a get; the floor takes 5 before that.
+/// Parts of one node, with names above and below the low one. Each live slot takes four loads. The first part finds
+/// that the permutation is an older one: it takes the lock, sorts the names, and stores the permutation with 9 stores
+/// before it gives the node back. The others go by that, and sort nothing.
 #[test]
 fn parts_of_one_node(rt: HostRuntime) -> Result<(), Fail> {
     let layout = Layout::new(1, 8, 1)?;
@@ -154,15 +155,19 @@ fn parts_of_one_node(rt: HostRuntime) -> Result<(), Fail> {
     run(&rt, &mut row, call);
     let from_f = Want {
         old: Some(1020),
-        actions: 5 + 37,
         ..from(b'f', 10, b"fmt")
     };
     let from_t = Want {
         old: Some(1160),
-        actions: 5 + 37,
         ..from(b't', 1, b"t")
     };
+    let first = Want {
+        compared: 4,
+        actions: FLOOR + 6 + 2 + 2 + 16 + 9 + 1,
+        ..from(b'a', 10, b"cfmt")
+    };
     let wants = [
+        first,
         from(b'a', 10, b"cfmt"),
         from(b'a', 2, b"cf"),
         from(b'a', 0, b""),
@@ -175,8 +180,7 @@ fn parts_of_one_node(rt: HostRuntime) -> Result<(), Fail> {
     Ok(())
 }
 
-/// A node that was split ends before the anchor of the next one, to which the walk makes a hop. The floor takes 6
-/// loads.
+/// A node that was split ends before the anchor of the next one, to which the walk makes a hop. Each of the two nodes is sorted once.
 #[test]
 fn parts_end_with_their_node(rt: HostRuntime) -> Result<(), Fail> {
     let layout = Layout::new(2, 4, 1)?;
@@ -187,14 +191,14 @@ fn parts_end_with_their_node(rt: HostRuntime) -> Result<(), Fail> {
     let low = Want {
         high: Some(b'c'),
         compared: 2,
-        actions: 6 + 9 + 11 + 8,
+        actions: FLOOR + 9 + 2 + 2 + 8 + 9 + 1,
         ..from(b'A', 9, b"ab")
     };
     let above = Want {
         old: Some(1000),
         node: 1,
         compared: 3,
-        actions: 6 + 9 + 6 + 15 + 12,
+        actions: FLOOR + 9 + 6 + 2 + 2 + 12 + 9 + 1,
         ..from(b'd', 9, b"de")
     };
     assert_eq!(rt; other_part(&rt, &mut row, 5, &[low, above]), 2);

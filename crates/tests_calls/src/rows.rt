@@ -5,8 +5,9 @@ ghost use Rattle.std.specs.Prelude.{◌≡◌};
 ghost use Rattle.pm_words.specs.Layouts.{IsLayout};
 ghost use Rattle.call_stages.specs.Kinds.{Told};
 
-use pm_words::offsets::{line, node, volatile};
-use pm_words::{Action, KEY, Layout};
+use pm_words::codes::reference;
+use pm_words::offsets::{leaf, line, node, root, volatile};
+use pm_words::{Action, KEY, LINE_WORDS, Layout};
 use std::process::Abort;
 use version_lock::GENERATION_UNIT;
 
@@ -44,8 +45,6 @@ pub(crate) const E: u64 = 0x65 << 56;
 
 pub(crate) const G: u64 = 0x67 << 56;
 
-pub(crate) const M: u64 = 0x6d << 56;
-
 pub(crate) const P: u64 = 0x70 << 56;
 
 /// An address, and the word that is stored there.
@@ -64,18 +63,44 @@ pub(crate) struct Row {
     ghost in_range: { IsLayout layout },
 }
 
+/// How many loads a floor takes in the layer that a row begins with: of the root's word, and of the key and the node word
+/// of the leaf to which that refers.
+pub(crate) const FLOOR: u64 = 1 + 3 + 1;
+
+/// The root's word among those of the image.
+const ROOT: u64 = LINE_WORDS + root::REFERENCE;
+
+/// References to leaves and to cells of form 4, by their numbers.
+pub(crate) const LEAF: u64 = reference::LEAF * reference::KIND;
+
+pub(crate) const FORM_4: u64 = 2 * reference::KIND;
+
 impl Row {
+    /// The layer leads the zero key to node 0 by the first leaf, which has its mark.
     pub(crate) fn new(layout: Layout, words: Vec<u64>) -> Row
         requires { IsLayout layout }
         ensures { result.layout ≡ layout }
     {
-        Row {
+        let mut row = Row {
             layout,
             words,
             actions: 0,
             stores: [(0, 0); STORES],
             stored: 0,
             notes_loads: false,
+        };
+        row.begin_with(layout.cached(ROOT), LEAF);
+        row.begin_with(layout.cached(layout.leaf_word(0, leaf::NODE)), 1);
+        row.begin_with(layout.mark(reference::LEAF, 0), 1);
+        row
+    }
+
+    /// This word stands at the address, if there is one.
+    fn begin_with(&mut self, address: u64, word: u64)
+        ensures { self.new.layout ≡ self.old.layout }
+    {
+        if let Some(at) = self.words.get_mut(address as usize) {
+            *at = word;
         }
     }
 
@@ -308,6 +333,29 @@ pub(crate) fn leaf_at(rt: &impl Abort, layout: &Layout, number: u64, offset: u64
 {
     assert!(rt; number < layout.nodes() + 4 && offset < 8);
     layout.cached(layout.leaf_word(number, offset))
+}
+
+/// The cached address of the root's word.
+pub(crate) fn root_at(layout: &Layout) -> u64
+    requires { IsLayout layout.now }
+{
+    layout.cached(ROOT)
+}
+
+/// The cached address of a word of a cell of form 4.
+pub(crate) fn cell_at(rt: &impl Abort, layout: &Layout, number: u64, offset: u64) -> u64
+    requires { IsLayout layout.now }
+{
+    assert!(rt; number < layout.nodes() + 4 && offset < 8);
+    layout.cached(layout.cell_word(2, number, offset))
+}
+
+/// The address of the mark of a leaf, which is of kind 1, or of a cell.
+pub(crate) fn mark_at(rt: &impl Abort, layout: &Layout, kind: u64, number: u64) -> u64
+    requires { IsLayout layout.now }
+{
+    assert!(rt; 1 <= kind && kind <= 5 && number < layout.nodes() + 4);
+    layout.mark(kind, number)
 }
 
 /// In the last generation a machine may be told any word, but for some of node 0.

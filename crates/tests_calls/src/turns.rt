@@ -5,8 +5,8 @@ ghost use Rattle.pm_words.specs.Layouts.{IsLayout};
 ghost use Rattle.updater.specs.Works.{ToldOfLine};
 
 use crate::rows::{
-    FREE, G, GONE, LIVE, M, READY, ROW, RUN, Row, Stored, leaf_at, line_at, may_tell, node_at,
-    volatile_at,
+    FLOOR, FORM_4, FREE, G, GONE, LEAF, LIVE, READY, ROW, RUN, Row, Stored, cell_at, leaf_at,
+    line_at, mark_at, may_tell, node_at, root_at, volatile_at, word_of,
 };
 use pm_words::offsets::{leaf, line, node, volatile};
 use pm_words::{Action, Layout, Machine, Turn};
@@ -38,8 +38,9 @@ fn line_tells(rt: &impl Abort, layout: &Layout, action: Action, got: u64)
     assert!(rt; offset != line::ANCHOR || got != 0);
 }
 
-/// As a line is emptied the second leaf is durable.
-fn see_leaf(rt: &impl Abort, row: &Row, action: Action) {
+/// As a line is emptied the words of the layer are durable: the root's, those of the second leaf and those of the first
+/// cell.
+fn see_layer(rt: &impl Abort, row: &Row, action: Action) {
     let state = line_at(rt, &row.layout, 0, line::STATE);
     let Action::Store(address, _) = action else {
         return;
@@ -47,10 +48,19 @@ fn see_leaf(rt: &impl Abort, row: &Row, action: Action) {
     if address != state {
         return;
     }
+    let mut is_durable = is_even(rt, row, root_at(&row.layout));
     for offset in 0..8 {
-        let (cached, durable) = row.twins(rt, leaf_at(rt, &row.layout, 1, offset));
-        assert!(rt; cached == durable);
+        let leaf = leaf_at(rt, &row.layout, 1, offset);
+        let cell = cell_at(rt, &row.layout, 0, offset);
+        is_durable = is_durable && is_even(rt, row, leaf) && is_even(rt, row, cell);
     }
+    assert!(rt; is_durable);
+}
+
+/// Whether both twins of the cached word at this address are alike.
+fn is_even(rt: &impl Abort, row: &Row, address: u64) -> bool {
+    let (cached, durable) = row.twins(rt, address);
+    cached == durable
 }
 
 /// Where another party is to change the word at this address, it does so behind each load of it.
@@ -76,7 +86,7 @@ fn run(rt: &impl Abort, row: &mut Row, stamp: u64, release: u64, moves: Option<u
             Turn::Done(turned) => return turned,
             Turn::Go(work) => {
                 let action = work.action();
-                see_leaf(rt, row, action);
+                see_layer(rt, row, action);
                 let got = row.act(rt, action);
                 disturb(rt, row, action, moves);
                 may_tell(rt, &row.layout, action, got);
@@ -87,23 +97,45 @@ fn run(rt: &impl Abort, row: &mut Row, stamp: u64, release: u64, moves: Option<u
     }
 }
 
-/// A row of node 0 alone, of 4 nodes, 4 slots and 1 caller, which the first leaf leads to.
+/// A row of node 0 alone, of 4 nodes, 4 slots and 1 caller.
 fn one_node(rt: &impl Abort, words: Vec<u64>) -> Row {
     let layout = Layout::new(4, 4, 1).expect(rt, "a layout");
     let mut row = Row::new(layout, words);
     row.set_volatile(rt, 0, volatile::STATUS, LIVE);
-    lead(rt, &mut row, 0, 0, 0);
     row
 }
 
-/// A leaf has a key with this first word, and leads to a node.
-fn lead(rt: &impl Abort, row: &mut Row, number: u64, key: u64, to: u64)
+/// The entries of a cell that has the first leaf under byte 0, and the second one under this byte.
+fn entries(letter: u8) -> [u64; 2] {
+    [LEAF, (u64::from(letter) << 32) + LEAF + 1]
+}
+
+/// The second leaf has this one-letter key and leads to this node, and the root refers to the first cell of form 4, which
+/// has both leaves.
+fn lead(rt: &impl Abort, row: &mut Row, letter: u8, to: u64)
     ensures { row.new.layout ≡ row.old.layout }
 {
-    let key_at = leaf_at(rt, &row.layout, number, leaf::KEY);
-    let node_at = leaf_at(rt, &row.layout, number, leaf::NODE);
-    row.put(rt, key_at, key);
-    row.put(rt, node_at, to.wrapping_add(1));
+    let [first, second] = entries(letter);
+    for (address, word) in [
+        (leaf_at(rt, &row.layout, 1, leaf::KEY), word_of(letter)),
+        (leaf_at(rt, &row.layout, 1, leaf::NODE), to.wrapping_add(1)),
+        (cell_at(rt, &row.layout, 0, 4), first),
+        (cell_at(rt, &row.layout, 0, 5), second),
+        (root_at(&row.layout), FORM_4),
+    ] {
+        row.stand(rt, address, word);
+    }
+    mark(rt, row);
+}
+
+/// The second leaf and the first cell of form 4 have their marks.
+fn mark(rt: &impl Abort, row: &mut Row)
+    ensures { row.new.layout ≡ row.old.layout }
+{
+    let leaf = mark_at(rt, &row.layout, 1, 1);
+    row.put(rt, leaf, 1);
+    let cell = mark_at(rt, &row.layout, 2, 0);
+    row.put(rt, cell, 1);
 }
 
 /// A node that isn't 0 is GONE, with this stamp.
@@ -172,34 +204,52 @@ fn split(rt: &impl Abort, row: &mut Row)
     make_ready(rt, row, 1, 1, G);
 }
 
-/// The stores of a split's line: the second leaf, which isn't in use, gets the key, zeros, and last the node; then the
-/// line is EMPTY.
-fn stores_of_split(rt: &impl Abort, layout: &Layout) -> [Stored; 10]
+/// The stores of a split's line: the second leaf gets its mark, the key, the node and zeros, and the first cell its mark,
+/// depth 0, no prefix, and as entries the first leaf under byte 0, to which the root referred, and the second one under
+/// g; then the root refers to that cell, and the line is EMPTY.
+fn stores_of_split(rt: &impl Abort, layout: &Layout) -> [Stored; 21]
     requires { IsLayout layout.now }
 {
     let leaf = leaf_at(rt, layout, 1, 0);
-    let clear = (line_at(rt, layout, 0, line::STATE), 0);
+    let cell = cell_at(rt, layout, 0, 0);
+    let [first, second] = entries(b'g');
     [
+        (mark_at(rt, layout, 1, 1), 1),
         (leaf, G),
         (leaf.wrapping_add(1), 0),
         (leaf.wrapping_add(2), 0),
+        (leaf.wrapping_add(leaf::NODE), 2),
         (leaf.wrapping_add(4), 0),
         (leaf.wrapping_add(5), 0),
         (leaf.wrapping_add(6), 0),
         (leaf.wrapping_add(7), 0),
-        (leaf.wrapping_add(leaf::NODE), 2),
-        clear,
+        (mark_at(rt, layout, 2, 0), 1),
+        (cell, 0),
+        (cell.wrapping_add(1), 0),
+        (cell.wrapping_add(2), 0),
+        (cell.wrapping_add(3), 0),
+        (cell.wrapping_add(4), first),
+        (cell.wrapping_add(5), second),
+        (cell.wrapping_add(6), 0),
+        (cell.wrapping_add(7), 0),
+        (root_at(layout), FORM_4),
+        (line_at(rt, layout, 0, line::STATE), 0),
         LOCK,
     ]
 }
 
 /// A split's line: its anchor leads to the new node, durably, before the line is EMPTY. The fields, the floor, the walk
 /// over one hop, the version again, the set, and EMPTY.
+///
+/// The set loads the root's word and the key of the leaf to which that refers. It finds that the first leaf has its mark
+/// and the second one none, which it sets, and fills that by 8 stores and a fence of 16 actions; so it does with a cell,
+/// the first one. The switch store has a fence too.
 #[test]
 fn carries_a_split(rt: HostRuntime) -> Result<(), Fail> {
     let mut row = one_node(&rt, vec![in rt.alloc(); 0u64; ROW]?);
     split(&rt, &mut row);
-    let carried = 6 + 11 + 15 + 1 + 51 + 1;
+    let set = 4 + 3 + 8 + 16 + 2 + 8 + 16 + 1 + 16;
+    let carried = 6 + FLOOR + 15 + 1 + set + 1;
     let stores = stores_of_split(&rt, &row.layout);
     turns(
         &rt,
@@ -216,18 +266,21 @@ fn merge(rt: &impl Abort, row: &mut Row)
     ensures { row.new.layout ≡ row.old.layout }
 {
     gone(rt, row, 2, 0);
-    lead(rt, row, 1, M, 2);
-    make_ready(rt, row, 2, 2, M);
+    lead(rt, row, b'm', 2);
+    make_ready(rt, row, 2, 2, word_of(b'm'));
 }
 
-/// The stores of a merge's line, and the last two where the node is made FREE: the leaf leads to none, the merged node
-/// has the stamp, and the line is EMPTY; then the stamp is zero, and the status FREE.
-fn stores_of_merge(rt: &impl Abort, layout: &Layout) -> [Stored; 5]
+/// The stores of a merge's line, and the last two where the node is made FREE: the root refers to the first leaf again,
+/// the second leaf and the cell have no mark, the merged node has the stamp, and the line is EMPTY; then the stamp is
+/// zero, and the status FREE.
+fn stores_of_merge(rt: &impl Abort, layout: &Layout) -> [Stored; 7]
     requires { IsLayout layout.now }
 {
     let stamp = volatile_at(rt, layout, 2, volatile::STAMP);
     [
-        (leaf_at(rt, layout, 1, leaf::NODE), 0),
+        (root_at(layout), LEAF),
+        (mark_at(rt, layout, 1, 1), 0),
+        (mark_at(rt, layout, 2, 0), 0),
         (stamp, 5),
         (line_at(rt, layout, 0, line::STATE), 0),
         (stamp, 0),
@@ -238,23 +291,31 @@ fn stores_of_merge(rt: &impl Abort, layout: &Layout) -> [Stored; 5]
 /// A turn with stamp 5 carries a merge's line: its anchor leads to no node any more, and the merged node has the stamp,
 /// before the line is EMPTY. Where the release allows the stamp, the node is FREE by the same turn.
 ///
-/// The fields; the floor, which finds two of eight leaves used; the walk, which loads the version, the status and the
-/// node before of the merged node, and then of node 0 its version, its status, its anchor and that there is no next
-/// node; the version again; the unset, which reads two leaves and stores and drains one; the stamp, and EMPTY. Of each
-/// line the state; of each node the status, and of the merged one the stamp; the statuses once more, and the lock.
-/// Where the release allows the stamp, the version of the node, stamp 0 and FREE.
+/// The fields; the floor, which loads the root's word, of the cell the depth, the prefix and four entries, and the key
+/// and the node word of the second leaf; the walk, which loads the version, the status and the node before of the merged
+/// node, and then of node 0 its version, its status, its anchor and that there is no next node; the version again; the
+/// unset; the stamp, and EMPTY. The unset loads the root's word, the depth, the prefix, two entries and the leaf's key,
+/// the depth again and four entries, among which there is one other child; it stores that in the place of the cell, with
+/// a fence, and takes two marks away. Of each line the state; of each node the status, and of the merged one the stamp;
+/// the statuses once more, and the lock. Where the release allows the stamp, the version of the node, stamp 0 and FREE.
 fn carries_a_merge(rt: &impl Abort, row: &mut Row, release: u64) {
-    let (floor, walk, unset) = (2 * 4 + 6, 3 + 6, 2 * 4 + 1 + 16);
+    let (floor, walk) = (1 + 1 + 3 + 4 + 3 + 1, 3 + 6);
+    let unset = 1 + 1 + 3 + 2 + 3 + 1 + 4 + 1 + 16 + 2;
     let carried = 6 + floor + walk + 1 + unset + 1 + 1;
     let kept = 8 + carried + 4 + 1 + 4 + 1;
-    let [unset, stamp, clear, zero, free] = stores_of_merge(rt, &row.layout);
+    let [root, leaf, cell, stamp, clear, zero, free] = stores_of_merge(rt, &row.layout);
     let turned = run(rt, row, 5, release, None);
     if release < 5 {
         assert!(rt; turned == told(1, 0, 0, false));
-        see(rt, row, kept, &[unset, stamp, clear, LOCK]);
+        see(rt, row, kept, &[root, leaf, cell, stamp, clear, LOCK]);
     } else {
         assert!(rt; turned == told(1, 0, 1, false));
-        see(rt, row, kept + 3, &[unset, stamp, clear, zero, free, LOCK]);
+        see(
+            rt,
+            row,
+            kept + 3,
+            &[root, leaf, cell, stamp, clear, zero, free, LOCK],
+        );
     }
 }
 

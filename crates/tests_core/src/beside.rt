@@ -280,10 +280,10 @@ fn some_left(alloc: Global, asked: Asked, lines: u64, freed: u64) -> Option<bool
 
 #[test]
 fn turns_beside_a_call_empty_each_line_once(rt: HostRuntime) -> Result<(), Fail> {
-    // A turn leaves a line while a call has the node locked that the line leads to. Gets and parts lock none.
+    // A turn leaves a line while a call has the node locked that the line leads to. A get locks none.
     for (asked, lines, freed, left) in [
         (Get(1), 4, 1, false),
-        (Part(0, 3), 4, 1, false),
+        (Part(2, 3), 4, 1, true),
         (Put(2, 70), 4, 1, true),
         (Put(10, 70), 5, 1, true),
         (Del(9), 4, 1, true),

@@ -167,16 +167,16 @@ fn first_otherwise(alloc: Global, rows: &[Row]) -> Option<(usize, u64)> {
 #[test]
 fn a_crash_keeps_the_map_with_what_is_found(rt: HostRuntime) -> Result<(), Fail> {
     // A write is found from the store of its word on where that word is evicted, and else from its drain on. The
-    // bitmap is word 17 of the image, which a put into a clear slot stores as its event 63 and drains as 67, and a
-    // delete, which leaves few names and so looks where its node leads, as 31 and 35; the value of slot 0 is word 35,
-    // and is stored in place as event 30 and drained as event 38. The first eight events are those of the floor. Of the
-    // delete that merges ten are; it walks, locks and looks up with 24, as far as the value, sees where its node leads,
+    // bitmap is word 17 of the image, which a put into a clear slot stores as its event 60 and drains as 64, and a
+    // delete, which leaves few names and so looks where its node leads, as 28 and 32; the value of slot 0 is word 35,
+    // and is stored in place as event 27 and drained as event 35. The first five events are those of the floor. So it is
+    // with the delete that merges; it walks, locks and looks up with 24, as far as the value, sees where its node leads,
     // takes its third log line with 19, since those of two splits are READY, and stores its bitmap then.
     let rows = [
-        (scene(1, 1, 0), Asked::Put(1, 70), [63, 67]),
-        (scene(1, 4, 0), Asked::Put(0, 70), [30, 38]),
-        (scene(1, 2, 0), Asked::Del(0), [31, 35]),
-        (scene(3, 7, 0b1000), Asked::Del(1), [55, 59]),
+        (scene(1, 1, 0), Asked::Put(1, 70), [60, 64]),
+        (scene(1, 4, 0), Asked::Put(0, 70), [27, 35]),
+        (scene(1, 2, 0), Asked::Del(0), [28, 32]),
+        (scene(3, 7, 0b1000), Asked::Del(1), [50, 54]),
         // a put that splits its node is answered without a place
         (scene(2, 4, 0), Asked::Put(4, 70), [NEVER; 2]),
         (scene(8, 5, 0), Asked::Part(0, 10), [NEVER; 2]),

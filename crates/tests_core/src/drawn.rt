@@ -48,7 +48,7 @@ fn is_alike(core: &mut Core, model: &mut Model, asked: Asked) -> bool
 }
 
 /// Whether a part of a scan from each name on is answered as a get by the model, and tells the name's member: the first
-/// name of the next one, and how many names it has.
+/// name of the next one, and how many names it has, or that it sorted none.
 fn stands_alike(core: &mut Core, model: &mut Model) -> bool
     requires { IsQuiet core.old }
     ensures { IsQuiet core.new }
@@ -64,7 +64,8 @@ fn stands_alike(core: &mut Core, model: &mut Model) -> bool
                 None => None,
             };
             let names = count_of(model.beside(number));
-            alike = alike && words.high == high && words.compared == names;
+            let sorts = words.compared == names || words.compared == 0;
+            alike = alike && words.high == high && sorts;
         }
     }
     alike

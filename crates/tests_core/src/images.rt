@@ -163,8 +163,11 @@ fn an_image_that_breaks_a_rule_is_refused_by_it(rt: HostRuntime) -> Result<(), F
         (18, 4, damaged(3, 18)),
         (21, 1, damaged(5, 19)),
         (17, 16, damaged(6, 17)),
+        // the root refers to nothing that there is; the first leaf, to which it refers, leads nowhere, and to node 1
         (8, 1, damaged(10, 8)),
-        (211, 0, damaged(12, 8)),
+        (8, 0, damaged(10, 8)),
+        (211, 0, damaged(10, 8)),
+        (211, 2, damaged(12, 8)),
     ];
     assert_eq!(rt; first_unlike(rt.alloc(), &rows), None);
     Ok(())
@@ -184,38 +187,61 @@ fn catalogue(alloc: Global) -> Option<Vec<u8>> {
     }
 }
 
-/// How the catalogue ends with these words changed, each before its value; word 0 stands for no change.
-fn changed(alloc: Global, changes: [(u64, u64); 4]) -> Option<End> {
+/// How the catalogue ends with these words changed, each before its value.
+fn changed(alloc: Global, changes: &[(u64, u64)]) -> Option<End> {
     let mut bytes = catalogue(alloc)?;
     for (word, value) in changes {
-        if word > 0 {
-            set_word(&mut bytes, word, value);
-        }
+        set_word(&mut bytes, *word, *value);
     }
     Some(end_of(alloc, &bytes))
+}
+
+/// A reference to the first leaf, and one to the first cell of form 4.
+const LEAF: u64 = 1 << 16;
+
+const FORM_4: u64 = 2 << 16;
+
+/// Three keys for two nodes: the second leaf, at word 344, leads the third name to node 1, and the third one a name of
+/// another first byte to node 0; the root refers to the first cell of form 4, at word 384, which has these and the first
+/// leaf.
+fn three_keys() -> [(u64, u64); 8] {
+    [
+        (8, FORM_4),
+        (344, name_of(2).words()[0]),
+        (347, 2),
+        (352, name_of(8).words()[0]),
+        (355, 1),
+        (388, LEAF),
+        (389, (0x21 << 32) + LEAF + 1),
+        (390, (0x22 << 32) + LEAF + 2),
+    ]
 }
 
 #[test]
 fn a_catalogue_that_breaks_a_rule_is_refused_by_it(rt: HostRuntime) {
     // Node 1 leads back to itself; a fingerprint; two names of node 0, with both fingerprints, are one; a state of the
-    // first log line that is none; three keys in leaves, of which the second and the third begin at words 344 and 352.
-    let none = (0, 0);
-    let [a, b] = [name_of(0).words()[0], name_of(2).words()[0]];
-    for (changes, rule, word) in [
-        ([(50, 1), none, none, none], 4, 50),
-        ([(24, 0), none, none, none], 7, 24),
-        ([(24, 132 + 256 * 132), (36, a), none, none], 8, 36),
-        ([(80, 3), none, none, none], 9, 80),
-        ([(344, b), (347, 2), (352, a), (355, 1)], 11, 8),
-    ] {
+    // first log line that is none; three keys, and the last of them under another byte than its first.
+    let keys = three_keys();
+    let mut misled = keys;
+    misled[7] = (390, (0x23 << 32) + LEAF + 2);
+    let same = [(24, 132 + 256 * 132), (36, name_of(0).words()[0])];
+    let rows: [(&[(u64, u64)], u64, u64); 6] = [
+        (&[(50, 1)], 4, 50),
+        (&[(24, 0)], 7, 24),
+        (&same, 8, 36),
+        (&[(80, 3)], 9, 80),
+        (&keys, 11, 8),
+        (&misled, 10, 8),
+    ];
+    for (changes, rule, word) in rows {
         assert!(rt;
             changed(rt.alloc(), changes) == Some(End::Refused(OpenFault::Damaged { rule, word }))
         );
     }
 }
 
-/// The first word of a catalogue that doesn't end as it has to with this value. Of its cells, which no index uses yet,
-/// few are tried.
+/// The first word of a catalogue that doesn't end as it has to with this value. Of its cells, to which the root doesn't
+/// lead, few are tried.
 fn first_wrong(alloc: Global, value: u64) -> Option<u64> {
     let Some(mut bytes) = catalogue(alloc) else {
         return Some(0);

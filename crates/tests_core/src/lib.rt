@@ -21,6 +21,8 @@ mod images;
 #[cfg(test)]
 mod model;
 #[cfg(test)]
+mod orders;
+#[cfg(test)]
 mod rechecks;
 #[cfg(test)]
 mod rows;

@@ -21,11 +21,16 @@ const LEAF: u64 = 1 << 16;
 
 const FORM_4: u64 = 2 << 16;
 
-/// Which marks are set behind the walk, the first one as bit 0; and the next bit where one is neither 0 nor 1.
+/// Which marks are set behind the walk.
 fn marked(alloc: Global, tree: &[u64], changes: &[u64]) -> Option<u64> {
     let image = image_with(alloc, 4, 4, tree, changes)?;
     let mut memory = Memory::of(alloc, image).ok()?;
     mark_tree(&mut memory);
+    marks_in(&memory)
+}
+
+/// Which marks of such an image are set, the first one as bit 0; and the next bit where one is neither 0 nor 1.
+pub(crate) fn marks_in(memory: &Memory) -> Option<u64> {
     let marks = memory.words().get(FIRST..FIRST + MARKS)?;
     Some(bits(marks))
 }

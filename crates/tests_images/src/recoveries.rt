@@ -3,6 +3,8 @@
 ghost use Rattle.std.specs.Prelude.{◌≡◌, ◌<◌};
 
 use crate::images::{A, B, C, image_with};
+use crate::marks::marks_in;
+use crate::trees::{B_1, BYTE_C, FORM_4, LEAF, LISTED};
 use image_layer_rules::first_broken_of_all;
 use image_recovery::{Begun, Move, OpenFault, begin, plan, recover};
 use image_rules::{Broken, first_broken};
@@ -11,28 +13,32 @@ use std::alloc::Global;
 use std::marker::Brand;
 use std::sync::ledger::{Blank, Ledger};
 
-/// Of four nodes with four slots each: the list goes by node 2, whose anchor is `a`, and then by node 1, whose anchor
-/// is `b`; leaf 3 leads `a` to node 2, and leaf 1 leads `b` to node 1. Node n starts at word 16 + 32 n, the log at word
-/// 144, and the leaves at word 208.
-const LISTED: [u64; 16] = [18, 2, 83, A, 82, 1, 51, B, 232, A, 235, 3, 216, B, 219, 2];
+/// Words of the image of four nodes that `LISTED` tells, with four slots each, where node n starts at word 16 + 32 n,
+/// the log at word 144, and the leaves at word 208: each before its value. Two zeros stand for no change.
+type Changes = [u64; 14];
 
-/// Words, each before its value: two zeros stand for no change.
-type Changes = [u64; 12];
-
-const NO_CHANGE: Changes = [0; 12];
+const NO_CHANGE: Changes = [0; 14];
 
 /// Leaf 7 leads `c`, which is no anchor, to node 3, and the first line, or the last, is open for it.
-const STRAY: Changes = [264, C, 267, 4, 144, 1, 145, 1, 146, 3, 147, C];
+const STRAY: Changes = [264, C, 267, 4, 279, C_7, 144, 1, 145, 1, 146, 3, 147, C];
 
-const LAST_STRAY: Changes = [264, C, 267, 4, 200, 2, 201, 2, 202, 3, 203, C];
+const LAST_STRAY: Changes = [264, C, 267, 4, 279, C_7, 200, 2, 201, 2, 202, 3, 203, C];
 
-/// No leaf leads `b`, or one leads it to another node, and a line is ready for it.
-const MISSING: Changes = [219, 0, 144, 2, 145, 1, 146, 1, 147, B, 0, 0];
+const C_7: u64 = BYTE_C + LEAF + 7;
 
-const MISLED: Changes = [219, 3, 144, 2, 145, 1, 146, 1, 147, B, 0, 0];
+/// The tree doesn't lead `b`, or it leads it to another node, and a line is ready for it.
+const MISSING: Changes = [278, 0, 144, 2, 145, 1, 146, 1, 147, B, 0, 0, 0, 0];
+
+const MISLED: Changes = [219, 3, 144, 2, 145, 1, 146, 1, 147, B, 0, 0, 0, 0];
+
+/// Node 0 is listed alone, and the root's cell leads zero to it and `b`, for which a line is open, to node 1.
+const LAST_BUT_ONE: Changes = [18, 0, 277, 0, 144, 1, 145, 1, 146, 1, 147, B, 0, 0];
+
+/// Node 1 is listed behind node 0, with `b`; the root is leaf 0, and a line is ready for `b`.
+const ONE_LEAF: Changes = [18, 1, 8, LEAF, 144, 2, 145, 1, 146, 1, 147, B, 0, 0];
 
 /// Node 2 has `a` in slot 0, and `c` in slot 1, which is out of its range.
-const STALE: Changes = [81, 3, 88, 0x6361, 96, A, 100, C, 0, 0, 0, 0];
+const STALE: Changes = [81, 3, 88, 0x6361, 96, A, 100, C, 0, 0, 0, 0, 0, 0];
 
 /// That list with these changes.
 fn listed_with(alloc: Global, changes: Changes) -> Option<Image> {
@@ -121,16 +127,45 @@ fn recoveries(rt: HostRuntime) {
     for (changes, places, want) in [
         // The generation, and the leaves of node 2 and 1.
         (NO_CHANGE, [5, 235, 219], [2, 3, 2]),
-        // The generation, the node word of the leaf that changes, and the state of the line.
-        (STRAY, [5, 267, 144], [2, 0, 0]),
-        (LAST_STRAY, [5, 267, 200], [2, 0, 0]),
-        (MISSING, [5, 219, 144], [2, 2, 0]),
+        // The generation, the entry or the node word that changes, and the state of the line.
+        (STRAY, [5, 279, 144], [2, 0, 0]),
+        (LAST_STRAY, [5, 279, 200], [2, 0, 0]),
+        (MISSING, [5, 278, 144], [2, B_1, 0]),
         (MISLED, [5, 219, 144], [2, 2, 0]),
+        // The root, which comes to be the last child of its cell, or a cell in place of a leaf.
+        (LAST_BUT_ONE, [8, 144, 243], [LEAF, 0, 0]),
+        (ONE_LEAF, [8, 144, 219], [FORM_4, 0, 2]),
         // The bitmap, and the first words of both slots.
         (STALE, [81, 96, 100], [1, A, C]),
     ] {
         let found = recovered::<Brand>(rt.alloc(), Blank::new(1), changes, places);
         assert!(rt; found == Some(Ok(want)));
+    }
+}
+
+/// Which marks are set once that list with these changes is recovered.
+fn recovered_marks<L: Ledger>(alloc: Global, blank: Blank, changes: Changes) -> Option<u64>
+    requires name { blank.name ≡ L.name }
+    requires parts { (blank.parts ≡ L.parts) × (0 < L.parts) }
+{
+    let (book, share) = blank.open::<L>();
+    let mut steps = Steps::new(book, share);
+    let memory = recover(alloc, listed_with(alloc, changes)?, &mut steps).ok()?;
+    marks_in(&memory)
+}
+
+/// Those of leaves 0, 1 and 3 and of the first cell, of leaf 0 alone, and of leaves 0 and 1 and the first cell.
+#[test]
+fn marks_of_recovered(rt: HostRuntime) {
+    for (changes, want) in [
+        (NO_CHANGE, 0x10b),
+        (STRAY, 0x10b),
+        (MISSING, 0x10b),
+        (LAST_BUT_ONE, 1),
+        (ONE_LEAF, 0x103),
+    ] {
+        let found = recovered_marks::<Brand>(rt.alloc(), Blank::new(1), changes);
+        assert!(rt; found == Some(want));
     }
 }
 
@@ -145,8 +180,8 @@ fn one_change(word: u64, value: u64) -> Changes {
 #[test]
 fn refusals(rt: HostRuntime) {
     for (word, value, broken) in [
-        (219, 0, Broken { rule: 12, word: 8 }),
-        (267, 5, Broken { rule: 10, word: 8 }),
+        (278, 0, Broken { rule: 12, word: 8 }),
+        (219, 5, Broken { rule: 10, word: 8 }),
         (5, 0, Broken { rule: 1, word: 5 }),
         (5, 1 << 24, Broken { rule: 1, word: 5 }),
     ] {
@@ -208,11 +243,13 @@ fn recovered_again<L: Ledger>(
 #[test]
 fn stops(rt: HostRuntime) {
     for (changes, places, want) in [
-        (STRAY, [267, 144, 219], [0, 0, 2]),
-        (MISSING, [219, 144, 235], [2, 0, 3]),
+        (STRAY, [279, 144, 219], [0, 0, 2]),
+        (MISSING, [278, 144, 235], [B_1, 0, 3]),
+        (LAST_BUT_ONE, [8, 144, 243], [LEAF, 0, 0]),
+        (ONE_LEAF, [8, 144, 219], [FORM_4, 0, 2]),
         (STALE, [81, 96, 100], [1, A, C]),
     ] {
-        for count in [0, 1, 2, 13, 18, 40, 60, 90] {
+        for count in [0, 1, 2, 13, 18, 40, 60, 90, 130] {
             let blank = Blank::new(1);
             let found = recovered_again::<Brand>(rt.alloc(), blank, changes, places, count);
             assert!(rt; found == Some(want));

@@ -2,33 +2,33 @@
 
 ghost use Rattle.std.specs.Prelude.{◌<◌, ◌≤◌, length};
 
-use crate::images::{A, B, C, image_with};
+use crate::images::{A, AS, B, C, image_with};
+use image_layer_rules::first_broken_of_all;
 use image_rules::Broken;
 use pm_words::Image;
 use std::alloc::Global;
-use tree_rules::first_broken_of_all;
 
 /// References, by their kinds: a leaf, and cells of the four forms.
-const LEAF: u64 = 1 << 16;
+pub(crate) const LEAF: u64 = 1 << 16;
 
-const FORM_4: u64 = 2 << 16;
+pub(crate) const FORM_4: u64 = 2 << 16;
 
 const FORM_16: u64 = 3 << 16;
 
 const FORM_48: u64 = 4 << 16;
 
-const FORM_256: u64 = 5 << 16;
+pub(crate) const FORM_256: u64 = 5 << 16;
 
 /// In an entry the branch byte stands above the reference: that of `c`.
-const BYTE_C: u64 = 0x63 << 32;
+pub(crate) const BYTE_C: u64 = 0x63 << 32;
 
 /// The entries of leaf 3 below the byte of `a`, of leaf 1 below that of `b`, of leaf 2 below that of `c`, and of leaf 4
 /// below that of `d`.
 const A_3: u64 = (0x61 << 32) + LEAF + 3;
 
-const B_1: u64 = (0x62 << 32) + LEAF + 1;
+pub(crate) const B_1: u64 = (0x62 << 32) + LEAF + 1;
 
-const C_2: u64 = BYTE_C + LEAF + 2;
+pub(crate) const C_2: u64 = BYTE_C + LEAF + 2;
 
 const D_4: u64 = (0x64 << 32) + LEAF + 4;
 
@@ -105,6 +105,61 @@ pub(crate) const LISTED_256: [u64; 24] = [
     LEAF + 3,
     1338,
     LEAF + 1,
+];
+
+/// The anchors of nodes 2 and 1 have 24 bytes and differ in the last one. The root's cell leads to another cell, at
+/// word 280, that is as deep as a cell may be.
+const DEEPEST: [u64; 50] = [
+    18,
+    2,
+    83,
+    AS,
+    84,
+    AS,
+    85,
+    AS,
+    82,
+    1,
+    51,
+    AS,
+    52,
+    AS,
+    53,
+    AS + 1,
+    232,
+    AS,
+    233,
+    AS,
+    234,
+    AS,
+    235,
+    3,
+    216,
+    AS,
+    217,
+    AS,
+    218,
+    AS + 1,
+    219,
+    2,
+    8,
+    FORM_4,
+    276,
+    LEAF,
+    277,
+    (0x61 << 32) + FORM_4 + 1,
+    280,
+    23,
+    281,
+    AS,
+    282,
+    AS,
+    283,
+    AS - 0x61,
+    284,
+    A_3,
+    285,
+    B_1,
 ];
 
 /// The rule and the word that are named in an image; zeros where it is sound.
@@ -192,4 +247,25 @@ fn counts(rt: HostRuntime) {
     assert!(rt; is_named(rt.alloc(), &LISTED_16, &four));
     let five = [11, 8, 347, C_2, 224, C, 227, 1, 348, D_4, 240, D, 243, 1];
     assert!(rt; is_named(rt.alloc(), &LISTED_16, &five));
+}
+
+#[test]
+fn deepest(rt: HostRuntime) {
+    for row in [
+        [0, 0, 0, 0],
+        // A depth less, and one that is too large; a prefix with another first byte, another last one, and one more.
+        [10, 8, 280, 22],
+        [10, 8, 280, 24],
+        [10, 8, 281, AS + (1 << 56)],
+        [10, 8, 283, AS - 0x61 + 0x100],
+        [10, 8, 283, AS],
+        // An entry with another byte, and with a number that is no byte.
+        [10, 8, 285, BYTE_C + LEAF + 1],
+        [10, 8, 285, (0x162 << 32) + LEAF + 1],
+    ] {
+        assert!(rt; is_named(rt.alloc(), &DEEPEST, &row));
+    }
+    // The byte of zero leads to a cell that is no deeper than the root's.
+    let as_deep = [10, 8, 276, FORM_4 + 1, 284, LEAF, 285, D_4, 240, D, 243, 1];
+    assert!(rt; is_named(rt.alloc(), &LISTED, &as_deep));
 }

@@ -35,29 +35,33 @@ fn idle() -> Plan {
     }
 }
 
-/// How many steps a read takes where its node has one live slot or two: of the floor, the walk, the clock, the bitmap
-/// and the fingerprints, of the name and its value, and the version word. A part loads four words of each live slot
-/// too.
-fn steps_of(habit: Habit, slots: u64) -> u64 {
-    let get = 8 + 6 + 1 + 1 + 8 + 4 + 1;
-    match habit {
-        Habit::Waits(Kind::Parts) => slots.saturating_mul(4).saturating_add(get),
-        _ => get,
-    }
+/// How many steps a floor takes where the layer has the zero key alone: the root's word, and of a leaf the three words of
+/// its key and its node word.
+const FLOOR: u64 = 1 + 3 + 1;
+
+/// How many steps a get takes where its node has one live slot or two: of the floor, the walk, the clock, the bitmap
+/// and the fingerprints, of the name and its value, and the version word.
+const GET: u64 = FLOOR + 6 + 1 + 1 + 8 + 4 + 1;
+
+/// How many steps a part takes up to its lock, where its node's permutation is an older one: of the floor, the walk and
+/// the permutation's version.
+const LOCKS: u64 = FLOOR + 6 + 1;
+
+/// How many it takes where its node has so many live slots: with the lock it loads the clock, the bitmap and four words
+/// of each, and stores the permutation with nine stores and the version word.
+fn part_steps(slots: u64) -> u64 {
+    slots.saturating_mul(4).saturating_add(LOCKS + 3 + 9 + 1)
 }
 
-/// How many steps the first read takes, over all its tries, and of which place it is, where it stands still before this
-/// step. A put before its first load of the version word is seen; from then on the read is turned back by it, and is of
-/// the next place once it is made again; and no put is seen that comes once it is over. A try that stands still before
-/// its bitmap is loaded sees two slots.
-fn by_the_rule(habit: Habit, step: u64) -> (u64, u64) {
-    let (one, two) = (steps_of(habit, 1), steps_of(habit, 2));
-    if step < 9 {
+/// How many steps the first part takes, over all its tries, and of which place it is, where it stands still before this
+/// step. A put before its first load of the version word is seen; from then on the part is turned back by it, at its
+/// lock, and is of the next place once it is made again; and no put is seen that comes once it is over.
+fn by_the_rule(step: u64) -> (u64, u64) {
+    let (one, two) = (part_steps(1), part_steps(2));
+    if step <= FLOOR {
         (two, 2)
-    } else if step < 16 {
-        (two.saturating_mul(2), 2)
-    } else if step < one {
-        (one.saturating_add(two), 2)
+    } else if step <= LOCKS {
+        (two.saturating_add(LOCKS + 1), 2)
     } else {
         (one, 1)
     }
@@ -65,29 +69,35 @@ fn by_the_rule(habit: Habit, step: u64) -> (u64, u64) {
 
 /// Whether a get was turned back so or not at all, where it is of this place.
 fn is_back(first: First, step: u64) -> bool {
-    if step < 9 || first.place == 1 {
+    if step <= FLOOR || first.place == 1 {
         first.at_once
     } else {
         first.moved
     }
 }
 
-/// Whether the read that stood still before this step came to what the rule says.
-fn is_by_the_rule(habit: Habit, step: u64, seen: &Seen, steps: u64) -> bool {
-    seen.told && (steps, seen.first.place) == by_the_rule(habit, step)
+/// Whether the part that stood still before this step came to what the rule says.
+fn is_by_the_rule(step: u64, seen: &Seen, steps: u64) -> bool {
+    seen.told && (steps, seen.first.place) == by_the_rule(step)
 }
 
-/// Parts, over all their tries.
+/// Parts, over all their tries. A put waits for a part that has the lock, so that none stands still then; the last one
+/// is over before its step comes.
 #[test]
 fn a_part_beside_a_put_lists_the_map_at_its_place(rt: HostRuntime) -> Result<(), Fail> {
     let habit = Habit::Waits(Kind::Parts);
     let layout = Layout::new(1, 4, 4)?;
-    for step in 0..=steps_of(habit, 1) {
+    for number in 0..=LOCKS + 1 {
+        let step = if number > LOCKS {
+            part_steps(1)
+        } else {
+            number
+        };
         let gate = Watch::new(Some(step));
         let plans = [reads(habit), writes(), idle(), idle()];
         let seen = met(&rt, rt.alloc(), layout, plans, false, &gate)?;
         let [_, steps] = gate.counts();
-        let is_right = is_by_the_rule(habit, step, &seen, steps);
+        let is_right = is_by_the_rule(step, &seen, steps);
         assert_eq!(rt; (step, is_right), (step, true));
     }
     Ok(())
@@ -98,12 +108,11 @@ fn a_part_beside_a_put_lists_the_map_at_its_place(rt: HostRuntime) -> Result<(),
 fn a_get_beside_a_put_is_of_its_place(rt: HostRuntime) -> Result<(), Fail> {
     let habit = Habit::Tries(Kind::Gets);
     let layout = Layout::new(1, 4, 4)?;
-    let steps = steps_of(habit, 1);
-    for step in 0..=steps {
+    for step in 0..=GET {
         let gate = Watch::new(Some(step));
         let plans = [reads(habit), writes(), idle(), idle()];
         let seen = met(&rt, rt.alloc(), layout, plans, false, &gate)?;
-        let place = if step < steps { 2 } else { 1 };
+        let place = if step < GET { 2 } else { 1 };
         let is_right = seen.told && seen.first.place == place && is_back(seen.first, step);
         assert_eq!(rt; (step, is_right), (step, true));
     }

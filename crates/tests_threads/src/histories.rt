@@ -185,8 +185,8 @@ fn a_full_put_counts_as_one_call(rt: HostRuntime) -> Result<(), Fail> {
     Ok(())
 }
 
-/// A gate is told of all steps of a whole put, over its four tries and a turn behind each. A put of a new name takes 8
-/// steps for the floor, 6 for the walk and 67 for the rest; one that finds no room 8, 6 and 31; and a turn with nothing
+/// A gate is told of all steps of a whole put, over its four tries and a turn behind each. A put of a new name takes 5
+/// steps for the floor, 6 for the walk and 67 for the rest; one that finds no room 5, 6 and 31; and a turn with nothing
 /// to do takes the lock, loads the states of 32 lines and the status of the node twice, and gives the lock back.
 #[test]
 fn a_gate_sees_each_step_of_a_whole_put(rt: HostRuntime) -> Result<(), Fail> {
@@ -195,8 +195,8 @@ fn a_gate_sees_each_step_of_a_whole_put(rt: HostRuntime) -> Result<(), Fail> {
     let gate = Watch::new(None);
     let seen = met(&rt, rt.alloc(), layout, plans, false, &gate)?;
     assert!(rt; seen.told && gate.is_in_order());
-    let (tried, turned) = (8 + 6 + 31, 1 + 32 + 1 + 1 + 1);
+    let (tried, turned) = (5 + 6 + 31, 1 + 32 + 1 + 1 + 1);
     let counts = gate.counts();
-    assert!(rt; counts == [4 * (tried + turned), 8 + 6 + 67]);
+    assert!(rt; counts == [4 * (tried + turned), 5 + 6 + 67]);
     Ok(())
 }

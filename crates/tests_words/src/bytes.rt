@@ -123,12 +123,13 @@ fn first_otherwise(bytes: &[u8]) -> Option<usize> {
         .position(|(at, byte)| *byte != byte_at(at))
 }
 
-/// The byte of the image at this place: behind the head all are 0 but for the first word of the first leaf.
+/// The byte of the image at this place: behind the head all are 0 but for the root's reference, which is 65536, and the
+/// node's word of the first leaf, which is 1.
 fn byte_at(at: usize) -> u8 {
     if at < 48 {
         return HEAD[at];
     }
-    if at == 8 * 147 { 1 } else { 0 }
+    if at == 8 * 8 + 2 || at == 8 * 147 { 1 } else { 0 }
 }
 
 /// The generation of an image of that layout.

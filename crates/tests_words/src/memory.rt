@@ -100,8 +100,8 @@ fn layouts_out_of_range(rt: HostRuntime) {
 
 /// The word of a fresh image of the small layout at this address.
 fn fresh_word(at: u64) -> u64 {
-    const HEAD: [u64; 8] = [0x3130_5441_4343_4150, 1, 2, 4, 1, 1, 0, 0];
-    if at < 8 {
+    const HEAD: [u64; 9] = [0x3130_5441_4343_4150, 1, 2, 4, 1, 1, 0, 0, 65536];
+    if at < 9 {
         return HEAD[at as usize];
     }
     if at == 147 { 1 } else { 0 }

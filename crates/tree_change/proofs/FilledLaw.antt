@@ -8,17 +8,17 @@ use Rattle.radix_nodes.specs.Fills.{leaf_value}
 use Rattle.tree_law.specs.Trees.{Nothing, Leaf, Cell, byte_at, low}
 use Rattle.tree_law.specs.Words.{kind_of, number_of, reference_of, cell_in, tree_of}
 use Rattle.tree_law.proofs.WordLaw.{words_alike}
-use Rattle.tree_floor.specs.Keys.{number_in}
-use Rattle.tree_floor.proofs.KeyNumbers.{words_below, prefix_is_of_number}
+use Rattle.layer_map.specs.Keys.{key_number}
+use Rattle.tree_floor.proofs.KeyNumbers.{number_below, prefix_is_of_number}
 use Rattle.tree_change.specs.Filled.{LeafIsFilled, PairIsFilled}
 use Rattle.tree_change.proofs.CellsAlike.{children_alike, form_alike}
 
 pub leaf_is_filled : LeafIsFilled
 leaf_is_filled count nodes w key node leaf is_key within node_within stands =
     let word_of_key : (k : ℕ) → k < WORDS → leaf_value (slice_index key) node k ≡ slice_index key k = λ k lt. ap (λ t. cond t (slice_index key k) (cond (k == 3) (node + 1) 0)) (lt-ltb k 3 lt) in
-    let key_is : (tree_of w).key leaf ≡ number_in key = words_alike WORDS (w.leaf leaf) (slice_index key) (λ k lt. stands k (omega arith) ∙ word_of_key k lt) in
+    let key_is : (tree_of w).key leaf ≡ key_number key = words_alike (w.leaf leaf) (slice_index key) (λ k lt. stands k (omega arith) ∙ word_of_key k lt) in
     let word_is : (tree_of w).word leaf ≡ node + 1 = stands WORDS (omega arith) in
-    let small : number_in key < 256 ^ key_bytes = words_below WORDS (slice_index key) is_key.fits in
+    let small : key_number key < 256 ^ key_bytes = number_below (slice_index key) is_key.fits in
     record {
       sound = record {
         number = within;
@@ -44,9 +44,9 @@ pair_is_filled count nodes w key prefix reference depth x leaf pair is_key two w
     record {
       number = ap₂ (λ k m. leb 2 k && leb k 5 && m) two (lt-ltb (number_of x) count within);
       depth_is = stands 0 (omega arith) ∙ is_pair.depth_is;
-      prefix_is = words_alike WORDS (λ k. cell_in w x (1 + k)) prefix (λ k lt. stands (1 + k) (omega arith) ∙ is_pair.prefix_is k lt) ∙ prefix_is_of_number depth (slice_index key) prefix is_key.fits fits deep is_prefix;
+      prefix_is = words_alike (λ k. cell_in w x (1 + k)) prefix (λ k lt. stands (1 + k) (omega arith) ∙ is_pair.prefix_is k lt) ∙ prefix_is_of_number depth (slice_index key) prefix is_key.fits fits deep is_prefix;
       old = ap reference_of (child (byte_at depth (low (tree_of w) (reference_of reference))) ∙ is_pair.has_one);
-      new = ap reference_of (child (byte_at depth (number_in key)) ∙ is_pair.has_two) ∙ leaf_reference leaf small;
+      new = ap reference_of (child (byte_at depth (key_number key)) ∙ is_pair.has_two) ∙ leaf_reference leaf small;
       only = λ b not_old not_new. ap reference_of (child b ∙ is_pair.only b not_old not_new);
       form = subst (λ k. IsForm k (cell_in w x)) (sym two) (form_alike 2 (words_of pair) (cell_in w x) (omega arith) (omega arith) stands form);
     }

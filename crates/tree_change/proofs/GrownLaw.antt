@@ -28,7 +28,7 @@ larger_is_filled count nodes w cell filled x larger b leaf is old has new within
     record {
       number = ap₂ (λ p q. p && q) (ap₂ (λ p q. p && q) (le-leb 2 (kind_of larger) least) (le-leb (kind_of larger) 5 most)) (lt-ltb (number_of larger) count within);
       depth = head 0 (omega arith);
-      prefix = words_alike WORDS (λ k. cell_in w larger (1 + k)) (λ k. cell_in w x (1 + k)) (λ k lt. head (1 + k) (omega arith));
+      prefix = words_alike (λ k. cell_in w larger (1 + k)) (λ k. cell_in w x (1 + k)) (λ k lt. head (1 + k) (omega arith));
       has_leaf = ap reference_of (child_stands w larger filled new has.sound b ∙ has.here) ∙ leaf_reference leaf small;
       others = λ c apart. ap reference_of (child_stands w larger filled new has.sound c ∙ has.others c apart ∙ sym (child_stands w x cell old is c));
       form = form_stands w larger filled new has.sound;

@@ -49,7 +49,7 @@ module _ (count nodes : ℕ) (w : LayerWords) (x : ℕ) (cell : cells.Cell) (law
       let depth = cell_in w x 0 in
       let behind : depth ≤ at = subst (λ d. d ≤ at) (head 0 (omega arith)) le in
       byte_is_of_number (prefix_words (words_of cell)) at (λ k. fits (1 + k)) lt
-      ∙ ap (byte_at at) (words_alike WORDS (prefix_words (words_of cell)) (prefix_words (cell_in w x)) (λ k less. head (1 + k) (omega arith)) ∙ sym sound.zeros)
+      ∙ ap (byte_at at) (words_alike (prefix_words (words_of cell)) (prefix_words (cell_in w x)) (λ k less. head (1 + k) (omega arith)) ∙ sym sound.zeros)
       ∙ byte_behind depth ((tree_of w).prefix x) sound.depth at behind lt
 
   pub references_read : AreReferences (children_of cell)

@@ -10,14 +10,14 @@ use Rattle.radix_nodes.specs.Fills.{leaf_value}
 use Rattle.tree_law.specs.Trees.{byte_at, low}
 use Rattle.tree_law.specs.Words.{LayerWords, kind_of, number_of, reference_of, cell_in, tree_of}
 use Rattle.tree_law.specs.Changes.{IsFilledLeaf, IsFilledLarger}
-use Rattle.tree_floor.specs.Keys.{number_in, IsKey}
+use Rattle.layer_map.specs.Keys.{key_number, IsKey}
 use Rattle.tree_look.specs.Ends.{IsFilledPairOf}
 
 -- A leaf in which the words of a key and its node stand is filled for it.
 abbrev pub LeafIsFilled : Type 0
 LeafIsFilled = (count nodes : ℕ) (w : LayerWords) (key : List ℕ) (node leaf : ℕ) → IsKey key → leaf < count →
     node < nodes → ((o : ℕ) → o < 8 → w.leaf leaf o ≡ leaf_value (slice_index key) node o) →
-    IsFilledLeaf count nodes w (number_in key) node leaf
+    IsFilledLeaf count nodes w (key_number key) node leaf
 
 -- A cell of form 4 in which the words of a pair stand is filled for what a reference leads to and the leaf.
 abbrev pub PairIsFilled : Type 0
@@ -27,9 +27,9 @@ PairIsFilled = (count nodes : ℕ) (w : LayerWords) (key : List ℕ) (prefix : K
     IsPrefixOf depth (slice_index key) prefix → EndsAt depth prefix →
     IsPair depth prefix
     (record { byte = byte_at depth (low (tree_of w) (reference_of reference)); reference = reference })
-    (record { byte = byte_at depth (number_in key); reference = 2 ^ 16 + leaf }) pair →
+    (record { byte = byte_at depth (key_number key); reference = 2 ^ 16 + leaf }) pair →
     ((o : ℕ) → o < 8 → cell_in w x o ≡ words_of pair o) →
-    IsFilledPairOf count nodes w reference (number_in key) depth x leaf
+    IsFilledPairOf count nodes w reference (key_number key) depth x leaf
 
 -- these words stand in it, as far as a cell of its kind goes
 abbrev pub StandsIn : LayerWords → ℕ → cells.Cell → Type 0

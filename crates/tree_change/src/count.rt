@@ -3,8 +3,9 @@
 ghost use Rattle.std.specs.Prelude.{◌≡◌, ◌<◌};
 
 use crate::others::{Counted, Others};
+use pm_words::codes::reference::KIND;
 use pm_words::{Action, Layout, Machine, Turn};
-use tree_floor::{KIND, word_of};
+use tree_floor::word_of;
 
 /// Counts the children of a cell beside the one under a byte, up to two. Nobody may write meanwhile.
 #[derive(Clone, Copy)]

@@ -3,8 +3,9 @@
 ghost use Rattle.std.specs.Prelude.{◌≡◌, ◌<◌, ◌≤◌};
 
 use crate::room::{Places, Room};
+use pm_words::codes::reference::KIND;
 use pm_words::{Action, Layout, Machine, Turn};
-use tree_floor::{KIND, word_of};
+use tree_floor::word_of;
 
 /// Looks where a child under a byte comes into a cell of form 4, 16 or 48, which has none there. Nobody may write
 /// meanwhile.

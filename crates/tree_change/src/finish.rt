@@ -6,8 +6,9 @@ ghost use Rattle.pm_words.specs.Locations.{image_words, word_number, Root};
 ghost use Rattle.pm_words.specs.Fences.{IsFence};
 ghost use Rattle.tree_change.specs.Finishes.{IsTarget, target_image, line_image, store_asks, drain_asks};
 
+use pm_words::codes::reference::KIND;
 use pm_words::{Action, Fence, Layout, Machine, Turn, line_of};
-use tree_floor::{KIND, ROOT, word_of};
+use tree_floor::{ROOT, word_of};
 
 /// A word of the layer.
 #[derive(Clone, Copy)]

@@ -3,9 +3,10 @@
 ghost use Rattle.std.specs.Prelude.{◌≡◌, ◌<◌, ◌≤◌};
 ghost use Rattle.pm_words.specs.Locations.{kind_words};
 
+use pm_words::codes::reference::KIND;
 use pm_words::{Action, Layout, Machine, Turn};
 use radix_nodes::{CELL_WORDS, Cell};
-use tree_floor::{KIND, word_of};
+use tree_floor::word_of;
 
 /// Reads the words of a cell, one after another. Nobody may write meanwhile.
 #[derive(Clone, Copy)]

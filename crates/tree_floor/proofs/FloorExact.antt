@@ -28,7 +28,7 @@ use Rattle.tree_floor.specs.declared.scan.Scanned.{Scanned}
 use Rattle.tree_floor.specs.declared.scan.Scanned.TheVariants.{More, Found}
 use Rattle.tree_floor.specs.Scans.{scan_offset, scan_told}
 use Rattle.tree_floor.specs.ScanLaws.{word_below}
-use Rattle.tree_floor.specs.Keys.{number_in, IsKey}
+use Rattle.layer_map.specs.Keys.{key_number, IsKey}
 use Rattle.tree_floor.specs.Floors as floors
 use Rattle.tree_law.specs.Words.{kind_of, number_of}
 use Rattle.tree_floor.specs.Floors.{floor_word, floor_starts, floor_most, no_words, goes_to, lands, turns_back, back, enters, has_key, has_prefix, scans, wants_last, goes_down, has_scanned, floor_at_turned, floor_turned, IsFloor, floor_left, FloorAfter, floor_turn, FloorIsExact}
@@ -101,7 +101,7 @@ module _ (l : Layout) (ks : List ℕ) (w : LayerWords) (layout : IsLayout l) (is
   room = room_of (leaf_count l) l.nodes
 
   abbrev k : ℕ
-  k = number_in ks
+  k = key_number ks
 
   abbrev floor : ℕ → ℕ → ℕ → Bool → FloorAt → Floor
   floor other other_least least last part = record { layout = l; key = ks; other = other; other_least = other_least; least = least; last = last; at = part }
@@ -255,10 +255,10 @@ module _ (l : Layout) (ks : List ℕ) (w : LayerWords) (layout : IsLayout l) (is
   })
 
   -- by a leaf's key
-  key_ends : (leaf other other_least least : ℕ) (last : Bool) (part : FloorAt) (words : List ℕ) → number_in words ≡ t.key leaf → Finds (Leaf leaf) other least other_least → IsFine (reference_of other) → IsReached t (Leaf leaf) → last ≡ false
+  key_ends : (leaf other other_least least : ℕ) (last : Bool) (part : FloorAt) (words : List ℕ) → key_number words ≡ t.key leaf → Finds (Leaf leaf) other least other_least → IsFine (reference_of other) → IsReached t (Leaf leaf) → last ≡ false
       → Ends (has_key (floor other other_least least last part) leaf words)
   key_ends leaf other other_least least last part words key_is knows fine reached not_last =
-      elim (leb (number_in words) k) as (λ a. leb (number_in words) k ≡ a → Ends (cond a (goes_to (floor other other_least least last part) (at.Node leaf)) (back (floor other other_least least last part)))) [
+      elim (leb (key_number words) k) as (λ a. leb (key_number words) k ≡ a → Ends (cond a (goes_to (floor other other_least least last part) (at.Node leaf)) (back (floor other other_least least last part)))) [
         | true ↦ λ e. let at_most : t.key leaf ≤ k = subst (λ n. n ≤ k) key_is (leb-true _ _ e) in (leaf_final leaf other other_least least knows at_most, reached)
         | false ↦ λ e. let above : k < t.key leaf = subst (λ n. k < n) key_is (leb-false _ _ e) in
             subst (λ b. Ends (back (floor other other_least least b part))) (sym not_last)
@@ -266,16 +266,16 @@ module _ (l : Layout) (ks : List ℕ) (w : LayerWords) (layout : IsLayout l) (is
       ] refl
 
   -- by a cell's prefix
-  prefix_ends : (cell depth other other_least least : ℕ) (last : Bool) (part : FloorAt) (prefix : List ℕ) → number_in prefix ≡ t.prefix cell → Finds (Cell cell) other least other_least → IsFine (reference_of other) → IsReached t (Cell cell) → last ≡ false → depth ≡ t.depth cell
+  prefix_ends : (cell depth other other_least least : ℕ) (last : Bool) (part : FloorAt) (prefix : List ℕ) → key_number prefix ≡ t.prefix cell → Finds (Cell cell) other least other_least → IsFine (reference_of other) → IsReached t (Cell cell) → last ≡ false → depth ≡ t.depth cell
       → Ends (floors.has_prefix (floor other other_least least last part) cell depth prefix)
   prefix_ends cell depth other other_least least last part prefix is_prefix knows fine reached not_last is_depth =
       subst (λ b. Ends (floors.has_prefix (floor other other_least least b part) cell depth prefix)) (sym not_last)
-      (elim (leb (number_in prefix) k) as (λ a. leb (number_in prefix) k ≡ a → Ends (cond a (cond (first_bytes depth k * span depth == number_in prefix) (scans (floor other other_least least false part) cell depth (byte_at depth k))
+      (elim (leb (key_number prefix) k) as (λ a. leb (key_number prefix) k ≡ a → Ends (cond a (cond (first_bytes depth k * span depth == key_number prefix) (scans (floor other other_least least false part) cell depth (byte_at depth k))
       (scans (wants_last (floor other other_least least false part)) cell depth 256)) (back (floor other other_least least false part)))) [
         | false ↦ λ e. let less = leb-false _ _ e in
             back_ends (Cell cell) other other_least least part knows fine (λ j way at_most. let inside = within room t sound way in let low = inside.least in omega arith)
         | true ↦ λ e. let least_key = leb-true _ _ e in
-            elim (first_bytes depth k * span depth == number_in prefix) as (λ a. (first_bytes depth k * span depth == number_in prefix) ≡ a → Ends (cond a (scans (floor other other_least least false part) cell depth (byte_at depth k))
+            elim (first_bytes depth k * span depth == key_number prefix) as (λ a. (first_bytes depth k * span depth == key_number prefix) ≡ a → Ends (cond a (scans (floor other other_least least false part) cell depth (byte_at depth k))
             (scans (wants_last (floor other other_least least false part)) cell depth 256))) [
               | true ↦ λ g.
                   let same : first_bytes (t.depth cell) k * span (t.depth cell) ≡ t.prefix cell = sym trimmed_is ∙ eqb-true _ _ g ∙ is_prefix in

@@ -19,7 +19,7 @@ use Rattle.tree_floor.specs.declared.scan.Scanned.{Scanned}
 use Rattle.tree_floor.specs.declared.scan.Scanned.TheVariants.{More, Found}
 use Rattle.tree_floor.specs.Scans.{scan_starts, scan_told, scan_left}
 use Rattle.tree_floor.specs.ScanLaws.{ScanAfter}
-use Rattle.tree_floor.specs.Keys.{number_in, IsKey}
+use Rattle.layer_map.specs.Keys.{key_number, IsKey}
 use Rattle.tree_law.specs.Words.{kind_of, number_of}
 use Rattle.tree_floor.specs.Floors.{no_words, goes_to, lands, turns_back, back, enters, has_key, has_prefix, scans, wants_last, goes_last, goes_down, has_scanned, floor_at_turned, floor_turned, IsCellOf, IsDeep, IsFloorAt, floor_takes, level, behind_left, floor_left, FloorAfter, FloorStays}
 use Rattle.tree_floor.proofs.ScanLaw.{scans_end, scans_start}
@@ -88,7 +88,7 @@ module _ (l : Layout) (key : List ℕ) (layout : IsLayout l) (is_key : IsKey key
   -- it has read the words of a leaf's key, and of a cell's prefix
   key_after : (other other_least least : ℕ) (last : Bool) (part : FloorAt) (leaf : ℕ) (words : List ℕ) (left : ℕ) → leaf < leaf_count l → behind_left last least + 2 ≤ left → FloorAfter l key left (has_key (floor other other_least least last part) leaf words)
   key_after other other_least least last part leaf words left within enough =
-      elim (leb (number_in words) (number_in key)) as (λ a. FloorAfter l key left (cond a (goes_to (floor other other_least least last part) (at.Node leaf)) (back (floor other other_least least last part)))) [
+      elim (leb (key_number words) (key_number key)) as (λ a. FloorAfter l key left (cond a (goes_to (floor other other_least least last part) (at.Node leaf)) (back (floor other other_least least last part)))) [
         | true ↦ moves other other_least least last (at.Node leaf) left within (omega arith)
         | false ↦ back_after other other_least least last part left (seeks last least 2 left enough)
       ]
@@ -97,10 +97,10 @@ module _ (l : Layout) (key : List ℕ) (layout : IsLayout l) (is_key : IsKey key
   prefix_after other other_least least last part cell depth words left is deep last_is enough =
       let this = floor other other_least least last part in
       let turned : behind_left true least + 259 < left = seeking last last_is enough in
-      elim (leb (number_in words) (number_in key)) as (λ a. FloorAfter l key left (cond a (cond (first_bytes depth (number_in key) * span depth == number_in words) (scans this cell depth (byte_at depth (number_in key))) (scans (wants_last this) cell depth 256)) (back this))) [
+      elim (leb (key_number words) (key_number key)) as (λ a. FloorAfter l key left (cond a (cond (first_bytes depth (key_number key) * span depth == key_number words) (scans this cell depth (byte_at depth (key_number key))) (scans (wants_last this) cell depth 256)) (back this))) [
         | false ↦ back_after other other_least least last part left (seeks last least 261 left enough)
-        | true ↦ elim (first_bytes depth (number_in key) * span depth == number_in words) as (λ a. FloorAfter l key left (cond a (scans this cell depth (byte_at depth (number_in key))) (scans (wants_last this) cell depth 256))) [
-          | true ↦ scans_after other other_least least last part cell depth (byte_at depth (number_in key)) left is deep (let small = byte_small depth (number_in key) in omega arith) (omega arith)
+        | true ↦ elim (first_bytes depth (key_number key) * span depth == key_number words) as (λ a. FloorAfter l key left (cond a (scans this cell depth (byte_at depth (key_number key))) (scans (wants_last this) cell depth 256))) [
+          | true ↦ scans_after other other_least least last part cell depth (byte_at depth (key_number key)) left is deep (let small = byte_small depth (key_number key) in omega arith) (omega arith)
           | false ↦ scans_after 0 0 least true part cell depth 256 left is deep (let le : 256 ≤ 256 = omega arith in le) turned
         ]
       ]

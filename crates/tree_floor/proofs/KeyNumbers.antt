@@ -7,7 +7,7 @@ use Rattle.cat_key.specs.declared.TheConstants.{WORDS}
 use Rattle.radix_nodes.specs.Keys.{KeyWords, key_bytes, word_byte, key_byte_of}
 use Rattle.radix_nodes.proofs.Powers.{powers}
 use Rattle.tree_law.specs.Trees.{span, first_bytes, byte_at}
-use Rattle.tree_law.specs.Words.{number_of_words, number_of_key}
+use Rattle.tree_law.specs.Words.{number_of_key}
 use Rattle.tree_law.proofs.Spans.{span_is, span_pos, span_last, span_times, times, times_next, first_is, byte_is, power_pos, first_next, fewer_of_prefix}
 use Rattle.tree_floor.specs.Keys.{ByteIsOfNumber, PrefixIsOfNumber}
 
@@ -36,6 +36,14 @@ lower_byte n w e lt =
 word_byte_is : (word at : ℕ) → at < 8 → word_byte word at ≡ word / 256 ^ (7 - at) % 256
 word_byte_is word at lt = ap (λ p. word / p % 256) (ap (λ n. 2 ^ n) (let is : 56 - 8 * at ≡ 8 * (7 - at) = omega arith in is) ∙ powers (7 - at))
 
+-- the number of the first so many words of a key
+abbrev number_of_words : ℕ → KeyWords → ℕ
+number_of_words zero key = 0
+number_of_words (suc words) key = number_of_words words key * 2 ^ 64 + key words
+
+all_words : (key : KeyWords) → number_of_words WORDS key ≡ number_of_key key
+all_words key = let first : 0 * 2 ^ 64 + key 0 ≡ key 0 = omega arith in ap (λ n. (n * 2 ^ 64 + key 1) * 2 ^ 64 + key 2) first
+
 words_byte : (words : ℕ) (key : KeyWords) (at : ℕ) → ((k : ℕ) → key k < 2 ^ 64) → at < 8 * words → key_byte_of key at ≡ number_of_words words key / 256 ^ (8 * words - (at + 1)) % 256
 words_byte zero key at fits lt = absurd (omega arith)
 words_byte (suc words) key at fits lt = elim (cases_lt at (8 * words)) [
@@ -52,11 +60,11 @@ words_byte (suc words) key at fits lt = elim (cases_lt at (8 * words)) [
 
 pub byte_is_of_number : ByteIsOfNumber
 byte_is_of_number key at fits lt =
-    words_byte WORDS key at fits lt ∙ sym (byte_is at (number_of_key key) ∙ ap (λ s. number_of_key key / s % 256) (span_is (at + 1)))
+    words_byte WORDS key at fits lt ∙ ap (λ n. n / 256 ^ (8 * WORDS - (at + 1)) % 256) (all_words key) ∙ sym (byte_is at (number_of_key key) ∙ ap (λ s. number_of_key key / s % 256) (span_is (at + 1)))
 
 -- Numbers of keys are told by their bytes.
 
-pub words_below : (words : ℕ) (key : KeyWords) → ((k : ℕ) → key k < 2 ^ 64) → number_of_words words key < 256 ^ (8 * words)
+words_below : (words : ℕ) (key : KeyWords) → ((k : ℕ) → key k < 2 ^ 64) → number_of_words words key < 256 ^ (8 * words)
 words_below zero key fits = omega arith
 words_below (suc words) key fits =
     let before = words_below words key fits in
@@ -65,6 +73,9 @@ words_below (suc words) key fits =
     let p = 256 ^ (8 * words) in
     let power : 256 ^ (8 * suc words) ≡ p * 2 ^ 64 = ap (λ i. 256 ^ i) (let is : 8 * suc words ≡ 8 * words + 8 = omega arith in is) ∙ pow-add 256 (8 * words) 8 in
     omega arith
+
+pub number_below : (key : KeyWords) → ((k : ℕ) → key k < 2 ^ 64) → number_of_key key < 256 ^ key_bytes
+number_below key fits = subst (λ n. n < 256 ^ key_bytes) (all_words key) (words_below WORDS key fits)
 
 pub none_first : (n : ℕ) → n < 256 ^ key_bytes → first_bytes 0 n ≡ 0
 none_first n lt = first_is 0 n ∙ ap (λ s. n / s) (span_is 0) ∙ (let less : n / 256 ^ key_bytes < 1 = div_below n (256 ^ key_bytes) 1 (power_pos key_bytes) (omega arith) in omega arith)
@@ -116,8 +127,8 @@ module _ (depth n : ℕ) (within : depth < key_bytes) where
 pub prefix_is_of_number : PrefixIsOfNumber
 prefix_is_of_number depth key prefix' fits fits' within is =
     let n = number_of_key key in
-    let small : n < 256 ^ key_bytes = words_below WORDS key fits in
-    bytes_tell (number_of_key prefix') (first_bytes depth n * span depth) (words_below WORDS prefix' fits') (prefix_below depth n within small) same
+    let small : n < 256 ^ key_bytes = number_below key fits in
+    bytes_tell (number_of_key prefix') (first_bytes depth n * span depth) (number_below prefix' fits') (prefix_below depth n within small) same
   where
     same : (at : ℕ) → at < key_bytes → byte_at at (number_of_key prefix') ≡ byte_at at (first_bytes depth (number_of_key key) * span depth)
     same at lt =

@@ -3,15 +3,9 @@ use Rattle.std.proofs.Common.{◌≡◌, ℕ, zero, suc, ◌+◌, ◌*◌, ◌^�
 use Rattle.std.proofs.lemmas.Bool.{cases_eq}
 use Rattle.std.proofs.lemmas.List.{get_or-set_same, get_or-set_other, length-set}
 use Rattle.cat_key.specs.declared.TheConstants.{WORDS}
-use Rattle.layer_map.specs.Keys as row
-use Rattle.layer_map.proofs.KeyLemmas.{key_order}
-use Rattle.std.specs.Prelude.{nat_le}
-use Rattle.std.specs.Ordering.{partial_le, as_partial_cmp}
-use Rattle.std.specs.Cmp.Lexicographic.{slice_partial_cmp}
-use Rattle.std.proofs.Common.{nat_cmp}
 use Rattle.tree_law.specs.Words.{number_of_key}
 use Rattle.tree_law.proofs.WordLaw.{words_alike}
-use Rattle.tree_floor.specs.Keys.{number_in, IsKey}
+use Rattle.layer_map.specs.Keys.{key_number, IsKey}
 use Rattle.tree_floor.specs.Floors.{no_words}
 
 -- the words of no key yet
@@ -45,21 +39,5 @@ reads_on key words at is within read k lt = elim (cases_eq k at) [
 ]
 
 -- so all of them have its number
-pub read_number : (key : ℕ → ℕ) (words : List ℕ) → AreRead key words WORDS → number_in words ≡ number_of_key key
-read_number key words read = words_alike WORDS (slice_index words) key read
-
--- the number of the row's keys
-pub row_number : (words : List ℕ) → row.key_number words ≡ number_in words
-row_number words =
-    let first = slice_index words 0 in
-    let second = slice_index words 1 in
-    let third = slice_index words 2 in
-    let is : (first * 2 ^ 64 + second) * 2 ^ 64 + third ≡ ((0 * 2 ^ 64 + first) * 2 ^ 64 + second) * 2 ^ 64 + third = omega arith in
-    is
-
--- keys compare as std compares lists of words
-pub order_is : (low high : List ℕ) → IsKey low → IsKey high → partial_le (slice_partial_cmp (as_partial_cmp nat_cmp)) low high ≡ nat_le (number_in low) (number_in high)
-order_is low high is_low is_high = key_order low high (as_row low is_low) (as_row high is_high) ∙ ap₂ nat_le (row_number low) (row_number high)
-  where
-    as_row : (words : List ℕ) → IsKey words → row.IsKey words
-    as_row words is = record { whole = is.whole; fits = is.fits }
+pub read_number : (key : ℕ → ℕ) (words : List ℕ) → AreRead key words WORDS → key_number words ≡ number_of_key key
+read_number key words read = words_alike (slice_index words) key read

@@ -23,7 +23,7 @@ use Rattle.tree_floor.specs.declared.floor.FloorAt.TheVariants as at
 use Rattle.tree_floor.specs.declared.scan.Scanned.{Scanned}
 use Rattle.tree_floor.specs.declared.scan.Scanned.TheVariants.{More, Found}
 use Rattle.tree_floor.specs.Scans.{scan_starts, scan_offset, scan_told, IsScan, scan_left}
-use Rattle.tree_floor.specs.Keys.{number_in, IsKey}
+use Rattle.layer_map.specs.Keys.{key_number, IsKey}
 use Rattle.tree_floor.specs.Telling.{answer_in}
 
 abbrev pub cell_word : ℕ → ℕ → LayerWord
@@ -73,7 +73,7 @@ enters floor reference = if reference == 0 then back floor else lands floor refe
 -- it has read so many words of a leaf's key: the next one, or all
 abbrev pub has_key : Floor → ℕ → List ℕ → Turn Floor ℕ
 has_key floor leaf key =
-    if nat_le (number_in key) (number_in floor.key) then goes_to floor (at.Node leaf) else back floor
+    if nat_le (key_number key) (key_number floor.key) then goes_to floor (at.Node leaf) else back floor
 
 abbrev pub has_key_word : Floor → ℕ → List ℕ → ℕ → Turn Floor ℕ
 has_key_word floor leaf words count =
@@ -95,9 +95,9 @@ wants_last floor = record floor { other = 0; other_least = 0; last = true }
 -- it has read the prefix of a cell
 abbrev pub has_prefix : Floor → ℕ → ℕ → List ℕ → Turn Floor ℕ
 has_prefix floor cell depth prefix =
-    if nat_le (number_in prefix) (number_in floor.key)
-    then (if first_bytes depth (number_in floor.key) * span depth == number_in prefix
-    then scans floor cell depth (byte_at depth (number_in floor.key))
+    if nat_le (key_number prefix) (key_number floor.key)
+    then (if first_bytes depth (key_number floor.key) * span depth == key_number prefix
+    then scans floor cell depth (byte_at depth (key_number floor.key))
     else scans (wants_last floor) cell depth 256)
     else back floor
 
@@ -204,7 +204,7 @@ abbrev pub FloorIsExact : Type 0
 FloorIsExact = (l : Layout) (key : List ℕ) (w : LayerWords) (times : ℕ) → floor_most ≤ times → IsLayout l → IsKey key →
     ((p : LayerWord) → word_in w p < 2 ^ 64) → IsLawful (leaf_count l) l.nodes w →
     IsSomeAnd (answer_in times (floor_turn w) (floor_starts l key))
-    (λ node. IsFloorOf (layer_of w) (number_in key) node)
+    (λ node. IsFloorOf (layer_of w) (key_number key) node)
 
 -- It only loads words of the layer that a row of its layout has.
 abbrev pub FloorOnlyLoads : Type 0

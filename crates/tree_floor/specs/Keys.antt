@@ -1,18 +1,8 @@
--- Keys by their words and by their number.
-use Rattle.std.specs.Prelude.{◌≡◌, ℕ, ◌*◌, ◌^◌, ◌<◌, List, length, slice_index}
-use Rattle.cat_key.specs.declared.TheConstants.{WORDS}
+-- The bytes of keys, by their words and by their number.
+use Rattle.std.specs.Prelude.{◌≡◌, ℕ, ◌*◌, ◌^◌, ◌<◌}
 use Rattle.radix_nodes.specs.Keys.{KeyWords, key_bytes, key_byte_of, IsPrefixOf}
 use Rattle.tree_law.specs.Trees.{span, first_bytes, byte_at}
 use Rattle.tree_law.specs.Words.{number_of_key}
-
--- the number of a key that is held as a list of words
-abbrev pub number_in : List ℕ → ℕ
-number_in words = number_of_key (slice_index words)
-
--- as many words as a key has, each of 64 bits
-pub record IsKey (words : List ℕ) : Type 0 where
-  pub whole : length words ≡ WORDS
-  pub fits : (k : ℕ) → slice_index words k < 2 ^ 64
 
 -- A byte of a key is that of its number.
 abbrev pub ByteIsOfNumber : Type 0

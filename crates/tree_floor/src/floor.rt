@@ -4,10 +4,12 @@ ghost use Rattle.std.specs.Prelude.{◌≡◌};
 ghost use Rattle.tree_law.specs.FloorWalks.{node_told};
 
 use crate::scan::{BYTES, Scan, Scanned};
-use crate::words::{KEY_WORDS, KIND, ROOT, byte_of, is_at_most, is_prefix, word_of};
+use crate::words::{KEY_WORDS, ROOT, byte_of, is_at_most, is_prefix, word_of};
 use cat_key::WORDS;
-use pm_words::{Action, Layout, Machine, Turn};
+use pm_words::codes::reference::KIND;
+use pm_words::{Action, Layout, Machine, Memory, Steps, Turn};
 use radix_nodes::{KEY_BYTES, Key};
+use std::sync::ledger::Ledger;
 
 /// Reads the tree from its root, and answers the node of the greatest key that is at most its own, or 0 where no key
 /// is. It takes no lock; beside a writer it answers some node.
@@ -109,7 +111,9 @@ impl Floor {
     ghost use Rattle.radix_nodes.specs.Keys.{key_bytes};
     ghost use Rattle.pm_words.specs.Layouts.{IsLayout};
     ghost use Rattle.pm_words.specs.Turns.{AdvancesTo};
-    ghost use Rattle.tree_floor.specs.Floors.{IsFloor, IsCellOf, floor_starts, floor_takes, floor_turned};
+    ghost use Rattle.pm_words.specs.declared.machine.Turn.TheVariants.{Done};
+    ghost use Rattle.machine_runs.specs.Runs.{Bursts, MayGo};
+    ghost use Rattle.tree_floor.specs.Floors.{IsFloor, IsCellOf, floor_asks, floor_starts, floor_takes, floor_turned};
     ghost use Rattle.tree_floor.specs.Floors.{goes_to, lands, back, enters, scans, has_key, has_key_word, has_depth};
     ghost use Rattle.tree_floor.specs.Floors.{has_prefix, has_prefix_word, has_scanned};
 
@@ -160,6 +164,19 @@ impl Floor {
                 byte,
                 scan,
             } => self.has_scanned(cell, depth, byte, scan.told(cell / KIND, byte, got)),
+        }
+    }
+
+    /// Does what it asks for until it has its answer, with nothing between. `steps` counts the events.
+    pub fn run<L: Ledger>(&mut self, memory: &mut Memory, steps: &mut Steps<L>) -> u64
+        requires { MayGo floor_asks floor_turned floor_takes memory.old.layout memory.old.words self.old }
+        ensures { Bursts floor_asks floor_turned memory.old memory.new self.old (Done result) steps.old steps.new }
+    {
+        'turns: loop {
+            let got = memory.act(self.action(), steps);
+            if let Some(node) = self.advance(got) {
+                return node;
+            }
         }
     }
 

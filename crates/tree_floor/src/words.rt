@@ -6,15 +6,13 @@ ghost use Rattle.pm_words.specs.Locations.{Cell, word_number, image_words, kind_
 ghost use Rattle.radix_nodes.specs.Keys.{key_bytes};
 ghost use Rattle.tree_law.specs.Trees.{span, first_bytes, byte_at};
 ghost use Rattle.tree_law.specs.Words.{kind_of, number_of};
-ghost use Rattle.tree_floor.specs.Keys.{number_in};
+ghost use Rattle.layer_map.specs.Keys.{key_number};
 ghost use Rattle.tree_floor.specs.Floors.{IsCellOf};
 
 use cat_key::WORDS;
 use pm_words::Layout;
+use pm_words::codes::reference::KIND;
 use radix_nodes::{Key, key_byte, prefix_of};
-
-/// A reference is its kind times this, and its number.
-pub const KIND: u64 = 1 << 16;
 
 /// The number of the root's word among those of an image.
 pub const ROOT: u64 = 8;
@@ -35,7 +33,7 @@ pub fn word_of(layout: Layout, cell: u64, offset: u64) -> u64
 
 /// Whether the one key is at most the other.
 pub(crate) fn is_at_most(low: Key, high: Key) -> bool
-    ensures { result ≡ nat_le (number_in low) (number_in high) }
+    ensures { result ≡ nat_le (key_number low) (key_number high) }
 {
     low <= high
 }
@@ -43,14 +41,14 @@ pub(crate) fn is_at_most(low: Key, high: Key) -> bool
 /// Whether these are the first so many bytes of a key, with zeros behind them.
 pub fn is_prefix(prefix: Key, depth: u64, key: Key) -> bool
     requires { depth < key_bytes }
-    ensures { result ≡ (first_bytes depth (number_in key) * span depth == number_in prefix) }
+    ensures { result ≡ (first_bytes depth (key_number key) * span depth == key_number prefix) }
 {
     is_same(prefix_of(&key, depth), prefix)
 }
 
 /// Whether they are one key.
 pub fn is_same(one: Key, other: Key) -> bool
-    ensures { result ≡ (number_in one == number_in other) }
+    ensures { result ≡ (key_number one == key_number other) }
 {
     one == other
 }
@@ -58,7 +56,7 @@ pub fn is_same(one: Key, other: Key) -> bool
 /// The byte of a key behind so many.
 pub fn byte_of(key: Key, depth: u64) -> u64
     requires { depth < key_bytes }
-    ensures byte { result ≡ byte_at depth (number_in key) }
+    ensures byte { result ≡ byte_at depth (key_number key) }
     ensures small { result < 256 }
 {
     key_byte(&key, depth) as u64

@@ -6,7 +6,7 @@ use Rattle.cat_key.specs.declared.TheConstants.{WORDS}
 use Rattle.radix_nodes.specs.Keys.{KeyWords}
 use Rattle.radix_nodes.specs.Cells.{prefix_words, children, IsForm}
 use Rattle.tree_law.specs.Switches.{Place, Root, Entry, reference_at, rooted, IsSwitched, Makes, AreSameWhereReached, IsSameAt, StaysTree}
-use Rattle.tree_law.specs.Words.{Stored, RootWord, LeafWord, CellWord, LayerWords, kind_of, number_of, reference_of, cell_in, number_of_words, tree_of, room_of, IsLawful, IsSwitchStore, at_root, in_cell, SwitchMakes, NodeWordMakes, Part, LeafPart, CellPart, part_reference, part_word, AreSameBut, PartMayDiffer}
+use Rattle.tree_law.specs.Words.{Stored, RootWord, LeafWord, CellWord, LayerWords, kind_of, number_of, number_of_key, reference_of, cell_in, tree_of, room_of, IsLawful, IsSwitchStore, at_root, in_cell, SwitchMakes, NodeWordMakes, Part, LeafPart, CellPart, part_reference, part_word, AreSameBut, PartMayDiffer}
 use Rattle.tree_law.proofs.Avoiding.{Avoids, was, reaches}
 use Rattle.tree_law.proofs.OtherLaw.{rename_makes, others_may_differ, from_named}
 
@@ -40,9 +40,9 @@ pub cell_apart : (x y o o' : ℕ) → x ≢ y → CellWord (kind_of y) (number_o
 cell_apart x y o o' apart e = apart (same_reference x y (let kind : kind_of x ≡ kind_of y = cc in kind) (let number : number_of x ≡ number_of y = cc in number))
 
 -- keys with the same words have one number
-pub words_alike : (words : ℕ) (a b : KeyWords) → ((k : ℕ) → k < words → a k ≡ b k) → number_of_words words a ≡ number_of_words words b
-words_alike zero a b same = refl
-words_alike (suc words) a b same = ap₂ (λ n k. n * 2 ^ 64 + k) (words_alike words a b (λ k lt. same k (omega arith))) (same words (omega arith))
+pub words_alike : (a b : KeyWords) → ((k : ℕ) → k < WORDS → a k ≡ b k) → number_of_key a ≡ number_of_key b
+words_alike a b same =
+    ap₂ (λ n k. n * 2 ^ 64 + k) (ap₂ (λ n k. n * 2 ^ 64 + k) (same 0 (omega arith)) (same 1 (omega arith))) (same 2 (omega arith))
 
 -- the words of a cell are all the same
 module _ (w w' : LayerWords) (x : ℕ) (same : (o : ℕ) → cell_in w' x o ≡ cell_in w x o) where
@@ -53,7 +53,7 @@ module _ (w w' : LayerWords) (x : ℕ) (same : (o : ℕ) → cell_in w' x o ≡ 
   depth_kept = same 0
 
   pub prefix_kept : (tree_of w').prefix x ≡ (tree_of w).prefix x
-  prefix_kept = words_alike WORDS (prefix_words (cell_in w' x)) (prefix_words (cell_in w x)) (λ k lt. same (1 + k))
+  prefix_kept = words_alike (prefix_words (cell_in w' x)) (prefix_words (cell_in w x)) (λ k lt. same (1 + k))
 
   pub child_kept : (b : ℕ) → (tree_of w').child x b ≡ (tree_of w).child x b
   child_kept b = ap (λ c. reference_of (children (kind_of x) c b)) cell_same
@@ -63,11 +63,11 @@ module _ (w w' : LayerWords) (x : ℕ) (same : (o : ℕ) → cell_in w' x o ≡ 
 
 -- its head is
 pub head_kept : (w w' : LayerWords) (x : ℕ) → ((o : ℕ) → o < 4 → cell_in w' x o ≡ cell_in w x o) → (tree_of w').prefix x ≡ (tree_of w).prefix x
-head_kept w w' x same = words_alike WORDS (prefix_words (cell_in w' x)) (prefix_words (cell_in w x)) (λ k lt. same (1 + k) (omega arith))
+head_kept w w' x same = words_alike (prefix_words (cell_in w' x)) (prefix_words (cell_in w x)) (λ k lt. same (1 + k) (omega arith))
 
 -- a leaf's key
 pub leaf_key : (w w' : LayerWords) (i : ℕ) → ((o : ℕ) → o < WORDS → w'.leaf i o ≡ w.leaf i o) → (tree_of w').key i ≡ (tree_of w).key i
-leaf_key w w' i same = words_alike WORDS (w'.leaf i) (w.leaf i) same
+leaf_key w w' i same = words_alike (w'.leaf i) (w.leaf i) same
 
 root_some : (count nodes : ℕ) (w : LayerWords) → IsLawful count nodes w → reference_of w.root ≢ Nothing
 root_some count nodes w lawful e = subst (IsSound (room_of count nodes) (tree_of w)) e (lawful.tree (reference_of w.root) here)

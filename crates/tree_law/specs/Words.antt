@@ -1,11 +1,12 @@
 -- The words in which a tree is kept, of one row, and what stores and mixes of them make of its layer.
-use Rattle.std.specs.Prelude.{◌≡◌, ◌≢◌, ℕ, zero, suc, ◌+◌, ◌-◌, ◌*◌, ◌/◌, ◌%◌, ◌^◌, ◌≤◌, ◌==◌, ◌&&◌, ◌⊎◌}
+use Rattle.std.specs.Prelude.{◌≡◌, ◌≢◌, ℕ, ◌+◌, ◌-◌, ◌*◌, ◌/◌, ◌%◌, ◌^◌, ◌≤◌, ◌==◌, ◌&&◌, ◌⊎◌}
 use Rattle.std.specs.Prelude.{nat_lt, nat_le, if◌then◌else◌, Option, Some}
 use Rattle.cat_key.specs.declared.TheConstants.{WORDS}
 use Rattle.radix_nodes.specs.Keys.{KeyWords}
 use Rattle.radix_nodes.specs.Cells.{CellWords, prefix_words, children, IsForm}
 use Rattle.radix_nodes.specs.Changes.{IsCellStore}
 use Rattle.layer_map.specs.Layers.{Layer, AreSame, changed_at}
+use Rattle.layer_map.specs.Keys.{key_of}
 use Rattle.tree_law.specs.Trees.{Reference, Nothing, Leaf, Cell, Tree, Reaches, IsReached, Room, IsTree, layer_in}
 use Rattle.tree_law.specs.Switches as switches
 use Rattle.tree_law.specs.Switches.{Place, Entry, reference_at}
@@ -38,13 +39,9 @@ reference_of x = if x == 0 then Nothing else if kind_of x == 1 then Leaf (number
 abbrev pub cell_in : LayerWords → ℕ → CellWords
 cell_in w x = w.cell (kind_of x) (number_of x)
 
--- the number of the first so many words of a key, and of all: its order is the order of keys
-abbrev pub number_of_words : ℕ → KeyWords → ℕ
-number_of_words zero key = 0
-number_of_words (suc words) key = number_of_words words key * 2 ^ 64 + key words
-
+-- the number of a key by its words: its order is the order of keys
 abbrev pub number_of_key : KeyWords → ℕ
-number_of_key key = number_of_words WORDS key
+number_of_key key = key_of (key 0) (key 1) (key 2)
 
 -- The tree of the words: of a leaf the first words are its key, and its node word stands behind them; of a cell word 0
 -- is its depth, and its prefix stands behind that.

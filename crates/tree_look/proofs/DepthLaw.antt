@@ -5,7 +5,7 @@ use Rattle.radix_nodes.specs.Keys.{key_bytes, key_byte_of, IsShared}
 use Rattle.tree_law.specs.Trees.{first_bytes, byte_at}
 use Rattle.tree_law.specs.Paths.{PartsAt}
 use Rattle.tree_law.proofs.Spans.{span_is, first_is, first_next, fewer_alike}
-use Rattle.tree_floor.specs.Keys.{number_in, IsKey}
+use Rattle.layer_map.specs.Keys.{key_number, IsKey}
 use Rattle.tree_floor.proofs.KeyNumbers.{byte_is_of_number, none_first, whole_first}
 use Rattle.tree_look.specs.Depths.{shared_from, shared_of, KeysPart, PartsBefore}
 
@@ -47,7 +47,7 @@ parts_before depth at one other lt parts differ = elim (cases_lt at depth) [
 
 -- the count of bytes that keys share is that of their numbers
 module _ (one other : List ℕ) (is_one : IsKey one) (is_other : IsKey other) (count : ℕ) (shared : IsShared (slice_index one) (slice_index other) count) where
-  counts : (left depth : ℕ) → left + depth ≡ key_bytes → depth ≤ count → shared_from (number_in one) (number_in other) left depth ≡ count
+  counts : (left depth : ℕ) → left + depth ≡ key_bytes → depth ≤ count → shared_from (key_number one) (key_number other) left depth ≡ count
   counts zero depth all before = let within : count ≤ key_bytes = shared.within in omega arith
   counts (suc left) depth all before =
       let lt : depth < key_bytes = omega arith in
@@ -56,13 +56,13 @@ module _ (one other : List ℕ) (is_one : IsKey one) (is_other : IsKey other) (c
       elim (cases_eq depth count) [
         | inl here ↦
             let apart = shared.apart (subst (λ d. d < key_bytes) here lt) in
-            let differ : byte_at depth (number_in one) ≡ byte_at depth (number_in other) → ⊥ = λ same. apart (subst (λ d. key_byte_of (slice_index one) d ≡ key_byte_of (slice_index other) d) here (byte ∙ same ∙ sym byte')) in
-            ap (λ a. cond a (shared_from (number_in one) (number_in other) left (depth + 1)) depth) (ne_eqb (byte_at depth (number_in one)) (byte_at depth (number_in other)) differ) ∙ here
+            let differ : byte_at depth (key_number one) ≡ byte_at depth (key_number other) → ⊥ = λ same. apart (subst (λ d. key_byte_of (slice_index one) d ≡ key_byte_of (slice_index other) d) here (byte ∙ same ∙ sym byte')) in
+            ap (λ a. cond a (shared_from (key_number one) (key_number other) left (depth + 1)) depth) (ne_eqb (byte_at depth (key_number one)) (byte_at depth (key_number other)) differ) ∙ here
         | inr not_here ↦
             let same = shared.same depth (omega (arith, not_here)) in
-            ap (λ a. cond a (shared_from (number_in one) (number_in other) left (depth + 1)) depth) (eq-eqb (byte_at depth (number_in one)) (byte_at depth (number_in other)) (sym byte ∙ same ∙ byte'))
+            ap (λ a. cond a (shared_from (key_number one) (key_number other) left (depth + 1)) depth) (eq-eqb (byte_at depth (key_number one)) (byte_at depth (key_number other)) (sym byte ∙ same ∙ byte'))
             ∙ counts left (depth + 1) (omega arith) (omega (arith, not_here))
       ]
 
-  pub shared_is : count ≡ shared_of (number_in one) (number_in other)
+  pub shared_is : count ≡ shared_of (key_number one) (key_number other)
   shared_is = sym (counts key_bytes 0 (omega arith) (omega arith))

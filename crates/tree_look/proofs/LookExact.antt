@@ -19,9 +19,9 @@ use Rattle.tree_law.specs.Words as words
 use Rattle.tree_law.proofs.Spans.{first_of_prefix, byte_small}
 use Rattle.tree_law.proofs.SwitchLaw.{below_old}
 use Rattle.tree_law.proofs.PathLaw.{comes_place}
-use Rattle.tree_floor.specs.Keys.{number_in, IsKey}
+use Rattle.layer_map.specs.Keys.{key_number, IsKey}
 use Rattle.tree_floor.specs.Floors.{no_words}
-use Rattle.tree_floor.proofs.KeyNumbers.{words_below}
+use Rattle.tree_floor.proofs.KeyNumbers.{number_below}
 use Rattle.tree_floor.proofs.KeyWords.{key_set, AreRead, reads_on, read_number}
 use Rattle.tree_floor.proofs.FloorExact.{IsReference, is_none, is_leaf, is_cell, reference, reference_some}
 use Rattle.tree_look.specs.declared.find.Findings.{Findings}
@@ -48,8 +48,8 @@ parted_byte : (other depth : ℕ) → depth < key_bytes → looks.byte_parted ot
 parted_byte other depth lt = ap (λ a. cond a (byte_at depth other) 0) (lt-ltb depth key_bytes lt)
 
 -- a key's number is that of as many bytes
-key_below : (words : List ℕ) → IsKey words → number_in words < 256 ^ key_bytes
-key_below words is = words_below WORDS (slice_index words) is.fits
+key_below : (words : List ℕ) → IsKey words → key_number words < 256 ^ key_bytes
+key_below words is = number_below (slice_index words) is.fits
 
 -- a store of a word of a cell, as its words
 pub cells_same : (w w' : LayerWords) (x offset word : ℕ) → Stored w w' (CellWord (kind_of x) (number_of x) offset) word → with_word (cell_in w x) offset word ≡ cell_in w' x
@@ -69,7 +69,7 @@ module _ (l : Layout) (ks : List ℕ) (w : LayerWords) (layout : IsLayout l) (is
   room = room_of (leaf_count l) l.nodes
 
   abbrev k : ℕ
-  k = number_in ks
+  k = key_number ks
 
   abbrev look : ℕ → Spot → Spot → LookAt → Look
   look least outer inner part = record { layout = l; key = ks; least = least; outer = outer; inner = inner; at = part }
@@ -144,21 +144,21 @@ module _ (l : Layout) (ks : List ℕ) (w : LayerWords) (layout : IsLayout l) (is
       lawful_root e = subst (IsSound room t) e (lawful.tree (reference_of w.root) here)
 
   -- a leaf's key
-  key_ends : (leaf least : ℕ) (outer inner : Spot) (part : LookAt) (other : List ℕ) → IsKey other → number_in other ≡ t.key leaf → leaf < leaf_count l → KnownAt outer inner (2 ^ 16 + leaf) → Ends (looks.has_key (look least outer inner part) leaf other)
+  key_ends : (leaf least : ℕ) (outer inner : Spot) (part : LookAt) (other : List ℕ) → IsKey other → key_number other ≡ t.key leaf → leaf < leaf_count l → KnownAt outer inner (2 ^ 16 + leaf) → Ends (looks.has_key (look least outer inner part) leaf other)
   key_ends leaf least outer inner part other is_other same within known =
       let most : l.nodes ≤ 4096 = layout.nodes.1 in
       let kind : (2 ^ 16 + leaf) / 2 ^ 16 ≡ 1 = omega arith in
       let number : (2 ^ 16 + leaf) % 2 ^ 16 ≡ leaf = omega arith in
       let leaf_is : reference_of (2 ^ 16 + leaf) ≡ Leaf leaf = leaf_reference (2 ^ 16 + leaf) leaf (λ z. omega arith) kind number in
-      elim (k == number_in other) as (λ a. (k == number_in other) ≡ a → Ends (cond a (Done (looked.Key outer inner leaf)) (looks.parts (look least outer inner part) (2 ^ 16 + leaf) other))) [
+      elim (k == key_number other) as (λ a. (k == key_number other) ≡ a → Ends (cond a (Done (looked.Key outer inner leaf)) (looks.parts (look least outer inner part) (2 ^ 16 + leaf) other))) [
         | true ↦ λ e. (sym same ∙ sym (eqb-true _ _ e), (known.place, known.held, known.outer_is), leaf_is)
         | false ↦ λ e.
-            let parts = keys_part k (number_in other) (key_below ks is_key) (key_below other is_other) (eqb-false _ _ e) in
+            let parts = keys_part k (key_number other) (key_below ks is_key) (key_below other is_other) (eqb-false _ _ e) in
             let is = leaf_is in (
               (known.place, known.held),
-              subst (λ q. PartsAt (shared_of k (number_in other)) k (low t q)) (sym is) (subst (PartsAt (shared_of k (number_in other)) k) same parts.1),
-              subst (λ q. shared_of k (number_in other) < depth_of t q) (sym is) parts.0,
-              subst (λ q. looks.byte_parted (number_in other) (shared_of k (number_in other)) ≡ byte_at (shared_of k (number_in other)) (low t q)) (sym is) (parted_byte (number_in other) (shared_of k (number_in other)) parts.0 ∙ ap (byte_at (shared_of k (number_in other))) same),
+              subst (λ q. PartsAt (shared_of k (key_number other)) k (low t q)) (sym is) (subst (PartsAt (shared_of k (key_number other)) k) same parts.1),
+              subst (λ q. shared_of k (key_number other) < depth_of t q) (sym is) parts.0,
+              subst (λ q. looks.byte_parted (key_number other) (shared_of k (key_number other)) ≡ byte_at (shared_of k (key_number other)) (low t q)) (sym is) (parted_byte (key_number other) (shared_of k (key_number other)) parts.0 ∙ ap (byte_at (shared_of k (key_number other))) same),
             )
       ] refl
     where
@@ -171,7 +171,7 @@ module _ (l : Layout) (ks : List ℕ) (w : LayerWords) (layout : IsLayout l) (is
           go (is_cell some' other' is) = absurd (other' kind)
 
   -- a cell's prefix
-  prefix_ends : (cell depth least : ℕ) (outer inner : Spot) (part : LookAt) (prefix : List ℕ) → IsKey prefix → number_in prefix ≡ t.prefix cell → KnownAt outer inner cell → reference_of cell ≡ Cell cell → depth ≡ t.depth cell
+  prefix_ends : (cell depth least : ℕ) (outer inner : Spot) (part : LookAt) (prefix : List ℕ) → IsKey prefix → key_number prefix ≡ t.prefix cell → KnownAt outer inner cell → reference_of cell ≡ Cell cell → depth ≡ t.depth cell
       → Ends (looks.has_prefix (look least outer inner part) cell depth prefix)
   prefix_ends cell depth least outer inner part prefix is_prefix same known is is_depth =
       let sound : IsCell room t cell = lawful.tree (Cell cell) (cell_reached outer inner cell known is) in
@@ -179,7 +179,7 @@ module _ (l : Layout) (ks : List ℕ) (w : LayerWords) (layout : IsLayout l) (is
       let parts_kinds = and_parts (leb 2 (kind_of cell) && leb (kind_of cell) 5) (ltb (number_of cell) (leaf_count l)) sound.number in
       let kinds = and_parts (leb 2 (kind_of cell)) (leb (kind_of cell) 5) parts_kinds.0 in
       let d = t.depth cell in
-      elim (first_bytes depth k * span depth == number_in prefix) as (λ a. (first_bytes depth k * span depth == number_in prefix) ≡ a → Ends (cond a (goes_to (look least outer inner part) (at.Finding cell depth (find_starts (kind_of cell)))) (looks.parts (look least outer inner part) cell prefix))) [
+      elim (first_bytes depth k * span depth == key_number prefix) as (λ a. (first_bytes depth k * span depth == key_number prefix) ≡ a → Ends (cond a (goes_to (look least outer inner part) (at.Finding cell depth (find_starts (kind_of cell)))) (looks.parts (look least outer inner part) cell prefix))) [
         | true ↦ λ e.
             let whole : first_bytes d k * span d ≡ t.prefix cell = sym first_is' ∙ eqb-true _ _ e ∙ same in
             let on : first_bytes d k ≡ first_bytes d (t.prefix cell) = sym (first_of_prefix d (first_bytes d k)) ∙ ap (first_bytes d) whole in
@@ -187,12 +187,12 @@ module _ (l : Layout) (ks : List ℕ) (w : LayerWords) (layout : IsLayout l) (is
         | false ↦ λ e.
             let apart = eqb-false _ _ e in
             let differ : first_bytes d k ≢ first_bytes d (t.prefix cell) = λ alike. apart (first_is' ∙ ap (λ f. f * span d) alike ∙ sound.zeros ∙ sym same) in
-            let parts = keys_part k (number_in prefix) (key_below ks is_key) (key_below prefix is_prefix) (λ equal. differ (ap (first_bytes d) (equal ∙ same))) in
-            let parts' : PartsAt (shared_of k (number_in prefix)) k (t.prefix cell) = subst (PartsAt (shared_of k (number_in prefix)) k) same parts.1 in (
+            let parts = keys_part k (key_number prefix) (key_below ks is_key) (key_below prefix is_prefix) (λ equal. differ (ap (first_bytes d) (equal ∙ same))) in
+            let parts' : PartsAt (shared_of k (key_number prefix)) k (t.prefix cell) = subst (PartsAt (shared_of k (key_number prefix)) k) same parts.1 in (
               (known.place, known.held),
-              subst (λ q. PartsAt (shared_of k (number_in prefix)) k (low t q)) (sym is) parts',
-              subst (λ q. shared_of k (number_in prefix) < depth_of t q) (sym is) (parts_before d (shared_of k (number_in prefix)) k (t.prefix cell) sound.depth parts' differ),
-              subst (λ q. looks.byte_parted (number_in prefix) (shared_of k (number_in prefix)) ≡ byte_at (shared_of k (number_in prefix)) (low t q)) (sym is) (parted_byte (number_in prefix) (shared_of k (number_in prefix)) parts.0 ∙ ap (byte_at (shared_of k (number_in prefix))) same),
+              subst (λ q. PartsAt (shared_of k (key_number prefix)) k (low t q)) (sym is) parts',
+              subst (λ q. shared_of k (key_number prefix) < depth_of t q) (sym is) (parts_before d (shared_of k (key_number prefix)) k (t.prefix cell) sound.depth parts' differ),
+              subst (λ q. looks.byte_parted (key_number prefix) (shared_of k (key_number prefix)) ≡ byte_at (shared_of k (key_number prefix)) (low t q)) (sym is) (parted_byte (key_number prefix) (shared_of k (key_number prefix)) parts.0 ∙ ap (byte_at (shared_of k (key_number prefix))) same),
             )
       ] refl
 

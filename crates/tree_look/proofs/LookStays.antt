@@ -12,7 +12,7 @@ use Rattle.radix_nodes.specs.Keys.{key_bytes}
 use Rattle.radix_nodes.specs.Cells.{IsReference}
 use Rattle.tree_law.specs.Trees.{span, first_bytes, byte_at, way_length}
 use Rattle.tree_law.specs.Words.{kind_of, number_of}
-use Rattle.tree_floor.specs.Keys.{number_in, IsKey}
+use Rattle.layer_map.specs.Keys.{key_number, IsKey}
 use Rattle.tree_law.proofs.Spans.{byte_small}
 use Rattle.tree_floor.specs.Floors.{no_words, IsCellOf}
 use Rattle.tree_floor.proofs.KeyWords.{no_words_key, key_set}
@@ -74,12 +74,12 @@ module _ (l : Layout) (key : List ℕ) (layout : IsLayout l) (is_key : IsKey key
       let next = slice_set words word got in
       let within : word < WORDS = here.2 in
       elim (word + 1 == WORDS) as (λ a. (word + 1 == WORDS) ≡ a → LookAfter l key left (cond a (has_key this leaf next) (goes_to this (at.Key leaf next (word + 1))))) [
-        | true ↦ λ e. elim (number_in key == number_in next) as (λ a. LookAfter l key left (cond a (Done (looked.Key outer inner leaf)) (parts this (2 ^ 16 + leaf) next))) [
+        | true ↦ λ e. elim (key_number key == key_number next) as (λ a. LookAfter l key left (cond a (Done (looked.Key outer inner leaf)) (parts this (2 ^ 16 + leaf) next))) [
           | true ↦ (spots.0, spots.1, here.0)
           | false ↦
               let few : l.nodes ≤ 4096 = layout.nodes.1 in
               let leaf_in : leaf < leaf_count l = here.0 in
-              (spots.1, (omega arith, omega arith), parted_small (number_in next) (shared_of (number_in key) (number_in next)))
+              (spots.1, (omega arith, omega arith), parted_small (key_number next) (shared_of (key_number key) (key_number next)))
         ]
         | false ↦ λ e. let more = eqb-false _ _ e in
             moves least outer inner (at.Key leaf next (word + 1)) left spots (here.0, key_set words word got here.1 within fits, omega (arith, more)) (omega arith)
@@ -100,22 +100,22 @@ module _ (l : Layout) (key : List ℕ) (layout : IsLayout l) (is_key : IsKey key
       let start = starts (kind_of cell) 0 (λ o. 0) here.0.low here.0.high in
       let few = start.few in
       elim (word + 1 == WORDS) as (λ a. (word + 1 == WORDS) ≡ a → LookAfter l key left (cond a (has_prefix this cell depth next) (goes_to this (at.Prefix cell depth next (word + 1))))) [
-        | true ↦ λ e. elim (first_bytes depth (number_in key) * span depth == number_in next) as (λ a. LookAfter l key left (cond a (goes_to this (at.Finding cell depth (find_starts (kind_of cell)))) (parts this cell next))) [
+        | true ↦ λ e. elim (first_bytes depth (key_number key) * span depth == key_number next) as (λ a. LookAfter l key left (cond a (goes_to this (at.Finding cell depth (find_starts (kind_of cell)))) (parts this cell next))) [
           | true ↦ moves least outer inner (at.Finding cell depth (find_starts (kind_of cell))) left spots (here.0, here.1, start.is) (omega arith)
-          | false ↦ (spots.1, cell_reference cell here.0, parted_small (number_in next) (shared_of (number_in key) (number_in next)))
+          | false ↦ (spots.1, cell_reference cell here.0, parted_small (key_number next) (shared_of (key_number key) (key_number next)))
         ]
         | false ↦ λ e. let more = eqb-false _ _ e in
             moves least outer inner (at.Prefix cell depth next (word + 1)) left spots (here.0, here.1, key_set words word got here.2 within fits, omega (arith, more)) (omega arith)
       ] refl
   at_after least outer inner (at.Finding cell depth find) got spots here fits =
-      found (find_told (kind_of cell) (byte_at depth (number_in key)) find got) (finds_end (kind_of cell) (byte_at depth (number_in key)) find got here.2)
+      found (find_told (kind_of cell) (byte_at depth (key_number key)) find got) (finds_end (kind_of cell) (byte_at depth (key_number key)) find got here.2)
     where
-      found : (s : Findings) → FindAfter (kind_of cell) (byte_at depth (number_in key)) (find_left (kind_of cell) find) s → LookAfter l key (level * (way_length - least) + (1 + find_left (kind_of cell) find)) (has_found (look least outer inner (at.Finding cell depth find)) cell depth s)
+      found : (s : Findings) → FindAfter (kind_of cell) (byte_at depth (key_number key)) (find_left (kind_of cell) find) s → LookAfter l key (level * (way_length - least) + (1 + find_left (kind_of cell) find)) (has_found (look least outer inner (at.Finding cell depth find)) cell depth s)
       found (More next) fewer = let less = fewer.1 in moves least outer inner (at.Finding cell depth next) (level * (way_length - least) + (1 + find_left (kind_of cell) find)) spots (here.0, here.1, fewer.0) (omega arith)
       found (Found offset high reference) fewer =
           let low = here.1.0 in
           let deep = here.1.1 in
-          let words = fewer (byte_small depth (number_in key)) in
+          let words = fewer (byte_small depth (key_number key)) in
           lands_after (depth + 1) inner (record { cell = cell; offset = offset; high = high }) (at.Finding cell depth find) reference (level * (way_length - least) + (1 + find_left (kind_of cell) find))
           (spots.1, record { place = λ some_cell. (here.0, words.0); high = words.1 }) (omega arith)
       found Absent fewer = (spots.1, here.0, here.1.1)

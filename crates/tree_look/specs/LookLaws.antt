@@ -12,7 +12,7 @@ use Rattle.tree_law.specs.Switches.{Place, Root, Entry, reference_at}
 use Rattle.tree_law.specs.Paths.{Comes, PartsAt}
 use Rattle.tree_law.specs.Words.{LayerWord, RootWord, CellWord, LayerWords, word_in, kind_of, number_of}
 use Rattle.tree_law.specs.Words.{reference_of, cell_in, tree_of, IsLawful, Stored, IsSwitchStore}
-use Rattle.tree_floor.specs.Keys.{number_in, IsKey}
+use Rattle.layer_map.specs.Keys.{key_number, IsKey}
 use Rattle.tree_floor.specs.Floors.{IsCellOf}
 use Rattle.tree_floor.specs.Telling.{answer_in}
 use Rattle.tree_look.specs.declared.look.Look.{Look}
@@ -93,4 +93,4 @@ look_turn w look = look_turned look (word_in w (look_word look.at look.key))
 abbrev pub LookIsExact : Type 0
 LookIsExact = (l : Layout) (key : List ℕ) (w : LayerWords) (times : ℕ) → look_most ≤ times → IsLayout l → IsKey key →
     ((p : LayerWord) → word_in w p < 2 ^ 64) → IsLawful (leaf_count l) l.nodes w →
-    IsSomeAnd (answer_in times (look_turn w) (look_starts l key)) (IsLooked w (number_in key))
+    IsSomeAnd (answer_in times (look_turn w) (look_starts l key)) (IsLooked w (key_number key))

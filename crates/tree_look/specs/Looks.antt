@@ -12,7 +12,7 @@ use Rattle.cat_key.specs.declared.TheConstants.{WORDS}
 use Rattle.radix_nodes.specs.Keys.{key_bytes}
 use Rattle.tree_law.specs.Trees.{span, first_bytes, byte_at, way_length}
 use Rattle.tree_law.specs.Words.{LayerWord, RootWord, LeafWord, kind_of, number_of}
-use Rattle.tree_floor.specs.Keys.{number_in, IsKey}
+use Rattle.layer_map.specs.Keys.{key_number, IsKey}
 use Rattle.tree_row.specs.Rows.{layer_address}
 use Rattle.tree_floor.specs.Floors.{cell_word, no_words, IsCellOf, IsDeep}
 use Rattle.tree_look.specs.declared.find.Findings.{Findings}
@@ -33,7 +33,7 @@ look_word (at.Key leaf words word) key = LeafWord leaf word
 look_word (at.Depth cell) key = cell_word cell 0
 look_word (at.Prefix cell depth words word) key = cell_word cell (1 + word)
 look_word (at.Finding cell depth find) key =
-    cell_word cell (find_offset (kind_of cell) (byte_at depth (number_in key)) find)
+    cell_word cell (find_offset (kind_of cell) (byte_at depth (key_number key)) find)
 
 abbrev pub look_asks : Look → Action
 look_asks look = Load (layer_address look.layout (look_word look.at look.key))
@@ -62,13 +62,13 @@ byte_parted other depth = if nat_lt depth key_bytes then byte_at depth other els
 
 abbrev pub parts : Look → ℕ → List ℕ → Turn Look Looked
 parts look reference other =
-    Done (looked.Parts look.inner reference (shared_of (number_in look.key) (number_in other))
-    (byte_parted (number_in other) (shared_of (number_in look.key) (number_in other))))
+    Done (looked.Parts look.inner reference (shared_of (key_number look.key) (key_number other))
+    (byte_parted (key_number other) (shared_of (key_number look.key) (key_number other))))
 
 -- it has read a leaf's key, or so many words of it
 abbrev pub has_key : Look → ℕ → List ℕ → Turn Look Looked
 has_key look leaf other =
-    if number_in look.key == number_in other then Done (looked.Key look.outer look.inner leaf)
+    if key_number look.key == key_number other then Done (looked.Key look.outer look.inner leaf)
     else parts look (2 ^ 16 + leaf) other
 
 abbrev pub has_key_word : Look → ℕ → List ℕ → ℕ → Turn Look Looked
@@ -83,7 +83,7 @@ has_depth look cell depth =
 -- it has read a cell's prefix, or so many words of it
 abbrev pub has_prefix : Look → ℕ → ℕ → List ℕ → Turn Look Looked
 has_prefix look cell depth prefix =
-    if first_bytes depth (number_in look.key) * span depth == number_in prefix
+    if first_bytes depth (key_number look.key) * span depth == key_number prefix
     then goes_to look (at.Finding cell depth (find_starts (kind_of cell)))
     else parts look cell prefix
 
@@ -110,7 +110,7 @@ look_at_turned look (at.Depth cell) got = has_depth look cell got
 look_at_turned look (at.Prefix cell depth words word) got =
     has_prefix_word look cell depth (slice_set words word got) (word + 1)
 look_at_turned look (at.Finding cell depth find) got =
-    has_found look cell depth (find_told (kind_of cell) (byte_at depth (number_in look.key)) find got)
+    has_found look cell depth (find_told (kind_of cell) (byte_at depth (key_number look.key)) find got)
 
 abbrev pub look_turned : Look → ℕ → Turn Look Looked
 look_turned look got = look_at_turned look look.at got

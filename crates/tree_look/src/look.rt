@@ -1,15 +1,16 @@
 //! The way of a key, from the root of the tree to its end.
 
 ghost use Rattle.std.specs.Prelude.{◌≡◌};
-ghost use Rattle.tree_floor.specs.Keys.{number_in};
+ghost use Rattle.layer_map.specs.Keys.{key_number};
 ghost use Rattle.tree_look.specs.Depths.{shared_of};
 ghost use Rattle.tree_look.specs.Looks.{byte_parted};
 
 use crate::find::{Find, Findings};
 use cat_key::WORDS;
+use pm_words::codes::reference::KIND;
 use pm_words::{Action, Layout, Machine, Turn};
 use radix_nodes::{KEY_BYTES, Key, shared_bytes};
-use tree_floor::{KEY_WORDS, KIND, ROOT, byte_of, is_prefix, is_same, word_of};
+use tree_floor::{KEY_WORDS, ROOT, byte_of, is_prefix, is_same, word_of};
 
 /// Goes the way of a key from the root to its end, and tells where that is. Nobody may write meanwhile.
 #[derive(Clone, Copy)]
@@ -330,14 +331,14 @@ impl Look {
 
 /// How many first bytes two keys share.
 fn shared(one: Key, other: Key) -> u64
-    ensures { result ≡ shared_of (number_in one) (number_in other) }
+    ensures { result ≡ shared_of (key_number one) (key_number other) }
 {
     shared_bytes(&one, &other)
 }
 
 /// The byte of a key behind so many; 0 behind the last.
 fn byte_parted(other: Key, depth: u64) -> u64
-    ensures { result ≡ byte_parted (number_in other) depth }
+    ensures { result ≡ byte_parted (key_number other) depth }
 {
     if depth < KEY_BYTES {
         byte_of(other, depth)

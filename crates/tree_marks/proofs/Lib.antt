@@ -1,3 +1,3 @@
 mod ReadLemmas
 mod MarkLemmas
-mod RestLaw
+pub mod RestLaw

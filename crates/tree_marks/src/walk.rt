@@ -8,8 +8,9 @@ ghost use Rattle.tree_law.specs.Trees.{IsSoundFrom, IsTree, depth_of};
 ghost use Rattle.tree_law.specs.Words.{kind_of, reference_of};
 ghost use Rattle.tree_marks.specs.Marked.{row_room, row_tree, MarksFrom, AreMarked};
 
-use crate::words::{KIND, LEAF, cell_word, is_cell, leaf_count, read_cell, root_of};
+use crate::words::{cell_word, is_cell, leaf_count, read_cell, root_of};
 use pm_words::Memory;
+use pm_words::codes::reference::{KIND, LEAF};
 use radix_nodes::{Cell, KEY_BYTES, child};
 
 /// How many branch bytes there are.

@@ -8,15 +8,10 @@ ghost use Rattle.tree_law.specs.Words.{kind_of, cell_in};
 ghost use Rattle.tree_row.specs.Rows.{layer_words};
 ghost use Rattle.tree_marks.specs.Marked.{row_room};
 
+use pm_words::codes::reference::KIND;
 use pm_words::offsets::root;
 use pm_words::{LINE_WORDS, Memory};
 use radix_nodes::{CELL_WORDS, Cell};
-
-/// What a kind of references stands for, above the number of a leaf or a cell.
-pub(crate) const KIND: u64 = 1 << 16;
-
-/// The kind of leaves.
-pub(crate) const LEAF: u64 = 1;
 
 /// The number of the root's word.
 const ROOT_WORD: u64 = LINE_WORDS + root::REFERENCE;

@@ -1,2 +1,3 @@
 pub mod RowLaw
 pub mod MarkLaw
+pub mod FreshRow

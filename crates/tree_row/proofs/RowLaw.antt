@@ -21,7 +21,7 @@ has_is l (CellWord kind n o) has =
     let kinds = ap₂ (λ a b. a && b) (le-leb 2 kind has.0) (le-leb kind 5 has.1) in
     ap₂ (λ a b. a && b) (ap₂ (λ a b. a && b) kinds (lt-ltb n (leaf_count l) has.2)) (lt-ltb o (kind_words kind) has.3)
 
-has_from : (l : Layout) (p : LayerWord) → has_layer_word l p ≡ true → HasLayerWord l p
+pub has_from : (l : Layout) (p : LayerWord) → has_layer_word l p ≡ true → HasLayerWord l p
 has_from l RootWord e = let first : 0 < 8 = omega arith in first
 has_from l (LeafWord i o) e = let parts = and_parts (ltb i (leaf_count l)) (ltb o 8) e in (ltb-true _ _ parts.0, ltb-true _ _ parts.1)
 has_from l (CellWord kind n o) e =

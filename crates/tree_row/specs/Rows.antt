@@ -1,14 +1,17 @@
 -- The words of the layer in a row, as either twin has them, and what actions make of them.
-use Rattle.std.specs.Prelude.{◌≡◌, ℕ, ◌^◌, ◌<◌, ◌≤◌, ◌&&◌, nat_lt, nat_le, if◌then◌else◌, Bool, true, List, length}
+use Rattle.std.specs.Prelude.{◌≡◌, ℕ, ◌^◌, ◌<◌, ◌≤◌, ◌&&◌, nat_lt, nat_le, if◌then◌else◌, Bool, true, List, Some, length}
 use Rattle.std.specs.Prelude.{slice_index, slice_set}
 use Rattle.pm_words.specs.declared.layout.Layout.{Layout}
 use Rattle.pm_words.specs.declared.action.Action.TheVariants.{Load, Store, Drain}
 use Rattle.pm_words.specs.Locations.{Word, Header, Root, Node, Line, Leaf, Cell, HasWord}
 use Rattle.pm_words.specs.Locations.{Location, Clock, Updater, Volatile, Mark, Cached, Durable, HasLocation}
 use Rattle.pm_words.specs.Locations.{leaf_count, kind_words, row_words, address_of, at, word_at}
-use Rattle.pm_words.specs.Images.{IsImage}
+use Rattle.pm_words.specs.Images.{IsImage, fresh_words}
+use Rattle.pm_words.specs.Layouts.{IsLayout}
 use Rattle.pm_words.specs.Rows.{acted, evicted, durable_row, row_of}
-use Rattle.tree_law.specs.Words.{LayerWord, RootWord, LeafWord, CellWord, LayerWords, word_in, Stored, IsMix}
+use Rattle.layer_map.specs.Layers.{HasFew}
+use Rattle.tree_law.specs.Fresh as tree
+use Rattle.tree_law.specs.Words.{LayerWord, RootWord, LeafWord, CellWord, LayerWords, word_in, layer_of, Keeps, Stored, IsMix}
 
 -- the name of a word of the layer in an image, and the address of its cached twin
 abbrev pub image_word : LayerWord → Word
@@ -68,6 +71,19 @@ image_layer l image = record {
 
 abbrev pub CrashReads : Type 0
 CrashReads = (l : Layout) (words : List ℕ) → image_layer l (durable_row l words) ≡ layer_words l words Durable
+
+-- A fresh image has that of an empty catalogue.
+abbrev pub FreshReads : Type 0
+FreshReads = (l : Layout) → IsLayout l → image_layer l (fresh_words l) ≡ tree.fresh_words
+
+-- So it is in order, and leads the zero key alone, to node 0.
+pub record IsFreshLayer (l : Layout) (w : LayerWords) : Type 0 where
+  pub keeps : Keeps (leaf_count l) l.nodes tree.fresh_layer w
+  pub few : HasFew l.nodes (layer_of w)
+  pub first : (key node : ℕ) → layer_of w key ≡ Some node → (key ≡ 0) × (node ≡ 0)
+
+abbrev pub FreshKeeps : Type 0
+FreshKeeps = (l : Layout) → IsLayout l → IsFreshLayer l (image_layer l (fresh_words l))
 
 -- A row that is made of an image has its layer in both twins.
 abbrev pub ImageReads : Type 0

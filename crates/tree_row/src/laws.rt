@@ -2,6 +2,7 @@
 //! is proved.
 
 ghost use Rattle.tree_row.specs.Rows.{ReadsWords, ReadsFit, RowsAlike, CrashReads, ImageReads};
+ghost use Rattle.tree_row.specs.Rows.{FreshReads, FreshKeeps};
 ghost use Rattle.tree_row.specs.Rows.{LoadLeaves, StoreMakes, DrainMakes, OutsideLeaves, EvictionMixes};
 ghost use Rattle.tree_row.specs.RowMarks.{MarkIsSet, StoreLeavesMarks, LoadLeavesMarks, EvictionLeavesMarks};
 ghost use Rattle.tree_row.specs.RowMarks.{ImageHasNoMarks};
@@ -15,6 +16,12 @@ pub fn reading_law()
     ensures alike { RowsAlike }
     ensures crash { CrashReads }
     ensures image { ImageReads }
+{}
+
+/// A fresh image has the layer of an empty catalogue: in order, with the zero key alone, which leads to node 0.
+pub fn fresh_law()
+    ensures reads { FreshReads }
+    ensures keeps { FreshKeeps }
 {}
 
 /// A load leaves the words of the layer in both twins, and so does a store of any word that isn't of the layer. A store

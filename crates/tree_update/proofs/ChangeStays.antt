@@ -24,7 +24,7 @@ use Rattle.radix_nodes.proofs.CellFits.{set_list, zeros_fit, byte_set_fits, larg
 use Rattle.tree_law.specs.Trees.{byte_at}
 use Rattle.tree_law.specs.Words.{kind_of}
 use Rattle.tree_law.proofs.Spans.{byte_small}
-use Rattle.tree_floor.specs.Keys.{number_in}
+use Rattle.layer_map.specs.Keys.{key_number}
 use Rattle.tree_floor.specs.Floors.{IsCellOf}
 use Rattle.tree_look.specs.declared.look.Look.{Look}
 use Rattle.tree_look.specs.declared.look.Looked.{Looked}
@@ -197,12 +197,12 @@ module _ (c : Change) (is : IsChange c) where
         let small = few in
         ends (target.Leaf leaf WORDS) c.word 0 0 left (within.2, (let lt : 3 < 8 = omega arith in lt)) (omega arith) none none (omega arith)
   ]
-  looked_after (looked.Nothing spot cell depth) left within less = no_leaf_after (site.Under spot cell (byte_at depth (number_in c.key))) left (within.0, within.1, byte_small depth (number_in c.key)) less
+  looked_after (looked.Nothing spot cell depth) left within less = no_leaf_after (site.Under spot cell (byte_at depth (key_number c.key))) left (within.0, within.1, byte_small depth (key_number c.key)) less
   looked_after (looked.Parts spot reference depth byte) left within less =
       let place = site.Beside spot reference depth byte in
-      elim (leb key_bytes depth) as (λ a. leb key_bytes depth ≡ a → ChangeAfter c left (cond (a || byte == byte_at depth (number_in c.key)) (Done Wrong) (no_leaf c place))) [
+      elim (leb key_bytes depth) as (λ a. leb key_bytes depth ≡ a → ChangeAfter c left (cond (a || byte == byte_at depth (key_number c.key)) (Done Wrong) (no_leaf c place))) [
         | true ↦ λ e. tt
-        | false ↦ λ e. elim (byte == byte_at depth (number_in c.key)) as (λ a. (byte == byte_at depth (number_in c.key)) ≡ a → ChangeAfter c left (cond a (Done Wrong) (no_leaf c place))) [
+        | false ↦ λ e. elim (byte == byte_at depth (key_number c.key)) as (λ a. (byte == byte_at depth (key_number c.key)) ≡ a → ChangeAfter c left (cond a (Done Wrong) (no_leaf c place))) [
           | true ↦ λ f. tt
           | false ↦ λ f. no_leaf_after place left (within.0, within.1, leb-false _ _ e, within.2, eqb-false _ _ f) less
         ] refl
@@ -255,7 +255,7 @@ module _ (c : Change) (is : IsChange c) where
         (let start = (places_begin (kind_of cell) is_place.1.low most).1 in omega arith)
   ] refl
   filled_after leaf (site.Beside spot reference depth byte) left lt is_place less =
-      let key = number_in c.key in
+      let key = key_number c.key in
       let low = is_place.1.0 in
       let high = is_place.1.1 in
       let deep = is_place.2 in
@@ -374,13 +374,13 @@ module _ (c : Change) (is : IsChange c) where
 
   reads_depth_after : (leaf : ℕ) (outer inner : Spot) (got : ℕ) → IsChangeAt l c.key c.word (at.ReadingDepth leaf outer inner) → ChangeAfter c (change_at_left l (at.ReadingDepth leaf outer inner)) (reads_depth c leaf outer inner got)
   reads_depth_after leaf outer inner got here =
-      let byte = byte_at got (number_in c.key) in
+      let byte = byte_at got (key_number c.key) in
       elim (leb key_bytes got) as (λ a. ChangeAfter c (change_at_left l (at.ReadingDepth leaf outer inner)) (cond a (Done Wrong) (change_to c (at.Counting (count_starts l inner.cell byte) leaf outer inner)))) [
         | true ↦ tt
         | false ↦
             let start = others_begin (kind_of inner.cell) in
             goes (at.Counting (count_starts l inner.cell byte) leaf outer inner) (change_at_left l (at.ReadingDepth leaf outer inner))
-            (record { layout = is.layout; cell = here.0; byte = byte_small got (number_in c.key); here = start.0 }, refl, refl, here.1, here.2, here.3) (let bound = start.1 in omega arith)
+            (record { layout = is.layout; cell = here.0; byte = byte_small got (key_number c.key); here = start.0 }, refl, refl, here.1, here.2, here.3) (let bound = start.1 in omega arith)
       ]
 
   counted_after : (count : Count) (leaf : ℕ) (outer inner : Spot) (children : Counted) (left : ℕ) → IsCellOf l count.cell → count.byte < 256 → IsSpot l outer → IsSpot l inner → leaf < leaf_count l → finish_most + 2 < left → ChangeAfter c left (counted c count leaf outer inner children)
@@ -466,5 +466,5 @@ pub unsets_stay : UnsetsStay
 unsets_stay unset got takes = go (change_turned unset.change got) (changes_stay unset.change got (takes.0.change, takes.1))
   where
     go : (turn : Turn Change Ended) → ChangeAfter unset.change (change_left unset.change) turn → UnsetAfter unset (unset_of turn)
-    go (Go next) after = (record { change = after.sound; word = after.word_is ∙ takes.0.word; key = subst (λ k. number_in k ≢ 0) (sym after.key_is) takes.0.key }, after)
+    go (Go next) after = (record { change = after.sound; word = after.word_is ∙ takes.0.word; key = subst (λ k. key_number k ≢ 0) (sym after.key_is) takes.0.key }, after)
     go (Done ended) after = tt

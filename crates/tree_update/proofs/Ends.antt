@@ -28,7 +28,7 @@ use Rattle.tree_law.proofs.MarkingLaw.{node_word_reaches, set_add_reaches, marks
 use Rattle.tree_law.proofs.MarksSet.{one_comes, one_goes, two_come, two_go, one_is_replaced}
 use Rattle.tree_law.proofs.PathLaw.{comes_place}
 use Rattle.tree_law.proofs.Spans.{byte_small}
-use Rattle.tree_floor.specs.Keys.{number_in, IsKey}
+use Rattle.layer_map.specs.Keys.{key_number, IsKey}
 use Rattle.tree_look.specs.declared.look.Spot.{Spot}
 use Rattle.tree_look.specs.declared.look.Looked.TheVariants as looked
 use Rattle.tree_look.specs.LookLaws.{IsLooked, IsHeld, StandsAt}
@@ -83,7 +83,7 @@ two_free count free next w m some_free some_next tells = ((λ e. absurd (some_fr
 
 module _ (l : Layout) (count nodes : ℕ) (before : Layer) (aim : Aim) (few : count ≤ 2 ^ 16) where
   abbrev key : ℕ
-  key = number_in aim.key
+  key = key_number aim.key
 
   abbrev node : ℕ
   node = aim.word - 1

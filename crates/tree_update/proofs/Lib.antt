@@ -10,3 +10,4 @@ pub mod Acting
 mod Doing
 pub mod RunLaw
 pub mod OthersStay
+mod LoneFloor

@@ -14,7 +14,7 @@ use Rattle.tree_row.specs.Rows.{HasLayerWord, layer_words, layer_address}
 use Rattle.tree_row.specs.RowMarks.{row_marks}
 use Rattle.tree_row.proofs.RowLaw.{reads_words, load_leaves}
 use Rattle.tree_row.proofs.MarkLaw.{load_leaves_marks}
-use Rattle.tree_floor.specs.Keys.{number_in}
+use Rattle.layer_map.specs.Keys.{key_number}
 use Rattle.tree_floor.specs.Floors.{cell_word, IsCellOf}
 use Rattle.tree_look.specs.declared.find.Find.{Find}
 use Rattle.tree_look.specs.declared.find.Find.TheVariants as find
@@ -69,7 +69,7 @@ look_at_has l key least look_at.Root here = (let lt : 0 < 8 = omega arith in lt)
 look_at_has l key least (look_at.Key leaf words word) here = let within = here.2 in (here.0, (let lt : word < 8 = omega arith in lt))
 look_at_has l key least (look_at.Depth cell) here = head_has l cell 0 here (omega arith)
 look_at_has l key least (look_at.Prefix cell depth words word) here = let within = here.3 in head_has l cell (1 + word) here.0 (omega arith)
-look_at_has l key least (look_at.Finding cell depth f) here = cell_has l cell (find_offset (kind_of cell) (byte_at depth (number_in key)) f) here.0 (find_in (kind_of cell) (byte_at depth (number_in key)) f (byte_small depth (number_in key)) here.2)
+look_at_has l key least (look_at.Finding cell depth f) here = cell_has l cell (find_offset (kind_of cell) (byte_at depth (key_number key)) f) here.0 (find_in (kind_of cell) (byte_at depth (key_number key)) f (byte_small depth (key_number key)) here.2)
 
 pub look_has : (look : Look) → IsLook look → HasLayerWord look.layout (look_word look.at look.key)
 look_has look is = look_at_has look.layout look.key look.least look.at is.here

@@ -18,7 +18,7 @@ use Rattle.tree_row.specs.Rows.{layer_words}
 use Rattle.tree_row.specs.RowMarks.{row_marks}
 use Rattle.tree_row.proofs.RowLaw.{reads_fit, eviction_mixes, crash_reads}
 use Rattle.tree_row.proofs.MarkLaw.{eviction_leaves_marks}
-use Rattle.tree_floor.specs.Keys.{number_in}
+use Rattle.layer_map.specs.Keys.{key_number}
 use Rattle.tree_look.specs.Looks.{look_most}
 use Rattle.tree_look.proofs.LookExact.{look_is_exact}
 use Rattle.tree_change.specs.Endings.{Ending, CanQuiet, Quieted, CanSwitch, Switched, Unmarks, EndingMix, SureCan, ending_at}
@@ -74,9 +74,9 @@ change_evicts count nodes before aim (at.FillingLeaf fill place) w s mix m sure 
   marked = sure.marked;
   unreached = sure.unreached;
 }
-change_evicts count nodes before aim (at.FindingRoom find spot leaf) w s mix m sure is = (sure.0, leaf_mix count nodes before (number_in aim.key) (aim.word - 1) leaf w s mix m sure.1 is, sure.2, sure.3)
-change_evicts count nodes before aim (at.ReadingCell read spot byte leaf) w s mix m sure is = (sure.0, leaf_mix count nodes before (number_in aim.key) (aim.word - 1) leaf w s mix m sure.1 is, sure.2, sure.3)
-change_evicts count nodes before aim (at.TakingCell take new) w s mix m sure is = (sure.0, sure.1, leaf_mix count nodes before (number_in aim.key) (aim.word - 1) sure.1 w s mix m sure.2 is, sure.3, sure.4)
+change_evicts count nodes before aim (at.FindingRoom find spot leaf) w s mix m sure is = (sure.0, leaf_mix count nodes before (key_number aim.key) (aim.word - 1) leaf w s mix m sure.1 is, sure.2, sure.3)
+change_evicts count nodes before aim (at.ReadingCell read spot byte leaf) w s mix m sure is = (sure.0, leaf_mix count nodes before (key_number aim.key) (aim.word - 1) leaf w s mix m sure.1 is, sure.2, sure.3)
+change_evicts count nodes before aim (at.TakingCell take new) w s mix m sure is = (sure.0, sure.1, leaf_mix count nodes before (key_number aim.key) (aim.word - 1) sure.1 w s mix m sure.2 is, sure.3, sure.4)
 change_evicts count nodes before aim (at.FillingCell fill spot free) w s mix m sure is = record {
   sets = sure.sets;
   leaf = sure.leaf;
@@ -268,7 +268,7 @@ runs_end_changed l words first change now ended begin few run is = ends_on l (la
 pub unset_keeps_zero : UnsetKeepsZero
 unset_keeps_zero l words first change now mix begin none run is =
     let before = layer_in l words in
-    let key = number_in first.key in
+    let key = key_number first.key in
     let apart = (begin.rooted none).0 in
     elim (mix_either l words first begin change now mix (on_run l words first begin run) is) [
       | inl keeps ↦ keeps.same 0
@@ -284,7 +284,7 @@ pub starts_left : (l : Layout) (first : Change) → first ≡ change_starts l fi
 starts_left l first start = subst (λ c. change_left c ≤ change_most l) (sym start) (let le : change_left (change_starts l first.key first.word) ≤ change_most l = omega arith in le)
 
 -- a set that has led its key to its node and one has led it to its node
-pub set_changed : (l k : Layout) (key : List ℕ) (node : ℕ) (set : Set) (words after : List ℕ) → set ≡ set_starts k key node → IsChanged l (number_in set.change.key) (node_of set.change.word) words after → IsChanged l (number_in key) (Some node) words after
+pub set_changed : (l k : Layout) (key : List ℕ) (node : ℕ) (set : Set) (words after : List ℕ) → set ≡ set_starts k key node → IsChanged l (key_number set.change.key) (node_of set.change.word) words after → IsChanged l (key_number key) (Some node) words after
 set_changed l k key node set words after start changed =
-    subst (λ n. IsChanged l (number_in key) n words after) (ap (λ a. cond a None (Some (node + 1 - 1))) (ne_eqb (node + 1) 0 (λ e. omega arith)) ∙ ap Some (let is : node + 1 - 1 ≡ node = omega arith in is))
-    (subst (λ (s : Set). IsChanged l (number_in s.change.key) (node_of s.change.word) words after) start changed)
+    subst (λ n. IsChanged l (key_number key) n words after) (ap (λ a. cond a None (Some (node + 1 - 1))) (ne_eqb (node + 1) 0 (λ e. omega arith)) ∙ ap Some (let is : node + 1 - 1 ≡ node = omega arith in is))
+    (subst (λ (s : Set). IsChanged l (key_number s.change.key) (node_of s.change.word) words after) start changed)

@@ -31,7 +31,7 @@ use Rattle.tree_law.proofs.Spans.{byte_small}
 use Rattle.tree_row.specs.Rows.{HasLayerWord, layer_words, layer_address}
 use Rattle.tree_row.specs.RowMarks.{row_marks}
 use Rattle.tree_row.proofs.RowLaw.{reads_fit}
-use Rattle.tree_floor.specs.Keys.{number_in, IsKey}
+use Rattle.layer_map.specs.Keys.{key_number, IsKey}
 use Rattle.tree_law.specs.Changes.{IsFilledLeaf}
 use Rattle.tree_floor.specs.Floors.{cell_word, IsCellOf}
 use Rattle.tree_look.specs.declared.look.Look.{Look}
@@ -119,7 +119,7 @@ module _ (before : Layer) (c : Change) (is : IsChange c) (rooted : IsRooted (aim
   aim = aim_of c
 
   abbrev key : ℕ
-  key = number_in c.key
+  key = key_number c.key
 
   few : count ≤ 2 ^ 16
   few = let most : c.layout.nodes ≤ 4096 = is.layout.nodes.1 in omega arith
@@ -252,7 +252,7 @@ module _ (before : Layer) (c : Change) (words : List ℕ) (is : IsChange c) (row
   cnt = leaf_count c.layout
 
   abbrev k : ℕ
-  k = number_in c.key
+  k = key_number c.key
 
   abbrev Now : Turn Change Ended → Type 0
   Now turn = SureAfter cnt c.layout.nodes before (aim_of c) turn w s m
@@ -455,7 +455,7 @@ module _ (before : Layer) (c : Change) (words : List ℕ) (is : IsChange c) (row
             tells = tells_stay sure.begun w' (LeafPart fill.number) sure.unreached filled.outside cnt lay.nodes sure.told sure.keeps.lawful sure.tells;
             marked = subst (λ n. IsMarkSet sure.told n (Leaf fill.number) 1) (sym same) sure.marked;
             unreached = filled.unreached;
-            filled = subst (λ n. IsFilledLeaf cnt lay.nodes w' k n fill.number) node_is (subst (λ y. IsFilledLeaf cnt lay.nodes w' (number_in y) fill.node fill.number) here.2 is_filled);
+            filled = subst (λ n. IsFilledLeaf cnt lay.nodes w' k n fill.number) node_is (subst (λ y. IsFilledLeaf cnt lay.nodes w' (key_number y) fill.node fill.number) here.2 is_filled);
           }) (sited_stays sure.begun w' (LeafPart fill.number) sure.unreached filled.outside k place sure.sited) here.4 some_word
 
   filling_cell : (fill : FillCell) (spot : Spot) (free : ℕ) → IsChangeAt lay c.key c.word (at.FillingCell fill spot free) → SureAt cnt lay.nodes before (aim_of c) (at.FillingCell fill spot free) w s m → After (fills_cell c fill spot free (rows.got lay words (fill_cell_asks fill))) (fill_cell_asks fill)

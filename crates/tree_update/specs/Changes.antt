@@ -21,7 +21,7 @@ use Rattle.radix_nodes.specs.Fills.{fill_cell_start, fill_cell_asks, fill_cell_t
 use Rattle.tree_law.specs.Trees.{byte_at}
 use Rattle.tree_law.specs.Words.{kind_of}
 use Rattle.tree_row.specs.Rows.{layer_address}
-use Rattle.tree_floor.specs.Keys.{number_in, IsKey}
+use Rattle.layer_map.specs.Keys.{key_number, IsKey}
 use Rattle.tree_floor.specs.Floors.{cell_word, IsCellOf}
 use Rattle.tree_look.specs.declared.look.Look.{Look}
 use Rattle.tree_look.specs.declared.look.Spot.{Spot}
@@ -106,9 +106,9 @@ at_leaf change outer inner leaf =
 abbrev pub has_looked : Change → Looked → Turn Change Ended
 has_looked change (looked.Key outer inner leaf) = at_leaf change outer inner leaf
 has_looked change (looked.Nothing spot cell depth) =
-    no_leaf change (site.Under spot cell (byte_at depth (number_in change.key)))
+    no_leaf change (site.Under spot cell (byte_at depth (key_number change.key)))
 has_looked change (looked.Parts spot reference depth byte) =
-    if nat_le key_bytes depth || byte == byte_at depth (number_in change.key) then Done Wrong
+    if nat_le key_bytes depth || byte == byte_at depth (key_number change.key) then Done Wrong
     else no_leaf change (site.Beside spot reference depth byte)
 has_looked change looked.Wrong = Done Wrong
 
@@ -137,7 +137,7 @@ wants_cell change new = change_to change (at.TakingCell (take_starts change.layo
 abbrev pub pair_cell : List ℕ → ℕ → ℕ → ℕ → ℕ → cells.Cell
 pair_cell key leaf reference depth byte =
     pair_of depth (prefix_word depth (slice_index key)) (record { byte = byte; reference = reference })
-    (record { byte = byte_at depth (number_in key); reference = leaf_reference leaf })
+    (record { byte = byte_at depth (key_number key); reference = leaf_reference leaf })
 
 abbrev pub leaf_filled : Change → ℕ → Site → Turn Change Ended
 leaf_filled change leaf (site.Under spot cell byte) =
@@ -212,7 +212,7 @@ abbrev pub reads_depth : Change → ℕ → Spot → Spot → ℕ → Turn Chang
 reads_depth change leaf outer inner got =
     if nat_le key_bytes got then Done Wrong
     else change_to change
-    (at.Counting (count_starts change.layout inner.cell (byte_at got (number_in change.key))) leaf outer inner)
+    (at.Counting (count_starts change.layout inner.cell (byte_at got (key_number change.key))) leaf outer inner)
 
 abbrev pub counted : Change → Count → ℕ → Spot → Spot → Counted → Turn Change Ended
 counted change count leaf outer inner counts_as.Two =
@@ -263,7 +263,7 @@ abbrev pub IsSite : Layout → List ℕ → Site → Type 0
 IsSite l key (site.Under spot cell byte) = IsSpot l spot × IsCellOf l cell × (byte < 256)
 IsSite l key (site.Beside spot reference depth byte) =
     IsSpot l spot × IsReference reference × (depth < key_bytes) × (byte < 256) ×
-    (byte ≢ byte_at depth (number_in key))
+    (byte ≢ byte_at depth (key_number key))
 
 pub record IsNewCell (l : Layout) (new : NewCell) : Type 0 where
   pub low : 2 ≤ new.cell.kind

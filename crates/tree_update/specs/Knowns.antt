@@ -12,7 +12,7 @@ use Rattle.tree_law.specs.Words.{LayerWords, LeafPart}
 use Rattle.tree_law.specs.Changes.{IsFilledLeaf}
 use Rattle.tree_law.specs.Stages.{Marks, MarksTell}
 use Rattle.tree_law.specs.Marking.{IsMarkSet}
-use Rattle.tree_floor.specs.Keys.{number_in}
+use Rattle.layer_map.specs.Keys.{key_number}
 use Rattle.tree_look.specs.declared.look.Looked.TheVariants as looked
 use Rattle.tree_look.specs.LookLaws.{IsLooked}
 use Rattle.tree_floor.specs.Telling.{answer_in}
@@ -50,10 +50,10 @@ pub record HasLeaf (count nodes : ℕ) (before : Layer) (key node leaf : ℕ) (w
 
 -- What a cell that is wanted is to be: a pair of the leaf and what is at its site; or a larger one with the leaf.
 pub data IsWanted (w : LayerWords) (key : List ℕ) (leaf : ℕ) (new : NewCell) : Type 0 where
-  as_pair : {reference depth byte : ℕ} → IsLooked w (number_in key) (looked.Parts new.spot reference depth byte) →
+  as_pair : {reference depth byte : ℕ} → IsLooked w (key_number key) (looked.Parts new.spot reference depth byte) →
       IsReference reference → depth < key_bytes → byte < 256 → new.cell ≡ pair_cell key leaf reference depth byte →
       new.free ≡ 0 → IsWanted w key leaf new
   as_larger : {x depth byte : ℕ} {read : cells.Cell} →
-      IsLooked w (number_in key) (looked.Nothing new.spot x depth) → byte ≡ byte_at depth (number_in key) →
+      IsLooked w (key_number key) (looked.Nothing new.spot x depth) → byte ≡ byte_at depth (key_number key) →
       IsReadOf w x read → IsCell read → read.kind ≤ 4 → byte < 256 →
       new.cell ≡ larger_of read byte (leaf_reference leaf) → new.free ≡ x → IsWanted w key leaf new

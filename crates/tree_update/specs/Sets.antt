@@ -4,7 +4,7 @@ use Rattle.pm_words.specs.declared.layout.Layout.{Layout}
 use Rattle.pm_words.specs.declared.action.Action.{Action}
 use Rattle.pm_words.specs.declared.machine.Turn.{Turn}
 use Rattle.pm_words.specs.declared.machine.Turn.TheVariants.{Go, Done}
-use Rattle.tree_floor.specs.Keys.{number_in}
+use Rattle.layer_map.specs.Keys.{key_number}
 use Rattle.tree_update.specs.declared.change.Change.{Change}
 use Rattle.tree_update.specs.declared.change.Ended.{Ended}
 use Rattle.tree_update.specs.declared.set.Set.{Set}
@@ -51,7 +51,7 @@ unset_turned unset got = unset_of (change_turned unset.change got)
 pub record IsUnset (unset : Unset) : Type 0 where
   pub change : IsChange unset.change
   pub word : unset.change.word ≡ 0
-  pub key : number_in unset.change.key ≢ 0
+  pub key : key_number unset.change.key ≢ 0
 
 abbrev pub unset_takes : Unset → ℕ → Type 0
 unset_takes unset got = IsUnset unset × (got < 2 ^ 64)

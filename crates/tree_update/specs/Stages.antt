@@ -19,7 +19,7 @@ use Rattle.tree_law.specs.Stages.{Marks, MarksTell}
 use Rattle.tree_law.specs.Marking.{IsMarkSet}
 use Rattle.tree_row.specs.Rows.{layer_words}
 use Rattle.tree_row.specs.RowMarks.{row_marks}
-use Rattle.tree_floor.specs.Keys.{number_in}
+use Rattle.layer_map.specs.Keys.{key_number}
 use Rattle.tree_look.specs.declared.look.Spot.{Spot}
 use Rattle.tree_look.specs.declared.look.Looked.TheVariants as looked
 use Rattle.tree_look.specs.LookLaws.{IsLooked, look_turn}
@@ -50,7 +50,7 @@ pub record Aim : Type 0 where
   pub word : ℕ
 
 abbrev pub made_of : Aim → Layer → Layer
-made_of aim before = changed_at before (number_in aim.key) (node_of aim.word)
+made_of aim before = changed_at before (key_number aim.key) (node_of aim.word)
 
 -- A leaf is being filled: as it began the words were these, and the marks told what they reach.
 pub record FillsLeaf (count nodes : ℕ) (before : Layer) (key : ℕ) (fill : FillLeaf) (place : Site) (w s : LayerWords)
@@ -72,7 +72,7 @@ pub record FillsCell (count nodes : ℕ) (before : Layer) (aim : Aim) (fill : Fi
   pub begun : LayerWords
   pub durable : LayerWords
   pub one : Marks
-  pub has : HasLeaf count nodes before (number_in aim.key) (aim.word - 1) leaf begun durable one
+  pub has : HasLeaf count nodes before (key_number aim.key) (aim.word - 1) leaf begun durable one
   pub sure : SureFilling count nodes before begun (cell_part fill) (lines_of fill.cell.kind) (words_of fill.cell)
       (stage_at (lines_of fill.cell.kind) fill.at) w s
   pub wanted : IsWanted begun aim.key leaf (record { cell = fill.cell; spot = spot; free = free })
@@ -101,35 +101,35 @@ MarksAt count f (finish_at.Unmark reference) w m =
 
 abbrev pub SureAt : ℕ → ℕ → Layer → Aim → ChangeAt → LayerWords → LayerWords → Marks → Type 0
 SureAt count nodes before aim (at.Looking look) w s m =
-    Rests count nodes before w s m × Answers (look_turn w) (IsLooked w (number_in aim.key)) look
+    Rests count nodes before w s m × Answers (look_turn w) (IsLooked w (key_number aim.key)) look
 SureAt count nodes before aim (at.TakingLeaf take place) w s m =
-    Rests count nodes before w s m × IsSited w (number_in aim.key) place ×
+    Rests count nodes before w s m × IsSited w (key_number aim.key) place ×
     Answers (take_turn m) (IsTaken count m 1) take
 SureAt count nodes before aim (at.FillingLeaf fill place) w s m =
-    FillsLeaf count nodes before (number_in aim.key) fill place w s m
+    FillsLeaf count nodes before (key_number aim.key) fill place w s m
 SureAt count nodes before aim (at.FindingRoom find spot leaf) w s m =
-    (aim.word ≢ 0) × HasLeaf count nodes before (number_in aim.key) (aim.word - 1) leaf w s m ×
-    IsSited w (number_in aim.key) (site.Under spot find.cell find.byte) ×
+    (aim.word ≢ 0) × HasLeaf count nodes before (key_number aim.key) (aim.word - 1) leaf w s m ×
+    IsSited w (key_number aim.key) (site.Under spot find.cell find.byte) ×
     Answers (find_room_turn w) (IsRoom (kind_of find.cell) (cell_in w find.cell) find.byte) find
 SureAt count nodes before aim (at.ReadingCell read spot byte leaf) w s m =
-    (aim.word ≢ 0) × HasLeaf count nodes before (number_in aim.key) (aim.word - 1) leaf w s m ×
-    IsSited w (number_in aim.key) (site.Under spot read.reference byte) ×
+    (aim.word ≢ 0) × HasLeaf count nodes before (key_number aim.key) (aim.word - 1) leaf w s m ×
+    IsSited w (key_number aim.key) (site.Under spot read.reference byte) ×
     Answers (read_turn w) (IsReadOf w read.reference) read
 SureAt count nodes before aim (at.TakingCell take new) w s m =
-    (aim.word ≢ 0) × (leaf : ℕ) × HasLeaf count nodes before (number_in aim.key) (aim.word - 1) leaf w s m ×
+    (aim.word ≢ 0) × (leaf : ℕ) × HasLeaf count nodes before (key_number aim.key) (aim.word - 1) leaf w s m ×
     IsWanted w aim.key leaf new × Answers (take_turn m) (IsTaken count m new.cell.kind) take
 SureAt count nodes before aim (at.FillingCell fill spot free) w s m =
     FillsCell count nodes before aim fill spot free w s m
 SureAt count nodes before aim (at.ReadingDepth leaf outer inner) w s m =
-    (aim.word ≡ 0) × Rests count nodes before w s m × IsLooked w (number_in aim.key) (looked.Key outer inner leaf)
+    (aim.word ≡ 0) × Rests count nodes before w s m × IsLooked w (key_number aim.key) (looked.Key outer inner leaf)
 SureAt count nodes before aim (at.Counting count' leaf outer inner) w s m =
-    (aim.word ≡ 0) × Rests count nodes before w s m × IsLooked w (number_in aim.key) (looked.Key outer inner leaf) ×
-    (count'.byte ≡ byte_at ((tree_of w).depth inner.cell) (number_in aim.key)) ×
+    (aim.word ≡ 0) × Rests count nodes before w s m × IsLooked w (key_number aim.key) (looked.Key outer inner leaf) ×
+    (count'.byte ≡ byte_at ((tree_of w).depth inner.cell) (key_number aim.key)) ×
     Answers (count_turn w) (IsCounted (kind_of count'.cell) (cell_in w count'.cell) count'.byte) count'
 SureAt count nodes before aim (at.ReadingIndex cell byte leaf) w s m =
     (aim.word ≡ 0) × Rests count nodes before w s m × (outer : Spot) × (inner : Spot) ×
-    IsLooked w (number_in aim.key) (looked.Key outer inner leaf) × (inner.cell ≡ cell) ×
-    (byte ≡ byte_at ((tree_of w).depth inner.cell) (number_in aim.key)) ×
+    IsLooked w (key_number aim.key) (looked.Key outer inner leaf) × (inner.cell ≡ cell) ×
+    (byte ≡ byte_at ((tree_of w).depth inner.cell) (key_number aim.key)) ×
     HasTwoMore (children (kind_of inner.cell) (cell_in w inner.cell)) byte
 SureAt count nodes before aim (at.Finishing finish) w s m =
     SureEnding count nodes before (made_of aim before) (ending_at finish finish.at) w s ×
@@ -163,7 +163,7 @@ aim_of change = record { key = change.key; word = change.word }
 
 -- an unset is of another key than zero, which the layer leads somewhere
 abbrev pub IsRooted : Aim → Layer → Type 0
-IsRooted aim before = aim.word ≡ 0 → (number_in aim.key ≢ 0) × (before 0 ≢ None)
+IsRooted aim before = aim.word ≡ 0 → (key_number aim.key ≢ 0) × (before 0 ≢ None)
 
 -- Each action of a change keeps it.
 abbrev pub ChangeActs : Type 0

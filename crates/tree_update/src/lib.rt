@@ -13,6 +13,6 @@ mod set;
 mod setting;
 mod unsetting;
 
-pub use alone::{set_alone, unset_alone};
+pub use alone::{floor_alone, set_alone, unset_alone};
 pub use change::{Change, ChangeAt, Ended, NewCell, Site};
 pub use set::{Set, Unset};

@@ -3,14 +3,12 @@
 ghost use Rattle.std.specs.Prelude.{◌≡◌, ◌≢◌, ◌<◌, ◌≤◌, ◌^◌};
 
 use crate::change::{Change, ChangeAt, Ended, Site};
+use pm_words::codes::reference::LEAF;
 use pm_words::{Machine, Turn};
 use radix_nodes::KEY_BYTES;
 use tree_change::{Finish, Take, Target, TargetStore};
 use tree_floor::{KEY_WORDS, byte_of};
 use tree_look::{Look, Looked, Spot};
-
-/// The kind of a leaf's reference.
-const LEAF: u64 = 1;
 
 impl Change {
     ghost use Rattle.std.specs.Prelude.{◌≡◌, ◌≢◌, ◌≤◌, ◌<◌, ◌^◌};

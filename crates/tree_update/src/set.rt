@@ -106,13 +106,13 @@ impl Unset {
     ghost use Rattle.std.specs.Prelude.{◌≢◌};
     ghost use Rattle.pm_words.specs.Layouts.{IsLayout};
     ghost use Rattle.pm_words.specs.Turns.{AdvancesTo};
-    ghost use Rattle.tree_floor.specs.Keys.{number_in};
+    ghost use Rattle.layer_map.specs.Keys.{key_number};
     ghost use Rattle.tree_update.specs.Sets.{IsUnset, unset_starts, unset_takes, unset_turned};
 
     /// The unset of the key, which isn't zero.
     pub fn new(layout: Layout, key: Key) -> Unset
         requires layout { IsLayout layout }
-        requires key { number_in key ≢ 0 }
+        requires key { key_number key ≢ 0 }
         ensures start { result ≡ unset_starts layout key }
         ensures sound { IsUnset result }
     {

@@ -7,10 +7,11 @@ ghost use Rattle.radix_nodes.specs.Making.{pair_of, prefix_word};
 ghost use Rattle.tree_change.specs.Begins.{spot_target};
 
 use crate::change::{Change, ChangeAt, Ended, NewCell, Site};
+use pm_words::codes::reference::KIND;
 use pm_words::{Machine, Turn};
 use radix_nodes::{Branch, Cell, FillCell, FillLeaf, Key, byte_set, larger, paired, prefix_of};
 use tree_change::{FindRoom, Finish, ReadCell, Room, Take, Taken, Target, TargetStore};
-use tree_floor::{KIND, byte_of};
+use tree_floor::byte_of;
 use tree_look::Spot;
 
 /// The kind of the largest cells, which have a place for each byte.

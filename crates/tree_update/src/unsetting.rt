@@ -4,10 +4,11 @@ ghost use Rattle.std.specs.Prelude.{◌≡◌, ◌<◌};
 
 use crate::change::{Change, ChangeAt, Ended};
 use crate::setting::spot_target;
+use pm_words::codes::reference::KIND;
 use pm_words::{Machine, Turn};
 use radix_nodes::{KEY_BYTES, byte_set};
 use tree_change::{Count, Counted, Target};
-use tree_floor::{KIND, byte_of};
+use tree_floor::byte_of;
 use tree_look::Spot;
 
 /// The kind of cells with an index, and the offset of its first word.

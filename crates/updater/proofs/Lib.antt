@@ -7,3 +7,4 @@ pub mod StepLaw
 pub mod WatchLaw
 pub mod FootLaw
 pub mod MakingLaw
+pub mod Fewer

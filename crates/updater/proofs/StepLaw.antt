@@ -1,5 +1,5 @@
 -- Each turn is a step of its stage.
-use Rattle.std.proofs.Common.{◌≡◌, ℕ, ◌+◌, ◌*◌, ◌<◌, ◌≤◌, ◌==◌, ◌&&◌, not, Bool, true, false, cond, ltb, leb, List, [], ◌∷◌, inl, inr, refl, sym, subst, ap, arith}
+use Rattle.std.proofs.Common.{◌≡◌, ◌≢◌, ℕ, ◌+◌, ◌*◌, ◌<◌, ◌≤◌, ◌==◌, ◌&&◌, not, Bool, true, false, cond, ltb, leb, List, [], ◌∷◌, inl, inr, refl, sym, subst, ap, ◌∙◌, arith}
 use Rattle.std.specs.Prelude.{slice_set}
 use Rattle.std.proofs.lemmas.Bool.{eqb-true, eqb-false, ltb-true, ltb-false, leb-true, leb-false}
 use Rattle.pm_words.specs.Codes.{gone_status, free_status, ready_state, merge_kind}
@@ -24,16 +24,17 @@ use Rattle.pm_alloc.specs.declared.gone.Release.{Release}
 use Rattle.pm_alloc.specs.declared.gone.ReleaseAt.{ReleaseAt}
 use Rattle.pm_alloc.specs.declared.gone.ReleaseAt.TheVariants as release_at
 use Rattle.pm_alloc.specs.Gone.{stamp_address, release_at_asks, release_at_turned, release_from}
-use Rattle.search_layer.specs.declared.change.Change.{Change}
-use Rattle.search_layer.specs.declared.floor.Floor.{Floor}
-use Rattle.search_layer.specs.ChangeSteps.{change_asks, change_turned}
-use Rattle.search_layer.specs.ChangeStages.{Aim, ChangeStep}
-use Rattle.search_layer.specs.FloorSteps.{floor_asks, floor_turned}
-use Rattle.search_layer.specs.SetSteps.{set_of, unset_of, set_starts, unset_starts}
-use Rattle.search_layer.specs.Laws.{aim_of, stage_of, stage_after as change_after, SoundAfter, start_stage}
-use Rattle.search_layer.proofs.FloorTold.{floor_only_loads}
-use Rattle.search_layer.proofs.ChangeTurns.{changes_are_steps}
-use Rattle.search_layer.proofs.ChangeSound.{changes_stay_sound}
+use Rattle.tree_update.specs.declared.change.Change.{Change}
+use Rattle.tree_update.specs.declared.change.Ended.{Ended}
+use Rattle.tree_floor.specs.declared.floor.Floor.{Floor}
+use Rattle.tree_update.specs.Changes.{change_asks, change_turned}
+use Rattle.tree_floor.specs.Floors.{floor_asks, floor_turned}
+use Rattle.tree_update.specs.Sets.{set_of, unset_of, set_starts, unset_starts}
+use Rattle.tree_update.specs.Stages.{Aim, aim_of}
+use Rattle.search_layer.specs.ChangeStages.{ChangeStep, stage_of, stage_after as change_after, start_stage}
+use Rattle.search_layer.specs.Laws.{SoundAfter}
+use Rattle.search_layer.proofs.FloorLemmas.{only_loads as floor_only_loads}
+use Rattle.search_layer.proofs.StepLaw.{changes_are_steps, changes_stay_sound}
 use Rattle.smo_log.specs.declared.line.Entry.{Entry}
 use Rattle.smo_log.specs.declared.read.ReadLine.{ReadLine}
 use Rattle.smo_log.specs.LogLines.{numbered_address}
@@ -52,7 +53,7 @@ use Rattle.updater.specs.declared.work.WorkAt.TheVariants as at
 use Rattle.updater.specs.Takings.{taking_asks, taking_from}
 use Rattle.updater_row_law.specs.Columns.{line_count}
 use Rattle.updater_row_law.specs.RowStages.{are_same}
-use Rattle.updater.specs.Works.{work_at_asks, after_line, reads_fields, saw_state, changes, clears, changed, after_node, saw_status, saw_stamp, saw_version, after_count, on, leaves, found_at, saw_again, has_read, has_landed, has_walked, has_set, has_unset, has_released, work_at_turned, IsReading, IsWalkTo, IsWorkAt}
+use Rattle.updater.specs.Works.{work_at_asks, after_line, reads_fields, saw_state, changes, clears, changed, after_node, saw_status, saw_stamp, saw_version, after_count, on, leaves, found_at, saw_again, has_read, has_landed, has_walked, has_set, has_unset, has_released, work_at_turned, IsReading, IsWalkTo, IsWorkAt, ToldOfLine}
 use Rattle.updater.proofs.WalkLoads.{walk_place, walk_told}
 use Rattle.updater.specs.Steps.{row_terms, line_of, target_of, release_stage, work_at_stage, work_stage, stage_after, stage_taken, TakingsAreSteps, WorksStart, WorksAreSteps}
 
@@ -108,16 +109,17 @@ module _ (work : Work) where
     | false ↦ λ e. to_line (Between line) (Load (line_at l line 0)) x line (steps.passes here (eqb-false x ready_state e))
   ] refl
 
-  at_reading : (read : ReadLine) (x : ℕ) → IsReading l read → RowStep r (Reads read.line read.offset read.words) (read_asks read) x (work_stage (has_read work read.line (read_turned read x)))
-  at_reading read x is =
+  at_reading : (read : ReadLine) (x : ℕ) → IsReading l read → ToldOfLine l (read_asks read) x → RowStep r (Reads read.line read.offset read.words) (read_asks read) x (work_stage (has_read work read.line (read_turned read x)))
+  at_reading read x is told =
       let words : List ℕ = slice_set read.words read.offset x in
       let s : RowStage = Reads read.line read.offset read.words in
       let here : read.line < line_count l = subst (λ (k : Layout). read.line < 8 * k.callers) is.layout is.sound.line in
       let small : read.offset < 7 = is.sound.offset in
+      let named : read.offset ≡ 3 → x ≢ 0 = λ third. told.named read.line here (ap (λ (k : Layout). Load (numbered_address k read.line read.offset)) is.layout ∙ ap (λ o. Load (numbered_address l read.line o)) third) in
       subst (λ (k : Layout). RowStep r s (Load (numbered_address k read.line read.offset)) x (work_stage (has_read work read.line (read_turned read x)))) (sym is.layout)
       (elim (ltb (read.offset + 1) 7) as (λ b. ltb (read.offset + 1) 7 ≡ b → RowStep r s (Load (line_at l read.line read.offset)) x
       (work_stage (has_read work read.line (cond b (Go (record read { offset = read.offset + 1; words = words })) (Done (seen_in words)))))) [
-        | true ↦ λ more. let next : read.offset + 1 < 7 = ltb-true _ _ more in steps.reads here is.some (omega arith)
+        | true ↦ λ more. let next : read.offset + 1 < 7 = ltb-true _ _ more in steps.reads here is.some (omega arith) named
         | false ↦ λ last.
             let end : 7 ≤ read.offset + 1 = ltb-false _ _ last in
             let six : 6 ≡ read.offset = omega arith in
@@ -155,13 +157,13 @@ module _ (work : Work) where
           ≡ work_at_stage t (cond b (at.Setting line entry (set_starts l entry.anchor found.node)) (at.Unsetting line entry (unset_starts l entry.anchor)))) [ true ↦ refl | false ↦ refl ]
 
   -- a step of the change of the layer
-  change_step : (entry : Entry) (line x : ℕ) (change : Change) (turn : Turn Change (Unit {0})) → change.layout ≡ l → change.key ≡ entry.anchor → ChangeStep change.layout (aim_of change) (stage_of change) (change_asks change) x (change_after turn)
+  change_step : (entry : Entry) (line x : ℕ) (change : Change) (turn : Turn Change Ended) → change.layout ≡ l → change.key ≡ entry.anchor → ChangeStep change.layout (aim_of change) (stage_of change) (change_asks change) x (change_after turn)
       → ChangeStep l (rows.aim_of (line_of line entry) change.word) (stage_of change) (change_asks change) x (change_after turn)
   change_step entry line x change turn same key step =
       subst (λ words. ChangeStep l (record { key = words; word = change.word }) (stage_of change) (change_asks change) x (change_after turn)) key
       (subst (λ (k : Layout). ChangeStep k (aim_of change) (stage_of change) (change_asks change) x (change_after turn)) same step)
 
-  at_setting : (line : ℕ) (entry : Entry) (change : Change) (x : ℕ) (turn : Turn Change (Unit {0})) → SoundAfter change.layout (aim_of change) turn
+  at_setting : (line : ℕ) (entry : Entry) (change : Change) (x : ℕ) (turn : Turn Change Ended) → SoundAfter change.layout (aim_of change) turn
       → ChangeStep l (rows.aim_of (line_of line entry) change.word) (stage_of change) (change_asks change) x (change_after turn)
       → RowStep r (Changes (line_of line entry) change.word (stage_of change)) (change_asks change) x (work_stage (has_set work line entry (set_of turn)))
   at_setting line entry change x (Go next) sound step =
@@ -169,7 +171,7 @@ module _ (work : Work) where
   at_setting line entry change x (Done answer) sound step =
       subst (λ next. RowStep r (Changes (line_of line entry) change.word (stage_of change)) (change_asks change) x next) (change_after_is line entry) (steps.has_changed step)
 
-  at_unsetting : (line : ℕ) (entry : Entry) (change : Change) (x : ℕ) (turn : Turn Change (Unit {0})) → SoundAfter change.layout (aim_of change) turn
+  at_unsetting : (line : ℕ) (entry : Entry) (change : Change) (x : ℕ) (turn : Turn Change Ended) → SoundAfter change.layout (aim_of change) turn
       → ChangeStep l (rows.aim_of (line_of line entry) change.word) (stage_of change) (change_asks change) x (change_after turn)
       → RowStep r (Changes (line_of line entry) change.word (stage_of change)) (change_asks change) x (work_stage (has_unset work line entry (unset_of turn)))
   at_unsetting line entry change x (Go next) sound step =
@@ -224,36 +226,36 @@ module _ (work : Work) where
             subst (λ n. RowStep r (Counts node none) a x (Counts n rest)) all (steps.counts here)
       ] refl
 
-  steps_at : (at : WorkAt) (x : ℕ) → IsWorkAt t work.tally at → Told l t.generation (work_at_asks t at) x → RowStep r (work_at_stage t at) (work_at_asks t at) x (stage_after (work_at_turned work at x))
-  steps_at (at.State line) x here told = at_state line x here.within
-  steps_at (at.Reading read) x here told = at_reading read x here.1
-  steps_at (at.Landing line entry floor) x here told =
+  steps_at : (at : WorkAt) (x : ℕ) → IsWorkAt t work.tally at → Told l t.generation (work_at_asks t at) x → ToldOfLine l (work_at_asks t at) x → RowStep r (work_at_stage t at) (work_at_asks t at) x (stage_after (work_at_turned work at x))
+  steps_at (at.State line) x here told of_line = at_state line x here.within
+  steps_at (at.Reading read) x here told of_line = at_reading read x here.1 of_line
+  steps_at (at.Landing line entry floor) x here told of_line =
       let asked = floor_only_loads floor here.2 in
       at_landing line entry floor x (floor_turned floor x) (subst (λ (k : Layout). LoadsWithin k (floor_asks floor)) here.3 (record {
         address = address_of floor.layout (Cached asked.word);
         within = addresses_within floor.layout (Cached asked.word) asked.place.there;
         loads = asked.loads;
       }))
-  steps_at (at.Walking line entry walk) x here told =
+  steps_at (at.Walking line entry walk) x here told of_line =
       let is = here.2 in
       at_walking line entry walk x (walk_turned walk x)
       (subst (λ (k : Layout). LoadsWithin k (walk_asks walk)) is.layout (walk_loads walk is.sound)) is
       (walks_are_looks walk x is.sound (walk_told t entry walk (walk_asks walk) x is told))
-  steps_at (at.Seeing line entry found) x here told = at_seeing line entry found x
-  steps_at (at.Setting line entry set) x here told =
+  steps_at (at.Seeing line entry found) x here told of_line = at_seeing line entry found x
+  steps_at (at.Setting line entry set) x here told of_line =
       at_setting line entry set.change x (change_turned set.change x) (changes_stay_sound set.change x here.2.change told.fits)
       (change_step entry line x set.change (change_turned set.change x) here.3 here.4 (changes_are_steps set.change x here.2.change told.fits))
-  steps_at (at.Unsetting line entry unset) x here told =
+  steps_at (at.Unsetting line entry unset) x here told of_line =
       at_unsetting line entry unset.change x (change_turned unset.change x) (changes_stay_sound unset.change x here.2.change told.fits)
       (change_step entry line x unset.change (change_turned unset.change x) here.3 here.4 (changes_are_steps unset.change x here.2.change told.fits))
-  steps_at (at.Stamping line entry) x here told = steps.stamps here.1.node
-  steps_at (at.Clearing clear) x here told = at_clearing clear.layout clear.line x here.2 here.0.within
-  steps_at (at.Status node) x here told = at_status node x here.within
-  steps_at (at.Stamp node) x here told = at_stamp node x here.within
-  steps_at (at.Version node) x here told = at_version node x here.within
-  steps_at (at.Releasing release) x here told = at_releasing release release.at x here.2 here.0.within
-  steps_at (at.Counting node none) x here told = at_counting node x none here.0
-  steps_at (at.Leaving none) x here told = steps.leaves_lock (omega arith)
+  steps_at (at.Stamping line entry) x here told of_line = steps.stamps here.1.node
+  steps_at (at.Clearing clear) x here told of_line = at_clearing clear.layout clear.line x here.2 here.0.within
+  steps_at (at.Status node) x here told of_line = at_status node x here.within
+  steps_at (at.Stamp node) x here told of_line = at_stamp node x here.within
+  steps_at (at.Version node) x here told of_line = at_version node x here.within
+  steps_at (at.Releasing release) x here told of_line = at_releasing release release.at x here.2 here.0.within
+  steps_at (at.Counting node none) x here told of_line = at_counting node x none here.0
+  steps_at (at.Leaving none) x here told of_line = steps.leaves_lock (omega arith)
 
 pub works_are_steps : WorksAreSteps
-works_are_steps work x takes = steps_at work work.at x takes.0.here takes.1
+works_are_steps work x takes = steps_at work work.at x takes.0.here takes.1 takes.2

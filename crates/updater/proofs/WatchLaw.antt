@@ -23,11 +23,12 @@ use Rattle.pm_alloc.specs.declared.gone.Release.{Release}
 use Rattle.pm_alloc.specs.declared.gone.ReleaseAt.{ReleaseAt}
 use Rattle.pm_alloc.specs.declared.gone.ReleaseAt.TheVariants as release_at
 use Rattle.pm_alloc.specs.Gone.{release_from, release_turned}
-use Rattle.search_layer.specs.declared.floor.Floor.{Floor}
-use Rattle.search_layer.specs.declared.set.Set.{Set}
-use Rattle.search_layer.specs.declared.set.Unset.{Unset}
-use Rattle.search_layer.specs.FloorSteps.{floor_turned}
-use Rattle.search_layer.specs.SetSteps.{set_starts, set_turned, unset_starts, unset_turned}
+use Rattle.tree_floor.specs.declared.floor.Floor.{Floor}
+use Rattle.tree_update.specs.declared.set.Set.{Set}
+use Rattle.tree_update.specs.declared.set.Unset.{Unset}
+use Rattle.tree_update.specs.declared.change.Ended.{Ended}
+use Rattle.tree_floor.specs.Floors.{floor_turned}
+use Rattle.tree_update.specs.Sets.{set_starts, set_turned, unset_starts, unset_turned}
 use Rattle.smo_log.specs.declared.line.Entry.{Entry}
 use Rattle.smo_log.specs.declared.read.LineSeen.{LineSeen}
 use Rattle.smo_log.specs.declared.read.ReadLine.{ReadLine}
@@ -99,11 +100,11 @@ module _ (work : Work) (w : Watching) (action : Action) (x : ℕ) where
     | false ↦ past_line line
   ]
 
-  at_setting : (line : ℕ) (entry : Entry) (turn : Turn Set (Unit {0})) → Goes (has_set work line entry turn).at
+  at_setting : (line : ℕ) (entry : Entry) (turn : Turn Set Ended) → Goes (has_set work line entry turn).at
   at_setting line entry (Go set) = (lets_go, tt)
   at_setting line entry (Done answer) = past_change line entry
 
-  at_unsetting : (line : ℕ) (entry : Entry) (turn : Turn Unset (Unit {0})) → Goes (has_unset work line entry turn).at
+  at_unsetting : (line : ℕ) (entry : Entry) (turn : Turn Unset Ended) → Goes (has_unset work line entry turn).at
   at_unsetting line entry (Go unset) = (lets_go, tt)
   at_unsetting line entry (Done answer) = past_change line entry
 

@@ -16,14 +16,16 @@ use Rattle.pm_alloc.specs.declared.gone.Release.{Release}
 use Rattle.pm_alloc.specs.declared.gone.ReleaseAt.{ReleaseAt}
 use Rattle.pm_alloc.specs.declared.gone.ReleaseAt.TheVariants as release_at
 use Rattle.pm_alloc.specs.Gone.{release_from, release_at_turned}
-use Rattle.search_layer.specs.declared.floor.Floor.{Floor}
-use Rattle.search_layer.specs.declared.set.Set.{Set}
-use Rattle.search_layer.specs.declared.set.Unset.{Unset}
-use Rattle.search_layer.specs.ChangeStages.{Aim}
-use Rattle.search_layer.specs.Laws.{SetAfter, UnsetAfter, aim_of}
-use Rattle.search_layer.proofs.ChangeSound.{sets_stay_sound, unsets_stay_sound}
-use Rattle.search_layer.specs.FloorSteps.{floor_turned}
-use Rattle.search_layer.specs.SetSteps.{set_starts, set_turned, unset_starts, unset_turned}
+use Rattle.tree_floor.specs.declared.floor.Floor.{Floor}
+use Rattle.tree_update.specs.declared.set.Set.{Set}
+use Rattle.tree_update.specs.declared.set.Unset.{Unset}
+use Rattle.tree_update.specs.declared.change.Ended.{Ended}
+use Rattle.tree_update.specs.Stages.{Aim}
+use Rattle.search_layer.specs.Laws.{SetAfter, UnsetAfter}
+use Rattle.tree_update.specs.Stages.{aim_of}
+use Rattle.search_layer.proofs.StepLaw.{sets_stay_sound, unsets_stay_sound}
+use Rattle.tree_floor.specs.Floors.{floor_turned}
+use Rattle.tree_update.specs.Sets.{set_starts, set_turned, unset_starts, unset_turned}
 use Rattle.smo_log.specs.declared.line.Entry.{Entry}
 use Rattle.smo_log.specs.declared.read.LineSeen.{LineSeen}
 use Rattle.smo_log.specs.declared.read.ReadLine.{ReadLine}
@@ -190,12 +192,12 @@ module _ (h : Heard) where
           | false ↦ λ other. (lines, is)
         ] refl
 
-    at_setting : (line : ℕ) (entry : Entry) (set : Set) (turn : Turn Set (Unit {0})) → SetAfter set.change.layout (aim_of set.change) turn → HasLines h work.tally line → is_emptied h line ≡ true
+    at_setting : (line : ℕ) (entry : Entry) (set : Set) (turn : Turn Set Ended) → SetAfter set.change.layout (aim_of set.change) turn → HasLines h work.tally line → is_emptied h line ≡ true
         → entry ≡ h.entry line → set.change.word ≡ word_led (h.entry line) (h.walked line) → Heeds t h (Go (has_set work line entry turn))
     at_setting line entry set (Go next) after lines is says word = (lines, is, says, ap (λ (a : Aim). a.word) after.1 ∙ word)
     at_setting line entry set (Done answer) after lines is says word = has_changed line entry lines is says
 
-    at_unsetting : (line : ℕ) (entry : Entry) (unset : Unset) (turn : Turn Unset (Unit {0})) → UnsetAfter unset.change.layout (aim_of unset.change) turn → HasLines h work.tally line
+    at_unsetting : (line : ℕ) (entry : Entry) (unset : Unset) (turn : Turn Unset Ended) → UnsetAfter unset.change.layout (aim_of unset.change) turn → HasLines h work.tally line
         → is_emptied h line ≡ true → entry ≡ h.entry line → unset.change.word ≡ word_led (h.entry line) (h.walked line) → Heeds t h (Go (has_unset work line entry turn))
     at_unsetting line entry unset (Go next) after lines is says word = (lines, is, says, ap (λ (a : Aim). a.word) after.1 ∙ word)
     at_unsetting line entry unset (Done answer) after lines is says word = has_changed line entry lines is says

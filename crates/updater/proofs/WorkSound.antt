@@ -21,16 +21,21 @@ use Rattle.pm_alloc.specs.declared.gone.Release.{Release}
 use Rattle.pm_alloc.specs.declared.gone.ReleaseAt.{ReleaseAt}
 use Rattle.pm_alloc.specs.declared.gone.ReleaseAt.TheVariants as release_at
 use Rattle.pm_alloc.specs.Gone.{IsRelease, release_from, release_at_turned}
-use Rattle.search_layer.specs.declared.floor.Floor.{Floor}
-use Rattle.search_layer.specs.declared.set.Set.{Set}
-use Rattle.search_layer.specs.declared.set.Unset.{Unset}
+use Rattle.tree_floor.specs.declared.floor.Floor.{Floor}
+use Rattle.tree_update.specs.declared.set.Set.{Set}
+use Rattle.tree_update.specs.declared.set.Unset.{Unset}
+use Rattle.tree_update.specs.declared.change.Ended.{Ended}
 use Rattle.layer_map.specs.Keys.{key_of}
-use Rattle.search_layer.specs.ChangeStages.{Aim}
-use Rattle.search_layer.specs.FloorSteps.{floor_turned, floor_left}
-use Rattle.search_layer.specs.SetSteps.{set_starts, set_turned, unset_starts, unset_turned}
-use Rattle.search_layer.specs.Laws.{FloorAfter, SetAfter, UnsetAfter, aim_of}
-use Rattle.search_layer.proofs.FloorTold.{floor_stays, floor_starts_sound}
-use Rattle.search_layer.proofs.ChangeSound.{sets_stay_sound, unsets_stay_sound, sets_begin_sound, unsets_begin_sound}
+use Rattle.tree_update.specs.Stages.{Aim}
+use Rattle.tree_floor.specs.Floors.{floor_turned, floor_left}
+use Rattle.tree_update.specs.Sets.{set_starts, set_turned, unset_starts, unset_turned}
+use Rattle.tree_floor.specs.Floors.{FloorAfter}
+use Rattle.search_layer.specs.Laws.{SetAfter, UnsetAfter}
+use Rattle.tree_update.specs.Stages.{aim_of}
+use Rattle.search_layer.proofs.FloorLemmas.{stays as floor_stays}
+use Rattle.search_layer.proofs.FloorLemmas.{starts_sound as floor_starts_sound}
+use Rattle.search_layer.proofs.StepLaw.{sets_stay_sound, unsets_stay_sound}
+use Rattle.search_layer.proofs.OnLayer.{sets_begin_sound, unsets_begin_sound}
 use Rattle.smo_log.specs.declared.line.Entry.{Entry}
 use Rattle.smo_log.specs.declared.read.ReadLine.{ReadLine}
 use Rattle.smo_log.specs.LogLines.{numbered_address}
@@ -43,7 +48,7 @@ use Rattle.updater.specs.declared.work.WorkAt.{WorkAt}
 use Rattle.updater.specs.declared.work.WorkAt.TheVariants as at
 use Rattle.updater_row_law.specs.Columns.{line_count}
 use Rattle.updater_row_law.specs.RowStages.{are_same}
-use Rattle.updater.specs.Works.{work_at_asks, after_line, reads_fields, saw_state, lands, walks, changes, clears, changed, after_node, saw_status, allows, saw_stamp, saw_version, after_count, on, leaves, found_at, saw_again, has_read, has_landed, has_walked, has_set, has_unset, has_released, work_at_turned, IsTerms, IsEntry, IsOnLine, IsOnNode, IsThrough, IsReading, IsWalkTo, IsWorkAt, ToldOfLine}
+use Rattle.updater.specs.Works.{work_at_asks, after_line, reads_fields, saw_state, lands, walks, changes, clears, changed, after_node, saw_status, allows, saw_stamp, saw_version, after_count, on, leaves, found_at, saw_again, has_read, has_landed, has_walked, has_set, has_unset, has_released, work_at_turned, IsTerms, IsEntry, IsOnLine, IsOnNode, IsThrough, IsReading, IsWalkTo, IsWorkAt, IsWork, ToldOfLine}
 use Rattle.updater.specs.Laws.{WorkStays, WorksStaySound}
 use Rattle.updater.proofs.WalkLoads.{walk_told}
 
@@ -190,7 +195,7 @@ module _ (work : Work) (terms : IsTerms work.terms) where
           | false ↦ λ last.
               let end : 7 ≤ read.offset + 1 = ltb-false _ _ last in
               let small : read.offset < 7 = is.sound.offset in
-              stays_on (lands t read.line (seen_in words).entry) (here, entry_known (omega arith), floor_starts_sound l (seen_in words).entry.anchor terms.layout, refl)
+              stays_on (lands t read.line (seen_in words).entry) (here, entry_known (omega arith), floor_starts_sound l (seen_in words).entry.anchor terms.layout (entry_known (omega arith)).key, refl)
         ] refl
 
   at_landing : (line : ℕ) (entry : Entry) (floor : Floor) (turn : Turn Floor ℕ) → IsOnLine t work.tally line → IsEntry l entry → FloorAfter l floor.key (floor_left floor) turn → Stays (has_landed work line entry turn)
@@ -252,11 +257,11 @@ module _ (work : Work) (terms : IsTerms work.terms) where
         | false ↦ clearing line here
       ]
 
-  at_setting : (line : ℕ) (entry : Entry) (aim : Aim) (turn : Turn Set (Unit {0})) → aim.key ≡ entry.anchor → IsOnLine t work.tally line → IsEntry l entry → SetAfter l aim turn → Stays (has_set work line entry turn)
+  at_setting : (line : ℕ) (entry : Entry) (aim : Aim) (turn : Turn Set Ended) → aim.key ≡ entry.anchor → IsOnLine t work.tally line → IsEntry l entry → SetAfter l aim turn → Stays (has_set work line entry turn)
   at_setting line entry aim (Go next) key here known after = stays_on (at.Setting line entry next) (here, known, after.0, after.2, ap (λ (a : Aim). a.key) after.1 ∙ key)
   at_setting line entry aim (Done answer) key here known after = has_changed line entry here known
 
-  at_unsetting : (line : ℕ) (entry : Entry) (aim : Aim) (turn : Turn Unset (Unit {0})) → aim.key ≡ entry.anchor → IsOnLine t work.tally line → IsEntry l entry → UnsetAfter l aim turn → Stays (has_unset work line entry turn)
+  at_unsetting : (line : ℕ) (entry : Entry) (aim : Aim) (turn : Turn Unset Ended) → aim.key ≡ entry.anchor → IsOnLine t work.tally line → IsEntry l entry → UnsetAfter l aim turn → Stays (has_unset work line entry turn)
   at_unsetting line entry aim (Go next) key here known after = stays_on (at.Unsetting line entry next) (here, known, after.0, after.2, ap (λ (a : Aim). a.key) after.1 ∙ key)
   at_unsetting line entry aim (Done answer) key here known after = has_changed line entry here known
 
@@ -295,7 +300,7 @@ module _ (work : Work) (terms : IsTerms work.terms) where
   stays_at (at.State line) x here told line_told = at_state line x here told.fits
   stays_at (at.Reading read) x here told line_told = at_reading read x here.1 told.fits line_told here.0
   stays_at (at.Landing line entry floor) x here told line_told =
-      at_landing line entry floor (floor_turned floor x) here.0 here.1 (subst (λ (k : Layout). FloorAfter k floor.key (floor_left floor) (floor_turned floor x)) here.3 (floor_stays floor x here.2))
+      at_landing line entry floor (floor_turned floor x) here.0 here.1 (subst (λ (k : Layout). FloorAfter k floor.key (floor_left floor) (floor_turned floor x)) here.3 (floor_stays floor x here.2 told.fits))
   stays_at (at.Walking line entry walk) x here told line_told =
       at_walking line entry walk x (walk_turned walk x) here.0 here.1 here.2
       (walks_are_looks walk x here.2.sound (walk_told t entry walk (walk_asks walk) x here.2 told))
@@ -317,6 +322,13 @@ module _ (work : Work) (terms : IsTerms work.terms) where
   stays_at (at.Releasing release) x here told line_told = at_releasing release release.at here.0 here.1 here.2
   stays_at (at.Counting node none) x here told line_told = at_counting node _ here.0 here.1
   stays_at (at.Leaving none) x here told line_told = tt
+
+-- the floor of an anchor ends at a node of the layout
+pub floor_ends : (work : Work) (line : ℕ) (entry : Entry) (floor : Floor) (x hint : ℕ) → IsWork work → work.at ≡ at.Landing line entry floor → x < 2 ^ 64 → floor_turned floor x ≡ Done hint → hint < work.terms.layout.nodes
+floor_ends work line entry floor x hint is place fits ends =
+    let here : IsWorkAt work.terms work.tally (at.Landing line entry floor) = subst (λ (a : WorkAt). IsWorkAt work.terms work.tally a) place is.here in
+    subst (λ (l : Layout). hint < l.nodes) here.3
+    (subst (λ (t : Turn Floor ℕ). FloorAfter floor.layout floor.key (floor_left floor) t) ends (floor_stays floor x here.2 fits))
 
 pub works_stay_sound : WorksStaySound
 works_stay_sound work x takes = stays_at work takes.0.terms work.at x takes.0.here takes.1 takes.2

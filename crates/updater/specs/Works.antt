@@ -19,13 +19,14 @@ use Rattle.data_list.specs.Walks.{IsWalk, walk_from, walk_asks, walk_turned, wal
 use Rattle.pm_alloc.specs.declared.gone.Release.{Release}
 use Rattle.pm_alloc.specs.Gone.{IsRelease, stamp_address, no_stamp, release_from, release_asks, release_turned}
 use Rattle.pm_alloc.specs.Gone.{release_left}
-use Rattle.search_layer.specs.declared.floor.Floor.{Floor}
-use Rattle.search_layer.specs.declared.set.Set.{Set}
-use Rattle.search_layer.specs.declared.set.Unset.{Unset}
+use Rattle.tree_floor.specs.declared.floor.Floor.{Floor}
+use Rattle.tree_update.specs.declared.set.Set.{Set}
+use Rattle.tree_update.specs.declared.set.Unset.{Unset}
+use Rattle.tree_update.specs.declared.change.Ended.{Ended}
 use Rattle.layer_map.specs.Keys.{IsKey, key_number}
-use Rattle.search_layer.specs.FloorSteps.{IsFloor, floor_starts, floor_asks, floor_turned, floor_left}
-use Rattle.search_layer.specs.SetSteps.{IsSet, set_starts, set_asks, set_turned, set_left, IsUnset, unset_starts}
-use Rattle.search_layer.specs.SetSteps.{unset_asks, unset_turned, unset_left}
+use Rattle.tree_floor.specs.Floors.{IsFloor, floor_starts, floor_asks, floor_turned, floor_left}
+use Rattle.tree_update.specs.Sets.{IsSet, set_starts, set_asks, set_turned, set_left, IsUnset, unset_starts}
+use Rattle.tree_update.specs.Sets.{unset_asks, unset_turned, unset_left}
 use Rattle.smo_log.specs.declared.line.Entry.{Entry}
 use Rattle.smo_log.specs.declared.read.LineSeen.{LineSeen}
 use Rattle.smo_log.specs.declared.read.ReadLine.{ReadLine}
@@ -173,11 +174,11 @@ abbrev pub has_walked : Work → ℕ → Entry → Turn Walk Walked → Work
 has_walked work line entry (Go walk) = on work (at.Walking line entry walk)
 has_walked work line entry (Done answer) = walk_ended work line entry answer
 
-abbrev pub has_set : Work → ℕ → Entry → Turn Set (Unit {0}) → Work
+abbrev pub has_set : Work → ℕ → Entry → Turn Set Ended → Work
 has_set work line entry (Go set) = on work (at.Setting line entry set)
 has_set work line entry (Done answer) = on work (changed work.terms line entry)
 
-abbrev pub has_unset : Work → ℕ → Entry → Turn Unset (Unit {0}) → Work
+abbrev pub has_unset : Work → ℕ → Entry → Turn Unset Ended → Work
 has_unset work line entry (Go unset) = on work (at.Unsetting line entry unset)
 has_unset work line entry (Done answer) = on work (changed work.terms line entry)
 

@@ -23,13 +23,15 @@ ghost use Rattle.std.specs.Prelude.{◌≡◌, ℕ, ◌+◌, ◌*◌, ◌<◌, �
 use crate::terms::{Found, Tally, Terms, Turned};
 use data_list::{Walk, Walked};
 use pm_alloc::Release;
-use pm_words::codes::status::FREE;
+use pm_words::codes::state::READY;
+use pm_words::codes::status::{FREE, GONE};
 use pm_words::codes::updater_lock::UNTAKEN;
 use pm_words::offsets::shared::UPDATER;
 use pm_words::offsets::{node, volatile};
-use pm_words::{Action, Layout, Machine, Turn};
-use search_layer::{Floor, Set, Unset};
+use pm_words::{Action, LOG_LINES, Layout, Machine, Turn};
 use smo_log::{Clear, Entry, ReadLine};
+use tree_floor::Floor;
+use tree_update::{Set, Unset};
 
 /// A turn of the updater, which has taken the updater lock for it.
 #[derive(Clone, Copy)]
@@ -119,8 +121,8 @@ impl Machine for Work {
 
     fn action(&self) -> Action {
         let layout = self.terms.layout;
-        match self.at {
-            WorkAt::State { line } => ReadLine::new(layout, line).action(),
+        match &self.at {
+            WorkAt::State { line } => ReadLine::new(layout, *line).action(),
             WorkAt::Reading { read } => read.action(),
             WorkAt::Landing { floor, .. } => floor.action(),
             WorkAt::Walking { walk, .. } => walk.action(),
@@ -135,11 +137,11 @@ impl Machine for Work {
             ),
             WorkAt::Clearing { clear } => clear.action(),
             WorkAt::Status { node } | WorkAt::Counting { node, .. } => {
-                Action::Load(layout.node_volatile(node, volatile::STATUS))
+                Action::Load(layout.node_volatile(*node, volatile::STATUS))
             }
-            WorkAt::Stamp { node } => Action::Load(layout.node_volatile(node, volatile::STAMP)),
+            WorkAt::Stamp { node } => Action::Load(layout.node_volatile(*node, volatile::STAMP)),
             WorkAt::Version { node } => {
-                Action::Load(layout.cached(layout.node_word(node, node::VERSION)))
+                Action::Load(layout.cached(layout.node_word(*node, node::VERSION)))
             }
             WorkAt::Releasing { release } => release.action(),
             WorkAt::Leaving { .. } => Action::Store(UPDATER, UNTAKEN),
@@ -191,20 +193,31 @@ impl Work {
         ensures turned { AdvancesTo (work_turned self.old got) self.new result }
         ensures fewer { GoesBelow work_left (work_left self.old) (work_turned self.old got) }
     {
-        let terms = self.terms;
+        let layout = self.terms.layout;
         match &mut self.at {
-            WorkAt::State { line } => self.at = terms.saw_state(*line, got),
+            WorkAt::State { line } => {
+                if got != READY && *line + 1 < LOG_LINES * layout.callers() {
+                    *line += 1;
+                    return None;
+                }
+                let line = *line;
+                self.saw_state(line, got);
+            }
             WorkAt::Reading { read } => match read.resume(got) {
                 Turn::Go(next) => *read = next,
-                Turn::Done(seen) => self.at = terms.lands(read.line, seen.entry),
+                Turn::Done(seen) => {
+                    let line = read.line;
+                    self.lands(line, seen.entry);
+                }
             },
-            WorkAt::Landing { line, entry, floor } => match floor.resume(got) {
-                Turn::Go(next) => *floor = next,
-                Turn::Done(hint) => self.at = terms.walks(*line, *entry, hint),
-            },
-            WorkAt::Walking { line, entry, walk } => match walk.resume(got) {
-                Turn::Go(next) => *walk = next,
-                Turn::Done(walked) => {
+            WorkAt::Landing { line, entry, floor } => {
+                let hint = floor.advance(got)?;
+                let (line, entry) = (*line, *entry);
+                self.walks(line, entry, hint);
+            }
+            WorkAt::Walking { line, entry, walk } => match walk.advance(got) {
+                None => {}
+                Some(walked) => {
                     let (line, entry) = (*line, *entry);
                     self.walked(line, entry, walked);
                 }
@@ -213,33 +226,55 @@ impl Work {
                 let (line, entry, found) = (*line, *entry, *found);
                 self.saw_again(line, entry, found, got);
             }
-            WorkAt::Setting { line, entry, set } => match set.resume(got) {
-                Turn::Go(next) => *set = next,
-                Turn::Done(_) => self.at = terms.changed(*line, *entry),
-            },
-            WorkAt::Unsetting { line, entry, unset } => match unset.resume(got) {
-                Turn::Go(next) => *unset = next,
-                Turn::Done(_) => self.at = terms.changed(*line, *entry),
-            },
-            WorkAt::Stamping { line, .. } => self.at = terms.clears(*line),
+            WorkAt::Setting { line, entry, set } => {
+                set.advance(got)?;
+                let (line, entry) = (*line, *entry);
+                self.changed(line, entry);
+            }
+            WorkAt::Unsetting { line, entry, unset } => {
+                unset.advance(got)?;
+                let (line, entry) = (*line, *entry);
+                self.changed(line, entry);
+            }
+            WorkAt::Stamping { line, .. } => {
+                let line = *line;
+                self.clears(line);
+            }
             WorkAt::Clearing { clear } => {
                 let line = clear.line;
-                self.tally.applied += 1;
-                self.at = terms.after_line(line);
+                self.emptied(line);
             }
-            WorkAt::Status { node } => self.at = terms.saw_status(*node, got),
-            WorkAt::Stamp { node } => self.at = terms.saw_stamp(*node, got),
-            WorkAt::Version { node } => self.at = terms.saw_version(*node, got),
+            WorkAt::Status { node } => {
+                if got != GONE && *node + 1 < layout.nodes() {
+                    *node += 1;
+                    return None;
+                }
+                let node = *node;
+                self.saw_status(node, got);
+            }
+            WorkAt::Stamp { node } => {
+                let node = *node;
+                self.saw_stamp(node, got);
+            }
+            WorkAt::Version { node } => {
+                let node = *node;
+                self.saw_version(node, got);
+            }
             WorkAt::Releasing { release } => match release.resume(got) {
                 Turn::Go(next) => *release = next,
                 Turn::Done(_) => {
                     let node = release.node;
-                    self.tally.freed += 1;
-                    self.at = terms.after_node(node);
+                    self.freed(node);
                 }
             },
             WorkAt::Counting { node, none_free } => {
-                self.at = terms.after_count(*node, *none_free && got != FREE)
+                *none_free = *none_free && got != FREE;
+                if *node + 1 < layout.nodes() {
+                    *node += 1;
+                    return None;
+                }
+                let none_free = *none_free;
+                self.has_counted(none_free);
             }
             WorkAt::Leaving { none_free } => {
                 return Some(Turned {
@@ -254,11 +289,15 @@ impl Work {
     }
 }
 
+// What makes another state is in functions of their own, since a function clears the room of its states as it begins,
+// whichever arm runs, and a change of the layer has a large one.
 impl Work {
     ghost use Rattle.std.specs.Prelude.{◌≡◌, ◌+◌, ◌*◌, ◌<◌};
     ghost use Rattle.pm_words.specs.Layouts.{IsLayout};
     ghost use Rattle.layer_map.specs.Keys.{key_number};
-    ghost use Rattle.updater.specs.Works.{IsTerms, IsEntry, walk_ended, saw_again, leaves};
+    ghost use Rattle.updater.specs.declared.work.WorkAt.TheVariants as WorkAt;
+    ghost use Rattle.updater.specs.Works.{IsTerms, IsEntry, saw_state, lands, walks, walk_ended, saw_again, leaves};
+    ghost use Rattle.updater.specs.Works.{changed, clears, emptied, saw_status, saw_stamp, saw_version, freed, on};
 
     /// It leaves this line as it is.
     fn leaves(&mut self, line: u64)
@@ -306,5 +345,105 @@ impl Work {
         } else {
             self.leaves(line);
         }
+    }
+
+    /// It has the state of this line: it reads the line, or goes on behind it.
+    fn saw_state(&mut self, line: u64, state: u64)
+        requires terms { IsTerms self.old.terms }
+        requires line { line < 8 * self.old.terms.layout.callers }
+        ensures { self.new ≡ on self.old (saw_state self.old.terms line state) }
+    {
+        self.at = self.terms.saw_state(line, state);
+    }
+
+    /// It has read this line, and looks its anchor up.
+    fn lands(&mut self, line: u64, entry: Entry)
+        requires terms { IsTerms self.old.terms }
+        ensures { self.new ≡ on self.old (lands self.old.terms line entry) }
+    {
+        self.at = self.terms.lands(line, entry);
+    }
+
+    /// It walks from the node that the layer leads to.
+    fn walks(&mut self, line: u64, entry: Entry, hint: u64)
+        requires terms { IsTerms self.old.terms }
+        requires hint { hint < self.old.terms.layout.nodes }
+        ensures { self.new ≡ on self.old (walks self.old.terms line entry hint) }
+    {
+        self.at = self.terms.walks(line, entry, hint);
+    }
+
+    /// The search layer is changed.
+    fn changed(&mut self, line: u64, entry: Entry)
+        requires terms { IsTerms self.old.terms }
+        requires line { line < 8 * self.old.terms.layout.callers }
+        ensures { self.new ≡ on self.old (changed self.old.terms line entry) }
+    {
+        self.at = self.terms.changed(line, entry);
+    }
+
+    /// It empties this line.
+    fn clears(&mut self, line: u64)
+        requires terms { IsTerms self.old.terms }
+        requires line { line < 8 * self.old.terms.layout.callers }
+        ensures { self.new ≡ on self.old (clears self.old.terms line) }
+    {
+        self.at = self.terms.clears(line);
+    }
+
+    /// It has emptied this line.
+    fn emptied(&mut self, line: u64)
+        requires terms { IsTerms self.old.terms }
+        requires line { line < 8 * self.old.terms.layout.callers }
+        requires room { self.old.tally.applied < 128 }
+        ensures { self.new ≡ emptied self.old line }
+    {
+        self.tally.applied += 1;
+        self.at = self.terms.after_line(line);
+    }
+
+    /// It has the status of this node.
+    fn saw_status(&mut self, node: u64, status: u64)
+        requires terms { IsTerms self.old.terms }
+        requires node { node < self.old.terms.layout.nodes }
+        ensures { self.new ≡ on self.old (saw_status self.old.terms node status) }
+    {
+        self.at = self.terms.saw_status(node, status);
+    }
+
+    /// It has the stamp of this node, which is GONE.
+    fn saw_stamp(&mut self, node: u64, stamp: u64)
+        requires terms { IsTerms self.old.terms }
+        requires node { node < self.old.terms.layout.nodes }
+        ensures { self.new ≡ on self.old (saw_stamp self.old.terms node stamp) }
+    {
+        self.at = self.terms.saw_stamp(node, stamp);
+    }
+
+    /// It has the version word of this node, whose stamp the release allows.
+    fn saw_version(&mut self, node: u64, version: u64)
+        requires terms { IsTerms self.old.terms }
+        requires node { node < self.old.terms.layout.nodes }
+        ensures { self.new ≡ on self.old (saw_version self.old.terms node version) }
+    {
+        self.at = self.terms.saw_version(node, version);
+    }
+
+    /// It has made this node FREE.
+    fn freed(&mut self, node: u64)
+        requires terms { IsTerms self.old.terms }
+        requires node { node < self.old.terms.layout.nodes }
+        requires room { self.old.tally.freed < 4096 }
+        ensures { self.new ≡ freed self.old node }
+    {
+        self.tally.freed += 1;
+        self.at = self.terms.after_node(node);
+    }
+
+    /// It has the statuses of all nodes, and gives the updater lock back.
+    fn has_counted(&mut self, none_free: bool)
+        ensures { self.new ≡ on self.old (WorkAt.Leaving none_free) }
+    {
+        self.at = WorkAt::Leaving { none_free };
     }
 }

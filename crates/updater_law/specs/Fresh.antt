@@ -1,7 +1,7 @@
 -- A fresh index: node 0 is listed, and the zero key leads to it.
 use Rattle.std.specs.Prelude.{◌==◌, false, if◌then◌else◌}
 use Rattle.pm_words.specs.Codes.{free_status, live_status, empty_state}
-use Rattle.search_layer.specs.Laws.{fresh_layer}
+use Rattle.tree_law.specs.Fresh.{fresh_layer}
 use Rattle.updater_law.specs.Covers.{Lines}
 use Rattle.updater_law.specs.Facts.{TurnFacts}
 

@@ -1,5 +1,5 @@
 -- Each step of a turn may be done.
-use Rattle.std.proofs.Common.{ℕ, ◌^◌, ◌<◌, ◌≤◌, List, arith}
+use Rattle.std.proofs.Common.{ℕ, ◌^◌, ◌<◌, List, arith}
 use Rattle.pm_words.specs.declared.layout.Layout.{Layout}
 use Rattle.pm_words.specs.declared.action.Action.{Action}
 use Rattle.pm_words.specs.declared.action.Action.TheVariants.{Load, Store}
@@ -7,13 +7,11 @@ use Rattle.pm_words.specs.Locations.{Location, Cached, Volatile, Updater, Node, 
 use Rattle.pm_words.specs.Rows.{IsRow, CanAct, IsOutsideHeader}
 use Rattle.pm_words.proofs.Apart.{addresses_within}
 use Rattle.pm_words.proofs.Kept.{outside_header}
-use Rattle.search_layer.specs.ChangeStages.{Changing, ChangeStep}
-use Rattle.search_layer.proofs.ChangeActions.{change_can_act}
+use Rattle.search_layer.proofs.StepLaw.{step_can_act}
 use Rattle.updater_row_law.specs.Columns.{RowTerms, Ghosts, line_count, line_word}
-use Rattle.updater_row_law.specs.RowStages.{RowLine, aim_of, RowStage, Changes}
+use Rattle.updater_row_law.specs.RowStages.{aim_of, RowStage}
 use Rattle.updater_row_law.specs.RowSteps.{lock_at, line_at, volatile_at, RowStep, takes_lock, finds_held, passes, sees, reads, has_read, walks, is_turned_back, finds, loses, decides, changes, has_changed, stamps, empties, passes_node, sees_gone, passes_stamp, sees_stamp, passes_worn, sees_unworn, unstamps, frees, counts, leaves_lock}
 use Rattle.updater_row_law.specs.RowLaw.{RowLawful, RowStepCanAct}
-use Rattle.updater_row_law.proofs.RowChanges.{word_within}
 
 module _ (l : Layout) (words : List ℕ) where
   loads : (p : Location) → HasLocation l p → CanAct l words (Load (address_of l p))
@@ -35,27 +33,20 @@ module _ (l : Layout) (words : List ℕ) where
 lock_outside : (l : Layout) → IsOutsideHeader l (lock_at l)
 lock_outside l = outside_header l Updater tt (λ k lt. (λ e. cc, λ e. cc))
 
-changes_can : (r : RowTerms) (ghosts : Ghosts) (words : List ℕ) (e : RowLine) (word : ℕ) (s : Changing) (a : Action) (x : ℕ) (t : Changing) → IsRow r.layout words → RowLawful r ghosts words (Changes e word s)
-    → ChangeStep r.layout (aim_of e word) s a x t → CanAct r.layout words a
-changes_can r ghosts words e word s a x t row is step =
-    let fits : word ≤ r.layout.nodes = word_within r ghosts words e word is.law.sure in
-    let most : r.layout.nodes ≤ 4096 = row.layout.nodes.1 in
-    change_can_act r.layout (aim_of e word) words s a x t (omega arith) step
-
 can : (r : RowTerms) (ghosts : Ghosts) (words : List ℕ) {s : RowStage} {a : Action} {x : ℕ} {t : RowStage} → IsRow r.layout words → r.stamp < 2 ^ 64 → RowLawful r ghosts words s → RowStep r s a x t → CanAct r.layout words a
 can r ghosts words row stamp is (takes_lock free) = ((addresses_within r.layout Updater tt, lock_outside r.layout), omega arith)
 can r ghosts words row stamp is (finds_held taken) = ((addresses_within r.layout Updater tt, lock_outside r.layout), omega arith)
 can r ghosts words row stamp is (passes {j = j} here other_state) = loads_line r.layout words 0 j here (omega arith)
 can r ghosts words row stamp is (sees {j = j} seen here ready size) = loads_line r.layout words 0 j here (omega arith)
-can r ghosts words row stamp is (reads {j = j} {offset = offset} here some small) = loads_line r.layout words offset j here (omega arith)
+can r ghosts words row stamp is (reads {j = j} {offset = offset} here some small named) = loads_line r.layout words offset j here (omega arith)
 can r ghosts words row stamp is (has_read {j = j} here) = loads_line r.layout words 6 j here (omega arith)
 can r ghosts words row stamp is (walks here) = (here, tt)
 can r ghosts words row stamp is (is_turned_back here) = (here, tt)
 can r ghosts words row stamp is (finds here within free) = (here, tt)
 can r ghosts words row stamp is (loses {target = target} moved) = loads r.layout words (Cached (Node target.node 0)) (is.sure.1.within, omega arith)
 can r ghosts words row stamp is (decides {target = target} same) = loads r.layout words (Cached (Node target.node 0)) (is.sure.1.within, omega arith)
-can r ghosts words row stamp is (changes {e = e} {word = word} {x = x} {s = s} {t = t} {a = a} step) = changes_can r ghosts words e word s a x t row is step
-can r ghosts words row stamp is (has_changed {e = e} {word = word} {x = x} {s = s} {a = a} step) = changes_can r ghosts words e word s a x _ row is step
+can r ghosts words row stamp is (changes {e = e} {word = word} {x = x} {s = s} {t = t} {a = a} step) = step_can_act r.layout (aim_of e word) words s a x t step
+can r ghosts words row stamp is (has_changed {e = e} {word = word} {x = x} {s = s} {a = a} step) = step_can_act r.layout (aim_of e word) words s a x _ step
 can r ghosts words row stamp is (stamps {e = e} here) = stores_volatile r.layout words e.node 2 r.stamp here (omega arith) stamp
 can r ghosts words row stamp is (empties {j = j} here) = stores_state r.layout words j here
 can r ghosts words row stamp is (passes_node {n = n} here other_status) = loads r.layout words (Volatile n 0) (here, omega arith)

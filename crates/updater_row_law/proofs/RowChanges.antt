@@ -4,14 +4,17 @@ use Rattle.std.proofs.lemmas.Bool.{cases_eq, eq-eqb, ne_eqb}
 use Rattle.pm_words.specs.declared.layout.Layout.{Layout}
 use Rattle.pm_words.specs.declared.action.Action.{Action}
 use Rattle.pm_words.specs.Locations.{Cached, Durable}
-use Rattle.pm_words.specs.Rows.{acted}
+use Rattle.pm_words.specs.Rows.{IsRow, acted, got}
 use Rattle.layer_map.specs.Layers.{Layer, changed_at, node_of}
 use Rattle.layer_map.specs.Keys.{key_number}
-use Rattle.search_layer.specs.Rows.{LayerWords, layer_words}
+use Rattle.search_layer.specs.Rows.{LayerWords, layer_words, layer_marks}
 use Rattle.search_layer.specs.Kept.{layer_of, kept}
-use Rattle.search_layer.specs.ChangeStages.{Aim, Changing, LayerAt, MixAt, LayerAfter}
+use Rattle.tree_update.specs.Stages.{Aim}
+use Rattle.search_layer.specs.ChangeStages.{Changing, ChangeStep, LayerAt, MixAt, LayerAfter}
 use Rattle.search_layer.specs.Laws.{ChangeKeeps}
-use Rattle.search_layer.proofs.ChangeLaw.{change_is_backed, layer_is_either, mix_is_either, step_is_either}
+use Rattle.search_layer.proofs.StageLemmas.{change_is_backed, layer_is_either, mix_is_either, step_is_either, rooted_begins, layer_stays_rooted}
+use Rattle.search_layer.proofs.StepLaw.{change_step_keeps}
+use Rattle.search_layer.proofs.RootLemmas.{root_step_keeps}
 use Rattle.search_layer.proofs.RowLemmas.{mix_of_durable}
 use Rattle.updater_law.specs.TurnSteps.{AreSameBut}
 use Rattle.updater_law.specs.Lawful.{IsDecided}
@@ -63,21 +66,35 @@ word_within r ghosts words e word is = elim (cases_eq word 0) [
 -- a step of a change
 pub record ChangedRow (r : RowTerms) (words : List ℕ) (e : RowLine) (word : ℕ) (a : Action) (t : Changing) : Type 0 where
   pub changing : IsChanging r (acted r.layout words a) e word t
+  pub rooted : layer_of r.layout (acted r.layout words a) 0 ≢ None
   pub differs : Differs (key_number e.anchor) (node_of word) (layer_of r.layout words) (layer_of r.layout (acted r.layout words a))
   pub durable : AreSameBut (key_number e.anchor) (kept r.layout (layer_words r.layout (acted r.layout words a) Durable)) (layer_of r.layout (acted r.layout words a))
 
-module _ (r : RowTerms) (words : List ℕ) (e : RowLine) (word : ℕ) (s t : Changing) (a : Action) (is : IsChanging r words e word s) (fits : word ≤ r.layout.nodes) where
+module _ (r : RowTerms) (words : List ℕ) (e : RowLine) (word : ℕ) (s t : Changing) (a : Action) (row : IsRow r.layout words) (is : IsChanging r words e word s) where
   abbrev l : Layout
   l = r.layout
 
-  pub changed_row : ChangeKeeps l (aim_of e word) is.before words s a t → ChangedRow r words e word a t
-  changed_row keeps =
+  -- a step keeps what is known of the layer
+  pub change_kept : ChangeStep l (aim_of e word) s a (got l words a) t → ChangeKeeps l (aim_of e word) is.before words s a t
+  change_kept step = change_step_keeps l (aim_of e word) is.before words s a t row (λ some_word. is.few) (rooted_begins (aim_of e word) is.before is.zero is.rooted) is.sure step
+
+  pub changed_row : ChangeStep l (aim_of e word) s a (got l words a) t → ChangeKeeps l (aim_of e word) is.before words s a t → ChangedRow r words e word a t
+  changed_row step keeps =
       let after : List ℕ = acted l words a in
       let w : LayerWords = layer_words l after Cached in
       let d : LayerWords = layer_words l after Durable in
-      let backs = change_is_backed l (aim_of e word) is.before t w d keeps.row fits keeps.sure keeps.layer in
+      let backs = change_is_backed l (aim_of e word) is.before t w d (layer_marks l after) keeps.sure in
       record {
-        changing = record { before = is.before; few = is.few; sure = keeps.sure; layer = keeps.layer };
+        changing = record {
+          before = is.before;
+          few = is.few;
+          rooted = is.rooted;
+          zero = is.zero;
+          holds = (root_step_keeps l (aim_of e word) words s a t row.whole step is.holds).0;
+          sure = keeps.sure;
+          layer = keeps.layer;
+        };
+        rooted = layer_stays_rooted (aim_of e word) is.before t (layer_of l after) is.zero is.rooted keeps.layer;
         differs = differs (aim_of e word) s (layer_of l words) (layer_of l after) keeps.changes;
         durable = mix_but (aim_of e word) is.before t (layer_of l after) (kept l d) keeps.layer (backs.layer d (mix_of_durable w d));
       }

@@ -2,18 +2,18 @@
 use Rattle.std.proofs.Common.{◌≡◌, ℕ, List, inl, inr, sym, ◌∙◌, subst}
 use Rattle.pm_words.specs.Locations.{Cached, Durable}
 use Rattle.layer_map.specs.Layers.{Layer, AreSame, HasFew}
-use Rattle.search_layer.specs.Rows.{LayerWords, layer_words}
+use Rattle.search_layer.specs.Rows.{LayerWords, layer_words, layer_marks}
 use Rattle.search_layer.specs.Kept.{layer_of, kept, IsKept}
-use Rattle.search_layer.specs.ChangeStages.{Aim, Changing, LayerAt, MixAt}
-use Rattle.search_layer.proofs.ChangeLaw.{change_is_backed, mix_is_either}
-use Rattle.search_layer.proofs.CountLemmas.{kept_leads_below}
+use Rattle.tree_update.specs.Stages.{Aim}
+use Rattle.search_layer.specs.ChangeStages.{Changing, LayerAt, MixAt}
+use Rattle.search_layer.proofs.StageLemmas.{change_is_backed, mix_is_either}
+use Rattle.search_layer.proofs.RowLemmas.{kept_leads_below}
 use Rattle.search_layer.proofs.RowLemmas.{even_are_same, mix_of_durable}
 use Rattle.layer_map.proofs.FewLemmas.{few_apart}
 use Rattle.updater_law.proofs.Crash.{keys_lead_apart}
 use Rattle.updater_row_law.specs.Columns.{RowTerms, Ghosts, terms_of, facts_in}
 use Rattle.updater_row_law.specs.RowStages.{RowLine, aim_of, RowStage, Resting, Between, Reads, Lands, HasTarget, Changes, Stamps, Clears, Sweeps, Gone, HasStamp, IsUnworn, Frees, Counts, turn_stage}
-use Rattle.updater_row_law.specs.RowLaw.{AreDurable, RowLawful, IsSafeLayer, LayerIsSafe}
-use Rattle.updater_row_law.proofs.RowChanges.{word_within}
+use Rattle.updater_row_law.specs.RowLaw.{LayerRests, RowLawful, IsSafeLayer, LayerIsSafe}
 
 -- a layer with the same keys as one that has few has few
 few_same : (nodes : ℕ) (layer other : Layer) → AreSame other layer → HasFew nodes layer → HasFew nodes other
@@ -38,9 +38,9 @@ module _ (r : RowTerms) (ghosts : Ghosts) (words : List ℕ) where
   cached_few s is = few_apart r.layout.nodes (layer_of r.layout words) (kept_leads_below r.layout w is.order)
       (keys_lead_apart (terms_of r) (facts_in r ghosts words) (turn_stage s) is.law)
 
-  even : (s : RowStage) → RowLawful r ghosts words s → AreDurable r words → IsSafeLayer r words
+  even : (s : RowStage) → RowLawful r ghosts words s → LayerRests r words → IsSafeLayer r words
   even s is same =
-      let equal : w ≡ d = sym (even_are_same w d same) in
+      let equal : w ≡ d = sym (even_are_same w d same.even) in
       record {
         order = subst (IsKept r.layout) equal is.order;
         few = subst (λ (v : LayerWords). HasFew r.layout.nodes (kept r.layout v)) equal (cached_few s is);
@@ -48,7 +48,7 @@ module _ (r : RowTerms) (ghosts : Ghosts) (words : List ℕ) where
 
   changing : (e : RowLine) (word : ℕ) (s : Changing) → RowLawful r ghosts words (Changes e word s) → IsSafeLayer r words
   changing e word s is =
-      let backs = change_is_backed r.layout (aim_of e word) is.sure.before s w d is.order (word_within r ghosts words e word is.law.sure) is.sure.sure is.sure.layer in
+      let backs = change_is_backed r.layout (aim_of e word) is.sure.before s w d (layer_marks r.layout words) is.sure.sure in
       record {
         order = backs.row d (mix_of_durable w d);
         few = mix_few r.layout.nodes (aim_of e word) is.sure.before s (layer_of r.layout words) (kept r.layout d) is.sure.few (cached_few (Changes e word s) is) is.sure.layer (backs.layer d (mix_of_durable w d));

@@ -1,5 +1,5 @@
 -- A word of the image that becomes durable keeps the row of a turn lawful.
-use Rattle.std.proofs.Common.{◌≡◌, ℕ, zero, suc, ◌+◌, ◌^◌, ◌<◌, ◌⊎◌, not, List, length, slice_index, inl, inr, sym, subst, ap, ap₂, ◌∙◌, arith}
+use Rattle.std.proofs.Common.{◌≡◌, ◌≢◌, ℕ, zero, suc, ◌+◌, ◌^◌, ◌<◌, ◌⊎◌, not, List, length, slice_index, None, inl, inr, sym, subst, ap, ap₂, ◌∙◌, arith}
 use Rattle.std.proofs.lemmas.Bool.{cases_eq, cases_lt}
 use Rattle.std.proofs.lemmas.List.{get_or-set_same, get_or-set_other}
 use Rattle.pm_words.specs.declared.layout.Layout.{Layout}
@@ -9,12 +9,13 @@ use Rattle.pm_words.proofs.Apart.{words_within}
 use Rattle.version_lock.specs.Versions.{is_free_word, is_worn_word}
 use Rattle.layer_map.specs.Layers.{Layer, AreSame}
 use Rattle.layer_map.specs.Keys.{key_of, key_number}
-use Rattle.search_layer.specs.Rows.{LayerWords, layer_words, AreEven, EvictsLayer}
+use Rattle.search_layer.specs.Rows.{LayerWords, layer_words, layer_marks, AreEven, EvictsLayer}
 use Rattle.search_layer.specs.ChangeStages.{Changing, LayerAt}
-use Rattle.search_layer.proofs.RowLemmas.{eviction_mixes, even_are_same, mixes_are_even}
-use Rattle.search_layer.proofs.ChangeLaw.{change_is_backed, change_evicts}
+use Rattle.search_layer.proofs.RowLemmas.{row_eviction_mixes as eviction_mixes, even_are_same, mixes_are_even}
+use Rattle.search_layer.proofs.StageLemmas.{change_is_backed}
+use Rattle.search_layer.proofs.BesideLemmas.{evictions_keep, rest_evicts}
+use Rattle.search_layer.proofs.RootLemmas.{root_evictions_keep}
 use Rattle.search_layer.specs.Kept.{kept, IsKept}
-use Rattle.search_layer.specs.Laws.{SureOn}
 use Rattle.layer_map.proofs.KeyLemmas.{words_told}
 use Rattle.updater_law.specs.Covers.{Lines, LinesEvict}
 use Rattle.updater_law.specs.Covered.{IsTarget}
@@ -25,9 +26,9 @@ use Rattle.updater_law.proofs.Others.{other_keeps}
 use Rattle.updater_law.proofs.Crash.{layer_evicts}
 use Rattle.updater_row_law.specs.Columns.{RowTerms, Ghosts, line_count, line_word, line_field, lines_in, node_field, volatile_field, terms_of, facts_in}
 use Rattle.updater_row_law.specs.RowStages.{RowLine, RowTarget, aim_of, RowStage, Resting, Between, Reads, Lands, HasTarget, Changes, Stamps, Clears, Sweeps, Gone, HasStamp, IsUnworn, Frees, Counts, reading_stage, turn_stage}
-use Rattle.updater_row_law.specs.RowLaw.{AreDurable, HasLoaded, IsTargetFor, SureRow, RowLawful, EvictionKeepsTurn}
+use Rattle.updater_row_law.specs.RowLaw.{LayerRests, HasLoaded, IsTargetFor, SureRow, RowLawful, EvictionKeepsTurn}
 use Rattle.updater_row_law.proofs.RowColumns.{column-here, column-alike, column-same, column_fits}
-use Rattle.updater_row_law.proofs.RowChanges.{mix_but, word_within}
+use Rattle.updater_row_law.proofs.RowChanges.{mix_but}
 
 module _ (l : Layout) (words : List ℕ) (word : ℕ) (whole : length words ≡ row_words l) (within : word < image_words l) where
   abbrev words' : List ℕ
@@ -145,19 +146,20 @@ module _ (r : RowTerms) (ghosts : Ghosts) (words : List ℕ) (word : ℕ) (whole
         safe_layer = kept l d';
       }
 
-  even_after : AreEven w d → AreEven w d'
-  even_after even = mixes_are_even w d d' even evicts.durable
+  even_after : LayerRests r words → AreEven w d'
+  even_after rests = mixes_are_even w d d' rests.even evicts.durable
 
-  even_cached : AreEven w d → AreDurable r after
-  even_cached even = subst (λ (v : LayerWords). AreEven v d') (sym evicts.cached) (even_after even)
+  even_cached : LayerRests r words → LayerRests r after
+  even_cached rests = rest_evicts l words word whole within rests
 
-  even_layer : AreEven w d → AreSame (kept l d') f.layer
+  even_layer : LayerRests r words → AreSame (kept l d') f.layer
   even_layer even k = ap (λ (v : LayerWords). kept l v k) (even_are_same w d' (even_after even))
 
   loaded_after : (j offset : ℕ) (seen : List ℕ) → HasLoaded r words j offset seen → HasLoaded r after j offset seen
   loaded_after j offset seen is = record {
     size = is.size;
     most = is.most;
+    named = is.named;
     same = λ k lt. ap (λ (g : ℕ → ℕ). g j) (line_same l words word whole within k (let most = is.most in omega arith)) ∙ is.same k lt;
   }
 
@@ -169,7 +171,7 @@ module _ (r : RowTerms) (ghosts : Ghosts) (words : List ℕ) (word : ℕ) (whole
         low = λ stands k lt. ap (λ (g : ℕ → ℕ). g target.node) (node_same l words word whole within (3 + k) (omega arith)) ∙ is.low (sym version ∙ stands) k lt;
       }
 
-  reading_after : (j offset : ℕ) (seen : List ℕ) → AreEven w d → IsDurableBut f.layer (kept l d') (reading_stage j offset seen)
+  reading_after : (j offset : ℕ) (seen : List ℕ) → LayerRests r words → IsDurableBut f.layer (kept l d') (reading_stage j offset seen)
   reading_after j zero seen even = even_layer even
   reading_after j (suc zero) seen even = even_layer even
   reading_after j (suc (suc zero)) seen even = even_layer even
@@ -187,12 +189,14 @@ module _ (r : RowTerms) (ghosts : Ghosts) (words : List ℕ) (word : ℕ) (whole
         sure = record {
           before = before;
           few = is.sure.few;
-          sure = subst (λ (v : LayerWords). SureOn l before (aim_of e node) s v d') (sym evicts.cached)
-              (change_evicts l (aim_of e node) before s w d d' evicts.durable sure);
+          rooted = is.sure.rooted;
+          zero = is.sure.zero;
+          holds = root_evictions_keep l words s word within is.sure.holds;
+          sure = evictions_keep l before (aim_of e node) s words word whole within sure;
           layer = subst (λ (v : LayerWords). LayerAt (aim_of e node) before s (kept l v)) (sym evicts.cached) is.sure.layer;
         };
         durable = mix_but (aim_of e node) before s f.layer (kept l d') is.sure.layer
-            ((change_is_backed l (aim_of e node) before s w d is.order (word_within r ghosts words e node is.law.sure) sure is.sure.layer).layer d' evicts.durable);
+            ((change_is_backed l (aim_of e node) before s w d (layer_marks l words) sure).layer d' evicts.durable);
       }
 
   stage_after : (s : RowStage) → RowLawful r ghosts words s → After s
@@ -223,6 +227,7 @@ eviction_keeps_turn r ghosts words s word row within is =
     let law = layer_evicts (terms_of r) (record f { safe_line = lines }) (turn_stage s) safe drained next.durable in
     record {
       order = subst (λ (v : LayerWords). IsKept l v) (sym (evicts r ghosts words word row.whole within row.fits).cached) is.order;
+      rooted = subst (λ (v : LayerWords). kept l v 0 ≢ None) (sym (evicts r ghosts words word row.whole within row.fits).cached) is.rooted;
       sure = next.sure;
       law = subst (λ (g : TurnFacts). TurnLawful (terms_of r) g (turn_stage s)) (sym (evicted_facts r ghosts words word row.whole within row.fits)) law;
     }

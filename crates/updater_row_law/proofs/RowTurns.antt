@@ -13,14 +13,15 @@ use Rattle.pm_words.specs.Rows.{IsRow, acted, got}
 use Rattle.version_lock.specs.Versions.{is_free_word, is_worn_word}
 use Rattle.layer_map.specs.Layers.{Layer, AreSame, node_of}
 use Rattle.layer_map.specs.Keys.{IsKey, key_of, key_number}
-use Rattle.search_layer.specs.Rows.{LayerWords, layer_words, AreEven}
-use Rattle.search_layer.specs.Kept.{layer_of, IsInOrder, kept, IsKept}
+use Rattle.search_layer.specs.Rows.{LayerWords, layer_words, layer_marks}
+use Rattle.search_layer.specs.Kept.{layer_of, kept, IsKept}
 use Rattle.search_layer.specs.ChangeStages.{Changing, Changed, ChangeStep}
-use Rattle.search_layer.proofs.ChangeSteps.{change_step_keeps}
-use Rattle.search_layer.proofs.CountLemmas.{kept_leads_below}
-use Rattle.search_layer.specs.Laws.{start_stage}
+use Rattle.search_layer.proofs.RowLemmas.{kept_leads_below}
+use Rattle.search_layer.specs.ChangeStages.{start_stage}
 use Rattle.search_layer.proofs.RowLemmas.{even_are_same}
-use Rattle.search_layer.proofs.ChangeLaw.{change_begins, change_ends}
+use Rattle.search_layer.proofs.StageLemmas.{change_begins, change_ends}
+use Rattle.search_layer.proofs.BesideLemmas.{rest_stays}
+use Rattle.search_layer.proofs.RootLemmas.{root_begins}
 use Rattle.layer_map.proofs.FewLemmas.{few_apart}
 use Rattle.layer_map.proofs.KeyLemmas.{words_told}
 use Rattle.updater_law.specs.Covers.{set_at}
@@ -35,10 +36,10 @@ use Rattle.updater_law.proofs.Crash.{keys_lead_apart}
 use Rattle.updater_row_law.specs.Columns.{RowTerms, Ghosts, line_count, line_word, line_field, node_field, volatile_field, terms_of, facts_in}
 use Rattle.updater_row_law.specs.RowStages.{RowLine, RowTarget, line_read, entry_of, are_same, word_at, aim_of, RowStage, Resting, Between, Reads, Lands, HasTarget, Changes, Stamps, Clears, Sweeps, Gone, HasStamp, IsUnworn, Frees, Counts, after_line, after_node, after_change, turn_stage}
 use Rattle.updater_row_law.specs.RowSteps.{lock_at, line_at, volatile_at, version_at, RowStep, takes_lock, finds_held, passes, sees, reads, has_read, walks, is_turned_back, finds, loses, decides, changes, has_changed, stamps, empties, passes_node, sees_gone, passes_stamp, sees_stamp, passes_worn, sees_unworn, unstamps, frees, counts, leaves_lock}
-use Rattle.updater_row_law.specs.RowLaw.{AreDurable, HasLoaded, IsTargetFor, SureRow, RowLawful, RowStepKeeps}
+use Rattle.updater_row_law.specs.RowLaw.{LayerRests, HasLoaded, IsTargetFor, SureRow, RowLawful, RowStepKeeps}
 use Rattle.updater_row_law.proofs.RowColumns.{column-here, column_fits}
 use Rattle.updater_row_law.proofs.RowStores.{Beside, lock_stored, stamp_stored, status_stored, line_emptied, layer_facts}
-use Rattle.updater_row_law.proofs.RowChanges.{changed_row, word_within, made_here}
+use Rattle.updater_row_law.proofs.RowChanges.{change_kept, changed_row, made_here}
 
 -- with other facts
 moved_facts : (c : TurnTerms) (f f' : TurnFacts) (s : TurnStage) → f' ≡ f → TurnLawful c f s → TurnLawful c f' s
@@ -86,11 +87,21 @@ loaded_at r words j offset x seen is told k lt = elim (cases_eq k offset) [
   | inr ne ↦ is.same k (omega (arith, ne)) ∙ sym (get_or-set_other seen offset k x 0 ne)
 ]
 
-loaded_more : (r : RowTerms) (words : List ℕ) (j offset x : ℕ) (seen : List ℕ) → HasLoaded r words j offset seen → offset < 6 → line_field r.layout words Cached offset j ≡ x → HasLoaded r words j (suc offset) (slice_set seen offset x)
-loaded_more r words j offset x seen is small told = record {
+-- the first word of the anchor isn't 0, once it is read
+name_stays : (r : RowTerms) (words : List ℕ) (j offset x : ℕ) (seen : List ℕ) → HasLoaded r words j offset seen → 3 < suc offset → (offset ≡ 3 → x ≢ 0) → slice_index (slice_set seen offset x) 3 ≢ 0
+name_stays r words j offset x seen is past named = elim (cases_eq offset 3) [
+  | inl third ↦ λ none.
+      let fits : offset < length seen = (let most = is.most in let size = is.size in omega arith) in
+      named third (sym (get_or-set_same seen offset x 0 fits) ∙ ap (slice_index (slice_set seen offset x)) third ∙ none)
+  | inr other ↦ λ none. is.named (omega (arith, other)) (sym (get_or-set_other seen offset 3 x 0 (λ e. other (sym e))) ∙ none)
+]
+
+loaded_more : (r : RowTerms) (words : List ℕ) (j offset x : ℕ) (seen : List ℕ) → HasLoaded r words j offset seen → offset < 6 → line_field r.layout words Cached offset j ≡ x → (offset ≡ 3 → x ≢ 0) → HasLoaded r words j (suc offset) (slice_set seen offset x)
+loaded_more r words j offset x seen is small told named = record {
   size = length-set seen offset x ∙ is.size;
   most = omega arith;
   same = λ k lt. loaded_at r words j offset x seen is told k lt;
+  named = λ past. name_stays r words j offset x seen is past named;
 }
 
 module _ (r : RowTerms) (ghosts : Ghosts) (words : List ℕ) where
@@ -109,11 +120,11 @@ module _ (r : RowTerms) (ghosts : Ghosts) (words : List ℕ) where
 
   -- a step that changes no fact
   look : (s t : RowStage) → RowLawful r ghosts words s → SureRow r ghosts words t → TurnStep c f (turn_stage s) f (turn_stage t) → RowLawful r ghosts words t
-  look s t is sure step = record { order = is.order; sure = sure; law = turn_keeps c f f (turn_stage s) (turn_stage t) is.law step }
+  look s t is sure step = record { order = is.order; rooted = is.rooted; sure = sure; law = turn_keeps c f f (turn_stage s) (turn_stage t) is.law step }
 
   -- one of which the law of turns sees nothing
   still : (s t : RowStage) → RowLawful r ghosts words s → SureRow r ghosts words t → turn_stage s ≡ turn_stage t → RowLawful r ghosts words t
-  still s t is sure same = record { order = is.order; sure = sure; law = subst (λ (g : TurnStage). TurnLawful c f g) same is.law }
+  still s t is sure same = record { order = is.order; rooted = is.rooted; sure = sure; law = subst (λ (g : TurnStage). TurnLawful c f g) same is.law }
 
   line_told : (j o x : ℕ) → j < line_count l → x ≡ got l words (Load (line_at l j o)) → line_field l words Cached o j ≡ x
   line_told j o x lt told = column-here l words (line_count l) (λ i. Cached (line_word o i)) j lt ∙ sym told
@@ -138,12 +149,12 @@ node_done r ghosts words n is = elim (nat_lt (n + 1) r.layout.nodes) as (λ b. n
 ] refl
 
 -- a store beside the layer
-by_store : (r : RowTerms) (ghosts : Ghosts) (words words' : List ℕ) (after : TurnFacts) → Beside r ghosts words words' after → (s t : RowStage) → IsInOrder r.layout words → AreDurable r words
-    → (AreDurable r words' → SureRow r ghosts words' t) → TurnLawful (terms_of r) after (turn_stage t) → RowLawful r ghosts words' t
-by_store r ghosts words words' after same s t order even sure law = record {
-  order = subst (λ (w : LayerWords). IsKept r.layout w) (sym same.same.cached) order;
-  sure = sure (subst (λ (w : LayerWords). AreEven w (layer_words r.layout words' Durable)) (sym same.same.cached)
-      (subst (λ (d : LayerWords). AreEven (layer_words r.layout words Cached) d) (sym same.same.durable) even));
+by_store : (r : RowTerms) (ghosts : Ghosts) (words words' : List ℕ) (after : TurnFacts) → Beside r ghosts words words' after → (s t : RowStage) → RowLawful r ghosts words s → LayerRests r words
+    → (LayerRests r words' → SureRow r ghosts words' t) → TurnLawful (terms_of r) after (turn_stage t) → RowLawful r ghosts words' t
+by_store r ghosts words words' after same s t is even sure law = record {
+  order = subst (λ (w : LayerWords). IsKept r.layout w) (sym same.same.cached) is.order;
+  rooted = subst (λ (w : LayerWords). kept r.layout w 0 ≢ None) (sym same.same.cached) is.rooted;
+  sure = sure (rest_stays r.layout words words' same.same even);
   law = moved_facts (terms_of r) after (facts_in r ghosts words') (turn_stage t) same.facts law;
 }
 
@@ -161,27 +172,30 @@ key_read r words j seen row same = record { whole = refl; fits = fits }
     fits (suc (suc (suc k))) = omega arith
 
 -- one word more of a line that is read
-read_more : (r : RowTerms) (ghosts : Ghosts) (words : List ℕ) (j offset x : ℕ) (seen : List ℕ) → 1 ≤ offset → offset < 6 → line_field r.layout words Cached offset j ≡ x
+read_more : (r : RowTerms) (ghosts : Ghosts) (words : List ℕ) (j offset x : ℕ) (seen : List ℕ) → 1 ≤ offset → offset < 6 → line_field r.layout words Cached offset j ≡ x → (offset ≡ 3 → x ≢ 0)
     → RowLawful r ghosts words (Reads j offset seen) → RowLawful r ghosts words (Reads j (suc offset) (slice_set seen offset x))
-read_more r ghosts words j zero x seen some small told is = absurd (omega arith)
-read_more r ghosts words j (suc zero) x seen some small told is =
-    let more = loaded_more r words j 1 x seen is.sure.0 small told in
+read_more r ghosts words j zero x seen some small told named is = absurd (omega arith)
+read_more r ghosts words j (suc zero) x seen some small told named is =
+    let more = loaded_more r words j 1 x seen is.sure.0 small told named in
     look r ghosts words (Reads j 1 seen) (Reads j 2 (slice_set seen 1 x)) is (more, is.sure.1)
     (subst (λ k. TurnStep (terms_of r) (facts_in r ghosts words) (turns.Sees j) (facts_in r ghosts words) (turns.SeesKind j k)) (more.same 1 (omega arith)) (steps.sees_kind j))
-read_more r ghosts words j (suc (suc zero)) x seen some small told is =
-    let more = loaded_more r words j 2 x seen is.sure.0 small told in
+read_more r ghosts words j (suc (suc zero)) x seen some small told named is =
+    let more = loaded_more r words j 2 x seen is.sure.0 small told named in
     let kind : slice_index seen 1 ≡ slice_index (slice_set seen 2 x) 1 = sym (is.sure.0.same 1 (omega arith)) ∙ more.same 1 (omega arith) in
     look r ghosts words (Reads j 2 seen) (Reads j 3 (slice_set seen 2 x)) is (more, is.sure.1)
     (subst (λ k. TurnStep (terms_of r) (facts_in r ghosts words) (turns.SeesKind j (slice_index seen 1)) (facts_in r ghosts words) (turns.SeesNode j k (slice_index (slice_set seen 2 x) 2))) kind
     (subst (λ k. TurnStep (terms_of r) (facts_in r ghosts words) (turns.SeesKind j (slice_index seen 1)) (facts_in r ghosts words) (turns.SeesNode j (slice_index seen 1) k)) (more.same 2 (omega arith))
     (steps.sees_node j (slice_index seen 1))))
-read_more r ghosts words j (suc (suc (suc k))) x seen some small told is =
+read_more r ghosts words j (suc (suc (suc k))) x seen some small told named is =
     let offset : ℕ = suc (suc (suc k)) in
-    let more = loaded_more r words j offset x seen is.sure.0 small told in
+    let more = loaded_more r words j offset x seen is.sure.0 small told named in
     let kind : slice_index seen 1 ≡ slice_index (slice_set seen offset x) 1 = sym (is.sure.0.same 1 (omega arith)) ∙ more.same 1 (omega arith) in
     let node : slice_index seen 2 ≡ slice_index (slice_set seen offset x) 2 = sym (is.sure.0.same 2 (omega arith)) ∙ more.same 2 (omega arith) in
     still r ghosts words (Reads j offset seen) (Reads j (suc offset) (slice_set seen offset x)) is (more, is.sure.1)
     (ap (λ a. turns.SeesNode j a (slice_index seen 2)) kind ∙ ap (λ a. turns.SeesNode j (slice_index (slice_set seen offset x) 1) a) node)
+
+first_zero : (a b d : ℕ) → key_of a b d ≡ 0 → a ≡ 0
+first_zero a b d none = omega arith
 
 -- the line is read
 all_read : (r : RowTerms) (ghosts : Ghosts) (words : List ℕ) (row : IsRow r.layout words) (j x : ℕ) (seen : List ℕ) → line_field r.layout words Cached 6 j ≡ x
@@ -196,9 +210,11 @@ all_read r ghosts words row j x seen told is =
     ap (λ a. key_of a (line_field r.layout words Cached 4 j) (line_field r.layout words Cached 5 j)) (same 3 (omega arith))
     ∙ ap (λ a. key_of (slice_index after 3) a (line_field r.layout words Cached 5 j)) (same 4 (omega arith))
     ∙ ap (λ a. key_of (slice_index after 3) (slice_index after 4) a) (same 5 (omega arith)) in
+    let named : slice_index after 3 ≢ 0 = name_stays r words j 6 x seen is.sure.0 (omega arith) (λ e. absurd (omega arith)) in
+    let anchor_some : key_number (line_read j after).anchor ≢ 0 = λ none. named (first_zero (slice_index after 3) (slice_index after 4) (slice_index after 5) none) in
     let stage : turns.Lands (record { line = j; kind = slice_index seen 1; node = slice_index seen 2; anchor = f.line.anchor j }) ≡ turns.Lands (entry_of (line_read j after)) =
     λ i. turns.Lands (record { line = j; kind = kind i; node = node i; anchor = anchor i }) in
-    look r ghosts words (Reads j 6 seen) (Lands (line_read j after)) is (key_read r words j after row same, is.sure.1)
+    look r ghosts words (Reads j 6 seen) (Lands (line_read j after)) is (record { key = key_read r words j after row same; some = anchor_some }, is.sure.1)
     (subst (λ (s : TurnStage). TurnStep (terms_of r) f (turns.SeesNode j (slice_index seen 1) (slice_index seen 2)) f s) stage (steps.sees_anchor j (slice_index seen 1) (slice_index seen 2)))
 
 -- at the second load of the version, what the list has at the anchor is known
@@ -218,16 +234,19 @@ known r ghosts words row e target is version =
     ∙ ap (λ a. key_of (slice_index target.low 0) (slice_index target.low 1) a) (low 2 (omega arith)) in
     let low_fits : (k : ℕ) → k < 3 → slice_index target.low k < 2 ^ 64 = λ k lt. subst (λ x. x < 2 ^ 64) (low k lt) (column_fits l words l.nodes (λ m. Cached (Node m (3 + k))) target.node row.fits) in
     let tests : are_same target.low e.anchor ≡ (f.anchor target.node == key_number e.anchor) =
-    numbers_same target.low e.anchor low_fits (λ k lt. is.sure.0.fits k) ∙ ap (λ a. a == key_number e.anchor) (sym anchor) in
+    numbers_same target.low e.anchor low_fits (λ k lt. is.sure.0.key.fits k) ∙ ap (λ a. a == key_number e.anchor) (sym anchor) in
     let held : f.held target.node ≡ false = ap (λ v. not (is_free_word v r.generation)) version ∙ ap not sighted.free in
     let found : cond (f.anchor target.node == key_number e.anchor) (Some target.node) None ≡ node_of word =
     ap (λ b. cond b (Some target.node) None) (sym tests) ∙ sym (word_leads (are_same target.low e.anchor) target.node) in
     let step = subst (λ k. TurnStep (terms_of r) f (turns.Lands (entry_of e)) f (turns.Changes (entry_of e) k)) found (steps.decides (entry_of e) target.node (promise.stands version) held sighted.within) in
     let layer : Layer = layer_of l words in
-    let begun = change_begins l layer (aim_of e word) (layer_words l words Cached) (layer_words l words Durable) is.order even (λ k. refl) in
+    let begun = change_begins l layer (aim_of e word) words row is.sure.0.key is.order even.even even.tells (λ k. refl) in
     look r ghosts words (HasTarget e target) (Changes e word (start_stage l (aim_of e word))) is (record {
       before = layer;
       few = few_apart l.nodes layer (kept_leads_below l (layer_words l words Cached) is.order) (keys_lead_apart (terms_of r) f (turns.Lands (entry_of e)) is.law);
+      rooted = is.rooted;
+      zero = λ unset. is.sure.0.some;
+      holds = root_begins l (aim_of e word) words;
       sure = begun.0;
       layer = begun.1;
     }) step
@@ -247,11 +266,11 @@ module _ (r : RowTerms) (ghosts : Ghosts) (words : List ℕ) (row : IsRow r.layo
   change_goes : RowLawful r ghosts after (Changes e word t)
   change_goes =
       let f : TurnFacts = facts_in r ghosts words in
-      let fits = word_within r ghosts words e word is.law.sure in
-      let keeps = change_step_keeps r.layout (aim_of e word) is.sure.before words s a t row.whole is.order fits (λ some_word. is.sure.few) is.sure.sure is.sure.layer step in
-      let changed = changed_row r words e word s t a is.sure fits keeps in
+      let keeps = change_kept r words e word s t a row is.sure step in
+      let changed = changed_row r words e word s t a row is.sure step keeps in
       record {
         order = keeps.row;
+        rooted = changed.rooted;
         sure = changed.changing;
         law = moved_facts (terms_of r) (record f { layer = layer'; safe_layer = safe' }) (facts_in r ghosts after) (turns.Changes (entry_of e) (node_of word))
             (layer_facts r ghosts words after keeps.others)
@@ -269,24 +288,26 @@ module _ (r : RowTerms) (ghosts : Ghosts) (words : List ℕ) (row : IsRow r.layo
       let f : TurnFacts = facts_in r ghosts words in
       let layer : Layer = layer_of r.layout ended in
       let safe : Layer = kept r.layout (layer_words r.layout ended Durable) in
-      let fits = word_within r ghosts words e word is.law.sure in
-      let keeps = change_step_keeps r.layout (aim_of e word) is.sure.before words s a Changed row.whole is.order fits (λ some_word. is.sure.few) is.sure.sure is.sure.layer step in
-      let changed = changed_row r words e word s Changed a is.sure fits keeps in
-      let ends = change_ends r.layout is.sure.before (aim_of e word) (layer_words r.layout ended Cached) (layer_words r.layout ended Durable) keeps.sure keeps.layer in
-      let leads : layer (key_number e.anchor) ≡ node_of word = ends.1 (key_number e.anchor) ∙ made_here is.sure.before (key_number e.anchor) (node_of word) in
-      let durable : AreSame safe layer = λ k. ap (λ (w : LayerWords). kept r.layout w k) (even_are_same (layer_words r.layout ended Cached) (layer_words r.layout ended Durable) ends.0) in
+      let keeps = change_kept r words e word s Changed a row is.sure step in
+      let changed = changed_row r words e word s Changed a row is.sure step keeps in
+      let ends = change_ends r.layout is.sure.before (aim_of e word) (layer_words r.layout ended Cached) (layer_words r.layout ended Durable) (layer_marks r.layout ended) keeps.sure in
+      let rests : LayerRests r ended = record { lawful = ends.order; even = ends.even; tells = ends.tells } in
+      let leads : layer (key_number e.anchor) ≡ node_of word = ends.layer (key_number e.anchor) ∙ made_here is.sure.before (key_number e.anchor) (node_of word) in
+      let durable : AreSame safe layer = λ k. ap (λ (w : LayerWords). kept r.layout w k) (even_are_same (layer_words r.layout ended Cached) (layer_words r.layout ended Durable) ends.even) in
       let path = layer_facts r ghosts words ended keeps.others in
       elim (e.kind == merge_kind) as (λ b. (e.kind == merge_kind) ≡ b → RowLawful r ghosts ended (cond b (Stamps e) (Clears e.line))) [
         | true ↦ λ merge. record {
           order = keeps.row;
-          sure = ends.0;
+          rooted = changed.rooted;
+          sure = rests;
           law = moved_facts (terms_of r) (record f { layer = layer; safe_layer = safe }) (facts_in r ghosts ended) (turns.Stamps (entry_of e)) path
               (turn_keeps (terms_of r) f (record f { layer = layer; safe_layer = safe }) (turns.Changes (entry_of e) (node_of word)) (turns.Stamps (entry_of e)) is.law
               (steps.has_changed_merge (entry_of e) (node_of word) layer safe changed.differs.others leads durable (eqb-true e.kind merge_kind merge)));
         }
         | false ↦ λ split. record {
           order = keeps.row;
-          sure = ends.0;
+          rooted = changed.rooted;
+          sure = rests;
           law = moved_facts (terms_of r) (record f { layer = layer; safe_layer = safe }) (facts_in r ghosts ended) (turns.Clears e.line) path
               (turn_keeps (terms_of r) f (record f { layer = layer; safe_layer = safe }) (turns.Changes (entry_of e) (node_of word)) (turns.Clears e.line) is.law
               (steps.has_changed_split (entry_of e) (node_of word) layer safe changed.differs.others leads durable (eqb-false e.kind merge_kind split)));
@@ -319,23 +340,23 @@ module _ (r : RowTerms) (ghosts : Ghosts) (words : List ℕ) (row : IsRow r.layo
   abbrev put_at : Location → ℕ → List ℕ
   put_at p y = slice_set words (address_of r.layout p) y
 
-  lock_keeps : (y : ℕ) (s t : RowStage) → RowLawful r ghosts words s → AreDurable r words → (AreDurable r (put_at Updater y) → SureRow r ghosts (put_at Updater y) t) → TurnLawful k g (turn_stage t) → RowLawful r ghosts (put_at Updater y) t
-  lock_keeps y s t is even sure law = by_store r ghosts words (put_at Updater y) g (lock_stored r ghosts words y) s t is.order even sure law
+  lock_keeps : (y : ℕ) (s t : RowStage) → RowLawful r ghosts words s → LayerRests r words → (LayerRests r (put_at Updater y) → SureRow r ghosts (put_at Updater y) t) → TurnLawful k g (turn_stage t) → RowLawful r ghosts (put_at Updater y) t
+  lock_keeps y s t is even sure law = by_store r ghosts words (put_at Updater y) g (lock_stored r ghosts words y) s t is even sure law
 
   stamp_keeps : (e : RowLine) → e.node < r.layout.nodes → RowLawful r ghosts words (Stamps e) → RowLawful r ghosts (put_at (Volatile e.node 2) r.stamp) (Clears e.line)
-  stamp_keeps e lt is = by_store r ghosts words (put_at (Volatile e.node 2) r.stamp) (record g { stamp = set_at g.stamp e.node r.stamp }) (stamp_stored r ghosts words e.node r.stamp row.whole lt) (Stamps e) (Clears e.line) is.order is.sure (λ even. even)
+  stamp_keeps e lt is = by_store r ghosts words (put_at (Volatile e.node 2) r.stamp) (record g { stamp = set_at g.stamp e.node r.stamp }) (stamp_stored r ghosts words e.node r.stamp row.whole lt) (Stamps e) (Clears e.line) is is.sure (λ even. even)
       (turn_keeps k g (record g { stamp = set_at g.stamp e.node r.stamp }) (turns.Stamps (entry_of e)) (turns.Clears e.line) is.law (steps.stamps (entry_of e)))
 
   empty_keeps : (j : ℕ) → j < line_count r.layout → RowLawful r ghosts words (Clears j) → RowLawful r ghosts (put_at (Cached (line_word 0 j)) 0) (Between (suc j))
-  empty_keeps j lt is = by_store r ghosts words (put_at (Cached (line_word 0 j)) 0) (emptied g j) (line_emptied r ghosts words j row.whole lt) (Clears j) (Between (suc j)) is.order is.sure (λ even. even)
+  empty_keeps j lt is = by_store r ghosts words (put_at (Cached (line_word 0 j)) 0) (emptied g j) (line_emptied r ghosts words j row.whole lt) (Clears j) (Between (suc j)) is is.sure (λ even. even)
       (turn_keeps k g (emptied g j) (turns.Clears j) (turns.Between (suc j)) is.law (steps.empties j))
 
   unstamp_keeps : (n : ℕ) → n < r.layout.nodes → RowLawful r ghosts words (IsUnworn n) → RowLawful r ghosts (put_at (Volatile n 2) 0) (Frees n)
-  unstamp_keeps n lt is = by_store r ghosts words (put_at (Volatile n 2) 0) (record g { stamp = set_at g.stamp n 0 }) (stamp_stored r ghosts words n 0 row.whole lt) (IsUnworn n) (Frees n) is.order is.sure (λ even. even)
+  unstamp_keeps n lt is = by_store r ghosts words (put_at (Volatile n 2) 0) (record g { stamp = set_at g.stamp n 0 }) (stamp_stored r ghosts words n 0 row.whole lt) (IsUnworn n) (Frees n) is is.sure (λ even. even)
       (turn_keeps k g (record g { stamp = set_at g.stamp n 0 }) (turns.IsUnworn n) (turns.Frees n) is.law (steps.unstamps n))
 
   free_keeps : (n : ℕ) → n < r.layout.nodes → RowLawful r ghosts words (Frees n) → RowLawful r ghosts (put_at (Volatile n 0) 0) (Sweeps (suc n))
-  free_keeps n lt is = by_store r ghosts words (put_at (Volatile n 0) 0) (record g { status = set_at g.status n 0 }) (status_stored r ghosts words n 0 row.whole lt) (Frees n) (Sweeps (suc n)) is.order is.sure (λ even. even)
+  free_keeps n lt is = by_store r ghosts words (put_at (Volatile n 0) 0) (record g { status = set_at g.status n 0 }) (status_stored r ghosts words n 0 row.whole lt) (Frees n) (Sweeps (suc n)) is is.sure (λ even. even)
       (turn_keeps k g (record g { status = set_at g.status n 0 }) (turns.Frees n) (turns.Sweeps (suc n)) is.law (steps.frees n))
 
 kind_keeps : (r : RowTerms) (ghosts : Ghosts) (words : List ℕ) (row : IsRow r.layout words) {s : RowStage} {a : Action} {x : ℕ} {t : RowStage} → RowStep r s a x t → x ≡ got r.layout words a → RowLawful r ghosts words s
@@ -355,14 +376,15 @@ kind_keeps r ghosts words row (sees {j = j} {x = x} seen here ready size) told i
       record {
         size = length-set seen 0 x ∙ size;
         most = omega arith;
+        named = λ past. absurd (let no : 3 < 1 = past in omega arith);
         same = λ k lt. let zero_k : k ≡ 0 = omega arith in
             subst (λ o. line_field r.layout words Cached o j ≡ slice_index (slice_set seen 0 x) o) (sym zero_k) (state ∙ sym (get_or-set_same seen 0 x 0 (omega arith)));
       },
       is.sure,
     ) (steps.sees j (state ∙ ready)))
-kind_keeps r ghosts words row (reads {j = j} {offset = offset} {x = x} {seen = seen} here some small) told is walked =
+kind_keeps r ghosts words row (reads {j = j} {offset = offset} {x = x} {seen = seen} here some small named) told is walked =
     by_load r ghosts words (line_at r.layout j offset) (Reads j (offset + 1) (slice_set seen offset x))
-    (subst (λ k. RowLawful r ghosts words (Reads j k (slice_set seen offset x))) (omega arith) (read_more r ghosts words j offset x seen some small (line_told r ghosts words j offset x here told) is))
+    (subst (λ k. RowLawful r ghosts words (Reads j k (slice_set seen offset x))) (omega arith) (read_more r ghosts words j offset x seen some small (line_told r ghosts words j offset x here told) named is))
 kind_keeps r ghosts words row (has_read {j = j} {x = x} {seen = seen} here) told is walked =
     by_load r ghosts words (line_at r.layout j 6) (Lands (line_read j (slice_set seen 6 x))) (all_read r ghosts words row j x seen (line_told r ghosts words j 6 x here told) is)
 kind_keeps r ghosts words row (walks {e = e} {address = address} here) told is walked = by_load r ghosts words address (Lands e) is

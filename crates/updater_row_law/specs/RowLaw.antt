@@ -1,15 +1,16 @@
 -- What holds of a row of words and of a turn between its steps, and that its steps keep it.
-use Rattle.std.specs.Prelude.{◌≡◌, ℕ, ◌+◌, ◌^◌, ◌<◌, true, List, length, slice_index}
+use Rattle.std.specs.Prelude.{◌≡◌, ◌≢◌, ℕ, ◌+◌, ◌^◌, ◌<◌, true, List, length, slice_index, None}
 use Rattle.pm_words.specs.declared.action.Action.{Action}
 use Rattle.pm_words.specs.Locations.{Cached, Durable, image_words}
 use Rattle.pm_words.specs.Rows.{IsRow, CanAct, acted, got, evicted}
 use Rattle.version_lock.specs.Versions.{is_free_word}
 use Rattle.layer_map.specs.Layers.{Layer, HasFew}
 use Rattle.layer_map.specs.Keys.{IsKey, key_number}
-use Rattle.search_layer.specs.Rows.{layer_words, AreEven}
-use Rattle.search_layer.specs.Kept.{layer_of, IsInOrder, kept, IsKept}
+use Rattle.search_layer.specs.Rows.{layer_words}
+use Rattle.search_layer.specs.Kept.{layer_of, IsInOrder, kept, IsKept, IsAtRest}
 use Rattle.search_layer.specs.ChangeStages.{Changing, LayerAt}
-use Rattle.search_layer.specs.Laws.{SureIn}
+use Rattle.search_layer.specs.Laws.{SureIn, KeepsZero}
+use Rattle.search_layer.specs.RootLine.{HoldsRoot}
 use Rattle.updater_law.specs.Covered.{IsTarget}
 use Rattle.updater_law.specs.Facts.{IsListed}
 use Rattle.updater_law.specs.Lawful.{TurnLawful}
@@ -18,15 +19,21 @@ use Rattle.updater_row_law.specs.RowStages.{RowLine, RowTarget, aim_of, RowStage
 use Rattle.updater_row_law.specs.RowStages.{turn_stage}
 use Rattle.updater_row_law.specs.RowSteps.{RowStep}
 
--- all words of the layer are durable
-abbrev pub AreDurable : RowTerms → List ℕ → Type 0
-AreDurable r words = AreEven (layer_words r.layout words Cached) (layer_words r.layout words Durable)
+-- no change of the layer is under way: its words are in order and durable, and its marks tell what is in use
+abbrev pub LayerRests : RowTerms → List ℕ → Type 0
+LayerRests r words = IsAtRest r.layout words
 
--- the first so many words of the line are these
+-- the first so many words of the line are these, and the first of its anchor isn't 0
 pub record HasLoaded (r : RowTerms) (words : List ℕ) (j offset : ℕ) (seen : List ℕ) : Type 0 where
   pub size : length seen ≡ 7
   pub most : offset < 7
   pub same : (k : ℕ) → k < offset → line_field r.layout words Cached k j ≡ slice_index seen k
+  pub named : 3 < offset → slice_index seen 3 ≢ 0
+
+-- an anchor of a line is a key, but not the zero key
+pub record IsAnchor (words : List ℕ) : Type 0 where
+  pub key : IsKey words
+  pub some : key_number words ≢ 0
 
 -- What a walk promises of its target, as long as its version word stands: the key belongs there, and these are the
 -- words of its anchor.
@@ -42,25 +49,30 @@ pub record IsSighted (r : RowTerms) (target : RowTarget) : Type 0 where
   pub within : target.node < r.layout.nodes
   pub free : is_free_word target.version r.generation ≡ true
 
--- what a change of the layer knows, which began on the layer `before`
+-- What a change of the layer knows, which began on the layer `before`: that had few keys, the zero key among them, which
+-- is not taken out, and what a fence of the root's line has in hand is as it is cached.
 pub record IsChanging (r : RowTerms) (words : List ℕ) (e : RowLine) (word : ℕ) (s : Changing) : Type 0 where
   pub before : Layer
   pub few : HasFew r.layout.nodes before
+  pub rooted : before 0 ≢ None
+  pub zero : KeepsZero (aim_of e word)
+  pub holds : HoldsRoot r.layout s words
   pub sure : SureIn r.layout before (aim_of e word) s words
   pub layer : LayerAt (aim_of e word) before s (layer_of r.layout words)
 
 -- what a stage knows of the row, beyond what the law of turns says
 abbrev pub SureRow : RowTerms → Ghosts → List ℕ → RowStage → Type 0
-SureRow r ghosts words (Reads j offset seen) = HasLoaded r words j offset seen × AreDurable r words
-SureRow r ghosts words (Lands e) = IsKey e.anchor × AreDurable r words
+SureRow r ghosts words (Reads j offset seen) = HasLoaded r words j offset seen × LayerRests r words
+SureRow r ghosts words (Lands e) = IsAnchor e.anchor × LayerRests r words
 SureRow r ghosts words (HasTarget e target) =
-    IsKey e.anchor × IsSighted r target × IsTargetFor r ghosts words e.anchor target × AreDurable r words
+    IsAnchor e.anchor × IsSighted r target × IsTargetFor r ghosts words e.anchor target × LayerRests r words
 SureRow r ghosts words (Changes e word s) = IsChanging r words e word s
-SureRow r ghosts words _ = AreDurable r words
+SureRow r ghosts words _ = LayerRests r words
 
--- the layer is in order, the stage is right, and what is read off the row is lawful
+-- the layer is in order and leads the zero key somewhere, the stage is right, and what is read off the row is lawful
 pub record RowLawful (r : RowTerms) (ghosts : Ghosts) (words : List ℕ) (s : RowStage) : Type 0 where
   pub order : IsInOrder r.layout words
+  pub rooted : layer_of r.layout words 0 ≢ None
   pub sure : SureRow r ghosts words s
   pub law : TurnLawful (terms_of r) (facts_in r ghosts words) (turn_stage s)
 

@@ -9,7 +9,7 @@ use Rattle.pm_words.specs.Locations.{Cached, Volatile, Updater, Node, address_of
 use Rattle.pm_words.specs.Offsets.{version_offset}
 use Rattle.version_lock.specs.Versions.{is_free_word, is_worn_word}
 use Rattle.search_layer.specs.ChangeStages.{Changing, Changed, ChangeStep}
-use Rattle.search_layer.specs.Laws.{start_stage}
+use Rattle.search_layer.specs.ChangeStages.{start_stage}
 use Rattle.updater_row_law.specs.Columns.{RowTerms, line_count, line_word}
 use Rattle.updater_row_law.specs.RowStages.{RowLine, RowTarget, line_read, word_at, aim_of, RowStage, Resting}
 use Rattle.updater_row_law.specs.RowStages.{Between, Reads, Lands, HasTarget, Changes, Stamps, Clears, Sweeps, Gone}
@@ -39,8 +39,9 @@ pub data RowStep (r : RowTerms) : RowStage → Action → ℕ → RowStage → T
       RowStep r (Between j) (Load (line_at r.layout j 0)) x (after_line r j)
   sees : {j x : ℕ} (seen : List ℕ) → j < line_count r.layout → x ≡ ready_state → length seen ≡ 7 →
       RowStep r (Between j) (Load (line_at r.layout j 0)) x (Reads j 1 (slice_set seen 0 x))
-  -- it loads a further word of the line, and the last
+  -- it loads a further word of the line, and the last; the first word of its anchor isn't 0
   reads : {j offset x : ℕ} {seen : List ℕ} → j < line_count r.layout → 1 ≤ offset → offset < 6 →
+      (offset ≡ 3 → x ≢ 0) →
       RowStep r (Reads j offset seen) (Load (line_at r.layout j offset)) x
       (Reads j (offset + 1) (slice_set seen offset x))
   has_read : {j x : ℕ} {seen : List ℕ} → j < line_count r.layout →

@@ -1,37 +1,29 @@
-use Rattle.std.proofs.Common.{◌≡◌, ◌∙◌, sym, refl, true, false, arith}
-use Rattle.std.specs.Prelude.{IsTrue}
+use Rattle.std.proofs.Common.{ap, sym, subst, refl, ◌∙◌, arith}
+use Rattle.std.proofs.lemmas.Bool.{false≢true}
 use Rattle.image_rules.proofs.ListRules.{lead_within}
-use Rattle.image_layer_rules.specs.Checks.{IsStray, IsMissed}
-use Rattle.image_layer_rules.proofs.RuleLemmas.{row_if}
-use Rattle.image_layer_rules.proofs.CoverLemmas.{some_lowest, none_lowest, stray_breaks, missed_breaks, none_breaks}
+use Rattle.tree_law.specs.Words.{reference_of}
+use Rattle.image_layer_rules.specs.Covers.{IsStrayFrom}
+use Rattle.image_layer_rules.proofs.CountLemmas.{root_right}
+use Rattle.image_layer_rules.proofs.RightLemmas.{rule_on_tree}
+use Rattle.image_layer_rules.proofs.CoverLemmas.{stray_breaks, uncovered_told}
 use Rattle.image_layer_rules.proofs.cover.is_uncovered.Goals as goal
 
 pub listed_nodes-listed-requires : goal.listed_nodes-listed-requires
 listed_nodes-listed-requires c = lead_within c.args.image.now.layout c.args.image.now.words 4 (omega arith) (λ rule position w _. c.requires.sound rule position w)
 
-pub stray_leaf-requires-clause-within : goal.stray_leaf-requires-clause-within
-stray_leaf-requires-clause-within c = (row_if c.args.image.now.layout c.args.image.now.words c.requires.leaves).nodes
+pub is_stray_from-requires-clause-right : goal.is_stray_from-requires-clause-right
+is_stray_from-requires-clause-right c _ = root_right c.args.image.now.layout c.args.image.now.words c.requires.right c.root_of.result (ap reference_of (sym c.root_of.ensures.root))
 
-pub led_nodes-requires : goal.led_nodes-requires
-led_nodes-requires c = (row_if c.args.image.now.layout c.args.image.now.words c.requires.leaves).nodes
-
-pub returns-then-is_some : goal.returns-then-is_some
-returns-then-is_some c =
+pub returns-then-is_stray_from : goal.returns-then-is_stray_from
+returns-then-is_stray_from c =
     let l = c.args.image.now.layout in
     let image = c.args.image.now.words in
-    let found = some_lowest (IsStray l image) c.stray_leaf.result c.stray_leaf.ensures (sym c.is_some.ensures ∙ c.if-is_some.true) in
-    (λ _. stray_breaks l image c.requires.leaves found.0 found.1, λ _. c.if-is_some.true)
+    (λ _. stray_breaks l image ((rule_on_tree l image c.root_of.ensures.image).0 c.requires.right) (subst (IsStrayFrom l image) (ap reference_of c.root_of.ensures.root) (c.is_stray_from.ensures.0 c.if-is_stray_from.true)), λ _. refl)
 
-pub returns-else-is_some : goal.returns-else-is_some
-returns-else-is_some c =
+pub returns : goal.returns
+returns c =
     let l = c.args.image.now.layout in
     let image = c.args.image.now.words in
-    let none = none_lowest (IsStray l image) c.stray_leaf.result c.stray_leaf.ensures (sym c.is_some.ensures ∙ c.if-is_some.false) in (
-      λ yes. let found = some_lowest (IsMissed l image) c.missed_node.result c.missed_node.ensures (sym c.is_some-else-is_some.ensures ∙ yes) in missed_breaks l image c.requires.leaves c.requires.sound found.0 found.1,
-      λ breaks.
-          elim c.is_some-else-is_some.result as (λ b. c.is_some-else-is_some.result ≡ b → IsTrue b) [
-            | true ↦ λ _. refl
-            | false ↦ λ no.
-                absurd (none_breaks l image c.requires.leaves none (none_lowest (IsMissed l image) c.missed_node.result c.missed_node.ensures (sym c.is_some-else-is_some.ensures ∙ no)) breaks)
-          ] refl,
-    )
+    uncovered_told l image ((rule_on_tree l image c.root_of.ensures.image).0 c.requires.right) c.requires.sound c.has_missed.result
+    (λ stray. false≢true (sym c.if-is_stray_from.false ∙ c.is_stray_from.ensures.1 (subst (IsStrayFrom l image) (ap reference_of (sym c.root_of.ensures.root)) stray)))
+    c.has_missed.ensures

@@ -1,4 +1,4 @@
-use Rattle.image_layer_rules.proofs.LeafLemmas.{crash_keeps_layer, start_caches_layer, crash_keeps_lines, start_caches_lines}
+use Rattle.image_layer_rules.proofs.LineLemmas.{crash_keeps_layer, start_caches_layer, crash_keeps_lines, start_caches_lines}
 use Rattle.image_layer_rules.proofs.laws.words_law.Goals as goal
 
 pub returns-clause-crash_layer : goal.returns-clause-crash_layer

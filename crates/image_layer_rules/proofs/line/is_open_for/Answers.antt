@@ -1,7 +1,7 @@
 use Rattle.std.proofs.Common.{◌∙◌, ◌*◌, ◌<◌, ap, sym, refl, inl, inr, arith}
 use Rattle.std.proofs.lemmas.Bool.{cases_lt, false≢true}
 use Rattle.layer_map.specs.Keys.{key_number}
-use Rattle.image_layer_rules.proofs.LeafLemmas.{line_word-here, line_word-outside, line_key-here}
+use Rattle.image_layer_rules.proofs.LineLemmas.{line_word-here, line_word-outside, line_key-here}
 use Rattle.image_layer_rules.proofs.line.is_open_for.Goals as goal
 
 pub returns-then-is_same : goal.returns-then-is_same

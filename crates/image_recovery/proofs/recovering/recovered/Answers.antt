@@ -14,7 +14,7 @@ make_all-requires g c =
     record {
       image = c.args.image;
       recoverable = recoverable;
-      under_way = begins_plan c.args.image recoverable c.in_ok-memory.memory c.in_ok-moves.moves.items c.deref.result.now is (c.in_ok-moves.ensures {u = tt}) (c.in_ok-memory.ensures {u = tt}) c.deref.ensures.value;
+      under_way = begins_plan c.args.image recoverable c.in_ok-memory.memory c.in_ok-moves.moves.items c.deref.result.now (c.in_ok-memory.ensures {u = tt}) (c.in_ok-moves.ensures {u = tt}) c.deref.ensures.value;
     }
 
 pub returns : goal.returns
@@ -22,4 +22,4 @@ returns g c =
     let is : IsImage c.args.image.layout c.args.image.words = subst (λ (r : Row). IsImage r.layout r.words) c.image.view_is c.image.invariant in
     let recoverable = is_recoverable c.args.image is c.requires.sound c.requires.next in
     c.make_all.ensures c.args.image recoverable
-    (begins_plan c.args.image recoverable c.in_ok-memory.memory c.in_ok-moves.moves.items c.deref.result.now is (c.in_ok-moves.ensures {u = tt}) (c.in_ok-memory.ensures {u = tt}) c.deref.ensures.value)
+    (begins_plan c.args.image recoverable c.in_ok-memory.memory c.in_ok-moves.moves.items c.deref.result.now (c.in_ok-memory.ensures {u = tt}) (c.in_ok-moves.ensures {u = tt}) c.deref.ensures.value)

@@ -14,8 +14,8 @@ returns c =
     record {
       recoverable = recoverable;
       recovering = c.new-recovery.ensures.recovering c.args.image c.in_ok-memory.memory
-          (begins_plan c.args.image recoverable c.in_ok-memory.memory c.in_ok-moves.moves.items c.in_ok-moves.moves.items is (c.in_ok-moves.ensures {u = tt}) (c.in_ok-memory.ensures {u = tt}) refl);
+          (begins_plan c.args.image recoverable c.in_ok-memory.memory c.in_ok-moves.moves.items c.in_ok-moves.moves.items (c.in_ok-memory.ensures {u = tt}) (c.in_ok-moves.ensures {u = tt}) refl);
       none = c.new-recovery.ensures.none.0;
       at_none = c.new-recovery.ensures.none.1;
-      untouched = c.in_ok-memory.ensures {u = tt};
+      opened = c.in_ok-memory.ensures {u = tt};
     }

@@ -1,3 +1,4 @@
+use Rattle.lone_call_law.proofs.Served.{lone_parts_are_served}
 use Rattle.lone_call_law.proofs.LoneCalls.{lone_calls_begin, lone_parts_begin, lone_calls_go, lone_calls_lose}
 use Rattle.lone_call_law.proofs.laws.lone_calls.Goals as goal
 
@@ -12,3 +13,6 @@ returns-clause-goes c = lone_calls_go
 
 pub returns-clause-loses : goal.returns-clause-loses
 returns-clause-loses c = lone_calls_lose
+
+pub returns-clause-serves : goal.returns-clause-serves
+returns-clause-serves c = lone_parts_are_served

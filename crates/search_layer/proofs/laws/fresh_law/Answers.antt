@@ -1,4 +1,4 @@
-use Rattle.search_layer.proofs.Fresh.{fresh_is_at_rest}
+use Rattle.search_layer.proofs.FreshLemmas.{fresh_is_at_rest}
 use Rattle.search_layer.proofs.laws.fresh_law.Goals as goal
 
 pub returns : goal.returns

@@ -1,4 +1,4 @@
-use Rattle.search_layer.proofs.ChangeLaw.{change_begins, change_ends, layer_is_either, mix_is_either, step_is_either}
+use Rattle.search_layer.proofs.StageLemmas.{change_begins, change_ends, layer_is_either, mix_is_either, step_is_either}
 use Rattle.search_layer.proofs.laws.stage_law.Goals as goal
 
 pub returns : goal.returns

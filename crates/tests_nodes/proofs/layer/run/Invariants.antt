@@ -1,5 +1,5 @@
 use Rattle.std.proofs.Common.{◌≡◌}
-use Rattle.search_layer.specs.ChangeSteps.{IsChange}
+use Rattle.tree_update.specs.Changes.{IsChange}
 use Rattle.tests_nodes.proofs.layer.run.Given as goal
 
 abbrev pub invariant-turns : goal.invariant-turns

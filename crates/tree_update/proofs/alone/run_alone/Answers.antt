@@ -4,7 +4,7 @@ use Rattle.pm_words.specs.declared.machine.Turn.TheVariants.{Go, Done}
 use Rattle.pm_words.specs.Rows.{CanAct, got, acted}
 use Rattle.layer_map.specs.Layers.{node_of}
 use Rattle.tree_update.proofs.Doing.{told_by, words_by, layout_by}
-use Rattle.tree_floor.specs.Keys.{number_in}
+use Rattle.layer_map.specs.Keys.{key_number}
 use Rattle.tree_update.specs.Changes.{change_asks, change_turned, change_left, change_most}
 use Rattle.tree_update.specs.Kinds.{KeepsOthers}
 use Rattle.tree_update.specs.Stages.{aim_of}
@@ -73,7 +73,7 @@ returns-in-Done-clause-changed g c =
     ap (λ (n : ℕ). change_turned change n) (sym told) ∙ sym c.resume.ensures.turned ∙ c.in-Done.is in
     let end = ends_on l before (aim_of c.args.change) c.requires.rooted c.requires.few change row.words c.in-Done.field-0 on is in
     let after = words_by l row c.act-got.new.self (change_asks change) c.action.result c.turns.invariant.layout c.action.ensures c.act-got.ensures.row in
-    subst (λ (ws : List ℕ). IsChanged l (number_in c.args.change.key) (node_of c.args.change.word) words ws) (sym after)
+    subst (λ (ws : List ℕ). IsChanged l (key_number c.args.change.key) (node_of c.args.change.word) words ws) (sym after)
     (record {
       layer = end.1;
       rest = end.2;

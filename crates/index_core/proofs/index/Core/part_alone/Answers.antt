@@ -12,7 +12,7 @@ use Rattle.index_core.proofs.Quiet.{quiet_is_still}
 use Rattle.index_core.proofs.PartTries.{part_ends, part_is_early, part_last, part_stops}
 use Rattle.index_core.proofs.Tries.{Lone, cost_at, left_at, lone_costs, lone_start, lone_flies, lone_goes}
 use Rattle.index_core.proofs.index.Core.part_alone.Goals as goal
-use Rattle.index_core.proofs.index.Core.part_alone.Goals.{In_default-turn}
+use Rattle.index_core.proofs.index.Core.part_alone.Goals.{In_default-step_call}
 
 pub unreachable-requires : goal.unreachable-requires
 unreachable-requires g c =
@@ -28,13 +28,13 @@ steps-init g c = (
 pub has_listed-requires : goal.has_listed-requires
 has_listed-requires g c = lone_flies _ _ _ _ c.steps.invariant.0
 
-pub turn-requires : goal.turn-requires
-turn-requires g c = record { flies = lone_flies _ _ _ _ c.steps.invariant.0 }
+pub step_call-requires : goal.step_call-requires
+step_call-requires g c = record { flies = lone_flies _ _ _ _ c.steps.invariant.0 }
 
 pub returns-then-has_listed : goal.returns-then-has_listed
 returns-then-has_listed g c =
-    let t = c.turn.ensures in
-    let e = part_ends c.args.self.now c.steps.self c.turn.new.self c.args.caller c.args.low c.args.count c.turn.result c.steps.invariant.0 t.turned t.index t.spare.all c.listing-words.result c.listing-words.ensures in
+    let t = c.step_call.ensures in
+    let e = part_ends c.args.self.now c.steps.self c.step_call.new.self c.args.caller c.args.low c.args.count c.step_call.result c.steps.invariant.0 t.turned t.index t.spare.all c.listing-words.result c.listing-words.ensures in
     record {
       runs = e.runs;
       quiet = e.quiet c.requires.quiet;
@@ -42,55 +42,55 @@ returns-then-has_listed g c =
       each_lock = e.each_lock;
       locks = e.locks;
       acts = omega (arith, t.tick, c.steps.invariant.1);
-      events = part_acts c.args.self.now c.args.caller c.args.low c.args.count (once.Done (words_placed c.listing-words.result)) (once.Done c.listing-words.result) c.args.steps.now c.turn.new.steps
-          (tries_within c.args.self.now (call.Part c.args.low c.args.count) (once.Done (words_placed c.listing-words.result)) c.args.steps.now c.steps.steps c.turn.new.steps (cost_at c.steps.self c.args.caller) c.steps.invariant.2 t.tick
-          (costs_end c.args.self.now c.steps.self c.turn.new.self c.args.caller (call.Part c.args.low c.args.count) c.turn.result c.steps.invariant.0 t.turned t.index t.spare.all (once.Done (words_placed c.listing-words.result))
-          (part_last c.args.self.now c.steps.self c.turn.new.self c.args.caller c.args.low c.args.count c.turn.result c.steps.invariant.0 t.turned t.index t.spare.all c.listing-words.result c.listing-words.ensures)))
+      events = part_acts c.args.self.now c.args.caller c.args.low c.args.count (once.Done (words_placed c.listing-words.result)) (once.Done c.listing-words.result) c.args.steps.now c.step_call.new.steps
+          (tries_within c.args.self.now (call.Part c.args.low c.args.count) (once.Done (words_placed c.listing-words.result)) c.args.steps.now c.steps.steps c.step_call.new.steps (cost_at c.steps.self c.args.caller) c.steps.invariant.2 t.tick
+          (costs_end c.args.self.now c.steps.self c.step_call.new.self c.args.caller (call.Part c.args.low c.args.count) c.step_call.result c.steps.invariant.0 t.turned t.index t.spare.all (once.Done (words_placed c.listing-words.result))
+          (part_last c.args.self.now c.steps.self c.step_call.new.self c.args.caller c.args.low c.args.count c.step_call.result c.steps.invariant.0 t.turned t.index t.spare.all c.listing-words.result c.listing-words.ensures)))
           (λ _. tt);
       index = t.index;
     }
 
-pub turn-requires-in-steps : goal.turn-requires-in-steps
-turn-requires-in-steps g c = record { flies = lone_flies _ _ _ _ c.steps.invariant.0 }
+pub step_call-requires-in-steps : goal.step_call-requires-in-steps
+step_call-requires-in-steps g c = record { flies = lone_flies _ _ _ _ c.steps.invariant.0 }
 
 pub early-requires : goal.early-requires
 early-requires g c =
-    let t = c.turn-in-steps.ensures in
-    part_is_early c.args.self.now c.steps.self c.turn-in-steps.new.self c.args.caller c.args.low c.args.count c.turn-in-steps.result c.steps.invariant.0 t.turned t.index t.spare.all c.in-Some.answer
+    let t = c.step_call-in-steps.ensures in
+    part_is_early c.args.self.now c.steps.self c.step_call-in-steps.new.self c.args.caller c.args.low c.args.count c.step_call-in-steps.result c.steps.invariant.0 t.turned t.index t.spare.all c.in-Some.answer
     (λ h. let yes = c.has_listed.ensures.1 h in let no = c.if-has_listed.false in cc) c.in-Some.is
 
 pub returns-in-Some : goal.returns-in-Some
 returns-in-Some g c =
-    let t = c.turn-in-steps.ensures in
-    let e = part_stops c.args.self.now c.steps.self c.turn-in-steps.new.self c.args.caller c.args.low c.args.count c.turn-in-steps.result c.steps.invariant.0 t.turned t.index t.spare.all c.in-Some.answer
+    let t = c.step_call-in-steps.ensures in
+    let e = part_stops c.args.self.now c.steps.self c.step_call-in-steps.new.self c.args.caller c.args.low c.args.count c.step_call-in-steps.result c.steps.invariant.0 t.turned t.index t.spare.all c.in-Some.answer
     (λ h. let yes = c.has_listed.ensures.1 h in let no = c.if-has_listed.false in cc) c.in-Some.is in
     record {
-      runs = subst (λ (r : Once PartWords). RunsAlone c.args.self.now c.args.caller (call.Part c.args.low c.args.count) c.turn-in-steps.new.self (part_whole r)) (sym c.early.ensures) e.runs;
+      runs = subst (λ (r : Once PartWords). RunsAlone c.args.self.now c.args.caller (call.Part c.args.low c.args.count) c.step_call-in-steps.new.self (part_whole r)) (sym c.early.ensures) e.runs;
       quiet = e.quiet c.requires.quiet;
       spare = e.spare;
       each_lock = e.each_lock;
       locks = e.locks;
       acts = omega (arith, t.tick, c.steps.invariant.1);
-      events = subst (λ (r : Once PartWords). ActsWithin c.args.self.now c.args.caller (call.Part c.args.low c.args.count) (part_whole r) c.args.steps.now c.turn-in-steps.new.steps) (sym c.early.ensures)
-          (part_acts c.args.self.now c.args.caller c.args.low c.args.count c.in-Some.answer (early_of c.in-Some.answer) c.args.steps.now c.turn-in-steps.new.steps
-          (tries_within c.args.self.now (call.Part c.args.low c.args.count) c.in-Some.answer c.args.steps.now c.steps.steps c.turn-in-steps.new.steps (cost_at c.steps.self c.args.caller) c.steps.invariant.2 t.tick
-          (costs_end c.args.self.now c.steps.self c.turn-in-steps.new.self c.args.caller (call.Part c.args.low c.args.count) c.turn-in-steps.result c.steps.invariant.0 t.turned t.index t.spare.all c.in-Some.answer c.in-Some.is))
+      events = subst (λ (r : Once PartWords). ActsWithin c.args.self.now c.args.caller (call.Part c.args.low c.args.count) (part_whole r) c.args.steps.now c.step_call-in-steps.new.steps) (sym c.early.ensures)
+          (part_acts c.args.self.now c.args.caller c.args.low c.args.count c.in-Some.answer (early_of c.in-Some.answer) c.args.steps.now c.step_call-in-steps.new.steps
+          (tries_within c.args.self.now (call.Part c.args.low c.args.count) c.in-Some.answer c.args.steps.now c.steps.steps c.step_call-in-steps.new.steps (cost_at c.steps.self c.args.caller) c.steps.invariant.2 t.tick
+          (costs_end c.args.self.now c.steps.self c.step_call-in-steps.new.self c.args.caller (call.Part c.args.low c.args.count) c.step_call-in-steps.result c.steps.invariant.0 t.turned t.index t.spare.all c.in-Some.answer c.in-Some.is))
           (early_unworn c.in-Some.answer));
       index = t.index;
     }
 
--- a turn that goes on
-gone : (g : _) (c : In_default-turn g) → Lone c.args.self.now c.turn-in-steps.new.self c.args.caller (call.Part c.args.low c.args.count) × (suc (left_at c.turn-in-steps.new.self c.args.caller) ≤ left_at c.steps.self c.args.caller)
+-- a step that goes on
+gone : (g : _) (c : In_default-step_call g) → Lone c.args.self.now c.step_call-in-steps.new.self c.args.caller (call.Part c.args.low c.args.count) × (suc (left_at c.step_call-in-steps.new.self c.args.caller) ≤ left_at c.steps.self c.args.caller)
 gone g c =
-    let t = c.turn-in-steps.ensures in
-    lone_goes c.args.self.now c.steps.self c.turn-in-steps.new.self c.args.caller (call.Part c.args.low c.args.count) c.turn-in-steps.result c.steps.invariant.0 t.turned t.index t.spare.all c.in_default-turn.is
+    let t = c.step_call-in-steps.ensures in
+    lone_goes c.args.self.now c.steps.self c.step_call-in-steps.new.self c.args.caller (call.Part c.args.low c.args.count) c.step_call-in-steps.result c.steps.invariant.0 t.turned t.index t.spare.all c.in_default-step_call.is
 
 pub steps-preserved : goal.steps-preserved
 steps-preserved g c = (
   (gone g c).0,
-  omega (arith, c.turn-in-steps.ensures.tick, c.steps.invariant.1),
-  (let t = c.turn-in-steps.ensures in
-      let costs = lone_costs c.args.self.now c.steps.self c.turn-in-steps.new.self c.args.caller (call.Part c.args.low c.args.count) c.turn-in-steps.result c.steps.invariant.0 t.turned t.index t.spare.all c.in_default-turn.is in
+  omega (arith, c.step_call-in-steps.ensures.tick, c.steps.invariant.1),
+  (let t = c.step_call-in-steps.ensures in
+      let costs = lone_costs c.args.self.now c.steps.self c.step_call-in-steps.new.self c.args.caller (call.Part c.args.low c.args.count) c.step_call-in-steps.result c.steps.invariant.0 t.turned t.index t.spare.all c.in_default-step_call.is in
       omega (arith, costs, t.tick, c.steps.invariant.2)),
 )
 

@@ -35,38 +35,38 @@ returns-then-budget-eq0-clause-in_time g c = λ short none.
 pub has_listed-requires : goal.has_listed-requires
 has_listed-requires g c = lone_flies _ _ _ _ c.steps.invariant.0
 
-pub turn-requires : goal.turn-requires
-turn-requires g c = record { flies = lone_flies _ _ _ _ c.steps.invariant.0 }
+pub step_call-requires : goal.step_call-requires
+step_call-requires g c = record { flies = lone_flies _ _ _ _ c.steps.invariant.0 }
 
 pub returns-then-has_listed-clause-runs : goal.returns-then-has_listed-clause-runs
 returns-then-has_listed-clause-runs g c =
-    let t = c.turn.ensures in
-    let e = part_ends c.args.self.now c.steps.self c.turn.new.self c.args.caller c.args.low c.args.count c.turn.result c.steps.invariant.0 t.turned t.index t.spare.all c.listing-words.result c.listing-words.ensures in
-    record { runs = e.runs; full = λ full. absurd (part_is_not_full c.args.self.now c.turn.new.self c.args.caller c.args.low c.args.count (part_whole (once.Done c.listing-words.result)) e.runs full); quiet = e.quiet; still = e.still; spare = e.spare; each_lock = inl e.each_lock; locks = inl e.locks }
+    let t = c.step_call.ensures in
+    let e = part_ends c.args.self.now c.steps.self c.step_call.new.self c.args.caller c.args.low c.args.count c.step_call.result c.steps.invariant.0 t.turned t.index t.spare.all c.listing-words.result c.listing-words.ensures in
+    record { runs = e.runs; full = λ full. absurd (part_is_not_full c.args.self.now c.step_call.new.self c.args.caller c.args.low c.args.count (part_whole (once.Done c.listing-words.result)) e.runs full); quiet = e.quiet; still = e.still; spare = e.spare; each_lock = inl e.each_lock; locks = inl e.locks }
 
 pub returns-then-has_listed-clause-in_time : goal.returns-then-has_listed-clause-in_time
 returns-then-has_listed-clause-in_time g c = λ short none.
-    try_in_time (Once PartWords) c.args.self.now (call.Part c.args.low c.args.count) (Some (once.Done c.listing-words.result)) c.args.budget.now c.args.steps.now c.turn.new.steps short
-    (end_in_time c.args.self.now c.steps.self c.args.caller (call.Part c.args.low c.args.count) c.steps.invariant.0 c.args.budget.now c.args.steps.now c.steps.steps c.turn.new.steps c.steps.invariant.2 c.turn.ensures.tick (once.Done c.listing-words.result))
+    try_in_time (Once PartWords) c.args.self.now (call.Part c.args.low c.args.count) (Some (once.Done c.listing-words.result)) c.args.budget.now c.args.steps.now c.step_call.new.steps short
+    (end_in_time c.args.self.now c.steps.self c.args.caller (call.Part c.args.low c.args.count) c.steps.invariant.0 c.args.budget.now c.args.steps.now c.steps.steps c.step_call.new.steps c.steps.invariant.2 c.step_call.ensures.tick (once.Done c.listing-words.result))
 
-pub turn-requires-in-steps : goal.turn-requires-in-steps
-turn-requires-in-steps g c = record { flies = lone_flies _ _ _ _ c.steps.invariant.0 }
+pub step_call-requires-in-steps : goal.step_call-requires-in-steps
+step_call-requires-in-steps g c = record { flies = lone_flies _ _ _ _ c.steps.invariant.0 }
 
 pub early-requires : goal.early-requires
 early-requires g c =
-    let t = c.turn-in-steps.ensures in
-    part_is_early c.args.self.now c.steps.self c.turn-in-steps.new.self c.args.caller c.args.low c.args.count c.turn-in-steps.result c.steps.invariant.0 t.turned t.index t.spare.all c.in-Some.answer
+    let t = c.step_call-in-steps.ensures in
+    part_is_early c.args.self.now c.steps.self c.step_call-in-steps.new.self c.args.caller c.args.low c.args.count c.step_call-in-steps.result c.steps.invariant.0 t.turned t.index t.spare.all c.in-Some.answer
     (λ h. let yes = c.has_listed.ensures.1 h in let no = c.if-has_listed.false in cc) c.in-Some.is
 
 pub returns-in-Some-clause-runs : goal.returns-in-Some-clause-runs
 returns-in-Some-clause-runs g c =
-    let t = c.turn-in-steps.ensures in
-    let e = part_stops c.args.self.now c.steps.self c.turn-in-steps.new.self c.args.caller c.args.low c.args.count c.turn-in-steps.result c.steps.invariant.0 t.turned t.index t.spare.all c.in-Some.answer
+    let t = c.step_call-in-steps.ensures in
+    let e = part_stops c.args.self.now c.steps.self c.step_call-in-steps.new.self c.args.caller c.args.low c.args.count c.step_call-in-steps.result c.steps.invariant.0 t.turned t.index t.spare.all c.in-Some.answer
     (λ h. let yes = c.has_listed.ensures.1 h in let no = c.if-has_listed.false in cc) c.in-Some.is in
-    let runs = subst (λ (r : Once PartWords). RunsAlone c.args.self.now c.args.caller (call.Part c.args.low c.args.count) c.turn-in-steps.new.self (part_whole r)) (sym c.early.ensures) e.runs in
+    let runs = subst (λ (r : Once PartWords). RunsAlone c.args.self.now c.args.caller (call.Part c.args.low c.args.count) c.step_call-in-steps.new.self (part_whole r)) (sym c.early.ensures) e.runs in
     record {
       runs = runs;
-      full = λ full. absurd (part_is_not_full c.args.self.now c.turn-in-steps.new.self c.args.caller c.args.low c.args.count (part_whole c.early.result) runs full);
+      full = λ full. absurd (part_is_not_full c.args.self.now c.step_call-in-steps.new.self c.args.caller c.args.low c.args.count (part_whole c.early.result) runs full);
       quiet = e.quiet;
       still = e.still;
       spare = e.spare;
@@ -76,19 +76,19 @@ returns-in-Some-clause-runs g c =
 
 pub returns-in-Some-clause-in_time : goal.returns-in-Some-clause-in_time
 returns-in-Some-clause-in_time g c = λ short none.
-    try_in_time (Once PartWords) c.args.self.now (call.Part c.args.low c.args.count) (Some c.early.result) c.args.budget.now c.args.steps.now c.turn-in-steps.new.steps short
-    (end_in_time c.args.self.now c.steps.self c.args.caller (call.Part c.args.low c.args.count) c.steps.invariant.0 c.args.budget.now c.args.steps.now c.steps.steps c.turn-in-steps.new.steps c.steps.invariant.2 c.turn-in-steps.ensures.tick c.early.result)
+    try_in_time (Once PartWords) c.args.self.now (call.Part c.args.low c.args.count) (Some c.early.result) c.args.budget.now c.args.steps.now c.step_call-in-steps.new.steps short
+    (end_in_time c.args.self.now c.steps.self c.args.caller (call.Part c.args.low c.args.count) c.steps.invariant.0 c.args.budget.now c.args.steps.now c.steps.steps c.step_call-in-steps.new.steps c.steps.invariant.2 c.step_call-in-steps.ensures.tick c.early.result)
 
 pub steps-preserved : goal.steps-preserved
 steps-preserved g c =
-    let t = c.turn-in-steps.ensures in (
-      (lone_goes c.args.self.now c.steps.self c.turn-in-steps.new.self c.args.caller (call.Part c.args.low c.args.count) c.turn-in-steps.result c.steps.invariant.0 t.turned t.index t.spare.all c.in_default-turn.is).0,
+    let t = c.step_call-in-steps.ensures in (
+      (lone_goes c.args.self.now c.steps.self c.step_call-in-steps.new.self c.args.caller (call.Part c.args.low c.args.count) c.step_call-in-steps.result c.steps.invariant.0 t.turned t.index t.spare.all c.in_default-step_call.is).0,
       omega (arith, t.tick, c.steps.invariant.1, c.if-budget-eq0.false),
-      (let costs = lone_costs c.args.self.now c.steps.self c.turn-in-steps.new.self c.args.caller (call.Part c.args.low c.args.count) c.turn-in-steps.result c.steps.invariant.0 t.turned t.index t.spare.all c.in_default-turn.is in
+      (let costs = lone_costs c.args.self.now c.steps.self c.step_call-in-steps.new.self c.args.caller (call.Part c.args.low c.args.count) c.step_call-in-steps.result c.steps.invariant.0 t.turned t.index t.spare.all c.in_default-step_call.is in
           omega (arith, costs, t.tick, c.steps.invariant.2)),
     )
 
 pub steps-smaller : goal.steps-smaller
 steps-smaller g c =
-    let t = c.turn-in-steps.ensures in
-    (lone_goes c.args.self.now c.steps.self c.turn-in-steps.new.self c.args.caller (call.Part c.args.low c.args.count) c.turn-in-steps.result c.steps.invariant.0 t.turned t.index t.spare.all c.in_default-turn.is).1
+    let t = c.step_call-in-steps.ensures in
+    (lone_goes c.args.self.now c.steps.self c.step_call-in-steps.new.self c.args.caller (call.Part c.args.low c.args.count) c.step_call-in-steps.result c.steps.invariant.0 t.turned t.index t.spare.all c.in_default-step_call.is).1

@@ -34,14 +34,14 @@ listed-listed-requires g c =
 pub of-requires : goal.of-requires
 of-requires g c = λ counts none.
     let t = c.in-Some.ensures.turned in
-    let same = reads_turned (index_with c.self.inside 0) c.args.self.now c.turn.new.self c.args.party _ c.in-Some.ensures.turned c.index.result.now c.running-machine.result.now (ap (λ (v : Index). v.states) c.self.view_is) c.self.invariant.0 c.index.ensures c.running-machine.ensures in
+    let same = reads_turned (index_with c.self.inside 0) c.args.self.now c.step_call.new.self c.args.party _ c.in-Some.ensures.turned c.index.result.now c.running-machine.result.now (ap (λ (v : Index). v.states) c.self.view_is) c.self.invariant.0 c.index.ensures c.running-machine.ensures in
     let done = done_of (running_turned t.machine (told c.args.self.now t.machine)) c.in-Some.answer (sym t.answers) in
     is_early t.machine (told c.args.self.now t.machine) c.in-Some.answer done (subst IsSome (c.count-count.ensures ∙ ap count_in same) counts) (sym (c.listed-listed.ensures ∙ ap listed_in same) ∙ none)
 
 pub returns-in-None-clause-stepped : goal.returns-in-None-clause-stepped
-returns-in-None-clause-stepped g c = steps_on c.args.self.now c.turn.new.self c.args.party c.in-None.ensures.turned
+returns-in-None-clause-stepped g c = steps_on c.args.self.now c.step_call.new.self c.args.party c.in-None.ensures.turned
 
 pub returns-in-Some-clause-stepped : goal.returns-in-Some-clause-stepped
 returns-in-Some-clause-stepped g c =
-    subst (λ (r : CoreReply). StepsTo c.args.self.now c.args.party c.turn.new.self (Answered r)) (sym (c.of.ensures ∙ (λ k. reply_with (c.count-count.ensures k) (c.listed-listed.ensures k) c.in-Some.answer)))
-    (steps_off c.args.self.now c.turn.new.self c.args.party c.running-machine.result.now c.in-Some.answer c.in-Some.ensures.turned (reads_turned (index_with c.self.inside 0) c.args.self.now c.turn.new.self c.args.party _ c.in-Some.ensures.turned c.index.result.now c.running-machine.result.now (ap (λ (v : Index). v.states) c.self.view_is) c.self.invariant.0 c.index.ensures c.running-machine.ensures))
+    subst (λ (r : CoreReply). StepsTo c.args.self.now c.args.party c.step_call.new.self (Answered r)) (sym (c.of.ensures ∙ (λ k. reply_with (c.count-count.ensures k) (c.listed-listed.ensures k) c.in-Some.answer)))
+    (steps_off c.args.self.now c.step_call.new.self c.args.party c.running-machine.result.now c.in-Some.answer c.in-Some.ensures.turned (reads_turned (index_with c.self.inside 0) c.args.self.now c.step_call.new.self c.args.party _ c.in-Some.ensures.turned c.index.result.now c.running-machine.result.now (ap (λ (v : Index). v.states) c.self.view_is) c.self.invariant.0 c.index.ensures c.running-machine.ensures))

@@ -26,35 +26,35 @@ pub returns-then-budget-eq0-clause-in_time : goal.returns-then-budget-eq0-clause
 returns-then-budget-eq0-clause-in_time g c =
     cut_in_time (Once Placed) c.args.self.now c.steps.self c.args.caller c.args.call.now c.steps.invariant.0 c.args.budget.now c.args.steps.now c.steps.steps c.steps.invariant.2 (omega (arith, c.steps.invariant.1, c.if-budget-eq0.true))
 
-pub turn-requires : goal.turn-requires
-turn-requires g c = record { flies = lone_flies _ _ _ _ c.steps.invariant.0 }
+pub step_call-requires : goal.step_call-requires
+step_call-requires g c = record { flies = lone_flies _ _ _ _ c.steps.invariant.0 }
 
 pub returns-in-Some-clause-tries : goal.returns-in-Some-clause-tries
 returns-in-Some-clause-tries g c =
     let o = c.steps.invariant.0 in
-    let t = c.turn.ensures in
-    let none = lone_none c.args.self.now c.steps.self c.turn.new.self c.args.caller c.args.call.now c.turn.result o t.turned t.index t.spare.all c.in-Some.answer c.in-Some.is in
+    let t = c.step_call.ensures in
+    let none = lone_none c.args.self.now c.steps.self c.step_call.new.self c.args.caller c.args.call.now c.step_call.result o t.turned t.index t.spare.all c.in-Some.answer c.in-Some.is in
     record {
-      tries = lone_tries c.args.self.now c.steps.self c.turn.new.self c.args.caller c.args.call.now c.turn.result o t.turned t.index t.spare.all c.in-Some.answer c.in-Some.is;
-      quiet = lone_quiet c.args.self.now c.steps.self c.turn.new.self c.args.caller c.args.call.now c.turn.result o t.turned t.index t.spare.all c.in-Some.answer c.in-Some.is;
-      still = lone_still c.args.self.now c.steps.self c.turn.new.self c.args.caller c.args.call.now c.turn.result o t.turned t.index t.spare.all c.in-Some.answer c.in-Some.is;
-      spare = spare_left c.args.self.now c.steps.self c.turn.new.self c.args.caller c.args.call.now o t.spare.all none;
-      each_lock = lone_each c.args.self.now c.steps.self c.turn.new.self c.args.caller c.args.call.now c.turn.result o t.turned t.index t.spare.all c.in-Some.answer c.in-Some.is;
-      locks = lone_locks c.args.self.now c.steps.self c.turn.new.self c.args.caller c.args.call.now c.turn.result o t.turned t.index t.spare.all c.in-Some.answer c.in-Some.is;
+      tries = lone_tries c.args.self.now c.steps.self c.step_call.new.self c.args.caller c.args.call.now c.step_call.result o t.turned t.index t.spare.all c.in-Some.answer c.in-Some.is;
+      quiet = lone_quiet c.args.self.now c.steps.self c.step_call.new.self c.args.caller c.args.call.now c.step_call.result o t.turned t.index t.spare.all c.in-Some.answer c.in-Some.is;
+      still = lone_still c.args.self.now c.steps.self c.step_call.new.self c.args.caller c.args.call.now c.step_call.result o t.turned t.index t.spare.all c.in-Some.answer c.in-Some.is;
+      spare = spare_left c.args.self.now c.steps.self c.step_call.new.self c.args.caller c.args.call.now o t.spare.all none;
+      each_lock = lone_each c.args.self.now c.steps.self c.step_call.new.self c.args.caller c.args.call.now c.step_call.result o t.turned t.index t.spare.all c.in-Some.answer c.in-Some.is;
+      locks = lone_locks c.args.self.now c.steps.self c.step_call.new.self c.args.caller c.args.call.now c.step_call.result o t.turned t.index t.spare.all c.in-Some.answer c.in-Some.is;
     }
 
 pub returns-in-Some-clause-in_time : goal.returns-in-Some-clause-in_time
 returns-in-Some-clause-in_time g c =
-    end_in_time c.args.self.now c.steps.self c.args.caller c.args.call.now c.steps.invariant.0 c.args.budget.now c.args.steps.now c.steps.steps c.turn.new.steps c.steps.invariant.2 c.turn.ensures.tick c.in-Some.answer
+    end_in_time c.args.self.now c.steps.self c.args.caller c.args.call.now c.steps.invariant.0 c.args.budget.now c.args.steps.now c.steps.steps c.step_call.new.steps c.steps.invariant.2 c.step_call.ensures.tick c.in-Some.answer
 
 pub steps-smaller : goal.steps-smaller
 steps-smaller g c =
-    (lone_goes c.args.self.now c.steps.self c.turn.new.self c.args.caller c.args.call.now c.turn.result c.steps.invariant.0 c.turn.ensures.turned c.turn.ensures.index c.turn.ensures.spare.all c.in_default-turn.is).1
+    (lone_goes c.args.self.now c.steps.self c.step_call.new.self c.args.caller c.args.call.now c.step_call.result c.steps.invariant.0 c.step_call.ensures.turned c.step_call.ensures.index c.step_call.ensures.spare.all c.in_default-step_call.is).1
 
 pub steps-preserved : goal.steps-preserved
 steps-preserved g c = (
-  (lone_goes c.args.self.now c.steps.self c.turn.new.self c.args.caller c.args.call.now c.turn.result c.steps.invariant.0 c.turn.ensures.turned c.turn.ensures.index c.turn.ensures.spare.all c.in_default-turn.is).0,
-  omega (arith, c.turn.ensures.tick, c.steps.invariant.1, c.if-budget-eq0.false),
-  (let costs = lone_costs c.args.self.now c.steps.self c.turn.new.self c.args.caller c.args.call.now c.turn.result c.steps.invariant.0 c.turn.ensures.turned c.turn.ensures.index c.turn.ensures.spare.all c.in_default-turn.is in
-      omega (arith, costs, c.turn.ensures.tick, c.steps.invariant.2)),
+  (lone_goes c.args.self.now c.steps.self c.step_call.new.self c.args.caller c.args.call.now c.step_call.result c.steps.invariant.0 c.step_call.ensures.turned c.step_call.ensures.index c.step_call.ensures.spare.all c.in_default-step_call.is).0,
+  omega (arith, c.step_call.ensures.tick, c.steps.invariant.1, c.if-budget-eq0.false),
+  (let costs = lone_costs c.args.self.now c.steps.self c.step_call.new.self c.args.caller c.args.call.now c.step_call.result c.steps.invariant.0 c.step_call.ensures.turned c.step_call.ensures.index c.step_call.ensures.spare.all c.in_default-step_call.is in
+      omega (arith, costs, c.step_call.ensures.tick, c.steps.invariant.2)),
 )

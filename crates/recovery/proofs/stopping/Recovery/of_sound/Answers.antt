@@ -1,6 +1,5 @@
 use Rattle.std.proofs.Common.{◌+◌, ap, ◌∙◌}
 use Rattle.pm_words.specs.declared.layout.Layout.{Layout}
-use Rattle.pm_words.specs.Images.{Row}
 use Rattle.image_layer_rules.specs.Sound.{in_image}
 use Rattle.index_core.specs.PartyStates.{idle_states}
 use Rattle.recovery.proofs.Opened.{keeps_base}
@@ -18,7 +17,7 @@ returns c =
         next = c.requires.next;
         recoverable = begun.recoverable;
         recovering = begun.recovering;
-        layout = ap (λ (r : Row). r.layout) begun.untouched;
+        layout = begun.opened.layout;
         base = c.in_ok-base.ensures.pairs;
         keeps = keeps_base c.args.image c.in_ok-base.base c.in_ok-base.ensures.map c.requires.sound;
         states = c.in_ok-states.ensures {u = tt} ∙ ap (λ n. idle_states (n + 1)) (c.callers.ensures ∙ ap (λ (l : Layout). l.callers) c.layout.ensures.layout);
@@ -26,5 +25,5 @@ returns c =
       };
       none = begun.none;
       at_none = begun.at_none;
-      untouched = begun.untouched;
+      opened = begun.opened;
     }

@@ -1,0 +1,64 @@
+-- A part looks its low name up no further than to the end of the walk.
+use Rattle.std.proofs.Common.{◌≡◌, ℕ, ◌+◌, ◌*◌, ◌<◌, Option, None, subst, sym, arith}
+use Rattle.pm_words.specs.declared.machine.Turn.{Turn}
+use Rattle.pm_words.specs.declared.machine.Turn.TheVariants.{Go, Done}
+use Rattle.tree_floor.specs.declared.floor.Floor.{Floor}
+use Rattle.tree_floor.specs.Floors.{floor_turned}
+use Rattle.data_list.specs.declared.target.Walked.{Walked}
+use Rattle.data_list.specs.declared.target.Walked.TheVariants as walked
+use Rattle.data_list.specs.declared.walk.Walk.{Walk}
+use Rattle.data_list.specs.Walks.{walk_turned}
+use Rattle.node_ops.specs.declared.call.Call.{Call}
+use Rattle.node_ops.specs.declared.lookup.Looked.{Looked}
+use Rattle.node_ops.specs.declared.lookup.Looked.TheVariants as looked
+use Rattle.node_ops.specs.declared.lookup.Lookup.{Lookup}
+use Rattle.node_ops.specs.declared.lookup.LookupAt.{LookupAt}
+use Rattle.node_ops.specs.declared.lookup.LookupAt.TheVariants as look
+use Rattle.node_ops.specs.LookupSteps.{came_by, floored, walked_on, lookup_at_left, lookup_at_turned}
+use Rattle.node_ops.specs.PartSteps.{IsWalkingAt}
+
+-- it walks still, or its walk has just ended
+abbrev pub IsOnWay : LookupAt → Type 0
+IsOnWay (look.Floor floor) = Unit {0}
+IsOnWay (look.Walk walk) = Unit {0}
+IsOnWay (look.Read seen) = Unit {0}
+IsOnWay _ = ⊥
+
+abbrev pub WalksOn : Turn Lookup Looked → Type 0
+WalksOn (Go lookup) = IsOnWay lookup.at
+WalksOn (Done (looked.Early answer)) = Unit {0}
+WalksOn (Done (looked.Found found)) = ⊥
+
+floors_on : (call : Call) (turn : Turn Floor ℕ) → WalksOn (floored call turn)
+floors_on call (Go floor) = tt
+floors_on call (Done node) = tt
+
+steps_on : (call : Call) (turn : Turn Walk Walked) → call.limit ≡ None → WalksOn (walked_on call turn)
+steps_on call (Go walk) read = tt
+steps_on call (Done (walked.Again why)) read = tt
+steps_on call (Done (walked.Target target)) read = subst (λ (o : Option ℕ). WalksOn (came_by o call target)) (sym read) tt
+
+-- a look-up that walks has more left than one that has come to its node
+pub walks_left : (call : Call) (at : LookupAt) → IsWalkingAt at → 3 * call.view.layout.slots + 11 < lookup_at_left call.view.layout.slots at
+walks_left call (look.Floor floor) walking = omega arith
+walks_left call (look.Walk walk) walking = omega arith
+walks_left call (look.Read seen) walking = absurd walking
+walks_left call (look.Lock seen locked) walking = absurd walking
+walks_left call (look.Clock locked) walking = absurd walking
+walks_left call (look.Spent hold) walking = absurd walking
+walks_left call (look.Bitmap hold) walking = absurd walking
+walks_left call (look.Prints hold bitmap prints k) walking = absurd walking
+walks_left call (look.Name hold directory left slot k) walking = absurd walking
+walks_left call (look.Value hold directory slot) walking = absurd walking
+
+pub walks_on : (call : Call) (at : LookupAt) (x : ℕ) → call.limit ≡ None → IsWalkingAt at → WalksOn (lookup_at_turned call at x)
+walks_on call (look.Floor floor) x read walking = floors_on call (floor_turned floor x)
+walks_on call (look.Walk walk) x read walking = steps_on call (walk_turned walk x) read
+walks_on call (look.Read seen) x read walking = absurd walking
+walks_on call (look.Lock seen locked) x read walking = absurd walking
+walks_on call (look.Clock locked) x read walking = absurd walking
+walks_on call (look.Spent hold) x read walking = absurd walking
+walks_on call (look.Bitmap hold) x read walking = absurd walking
+walks_on call (look.Prints hold bitmap prints k) x read walking = absurd walking
+walks_on call (look.Name hold directory left slot k) x read walking = absurd walking
+walks_on call (look.Value hold directory slot) x read walking = absurd walking

@@ -1,6 +1,0 @@
-use Rattle.std.proofs.Common.{rules, ◌∙◌}
-use Rattle.layer_map.proofs.KeyLemmas.{key_order}
-use Rattle.search_layer.proofs.key.is_at_most.Goals as goal
-
-pub returns : goal.returns
-returns c = c.le.ensures ∙ key_order c.args.low c.args.high (record { whole = search rules; fits = search rules }) (record { whole = search rules; fits = search rules })

@@ -1,7 +1,0 @@
-use Rattle.std.proofs.Common.{ℕ, ◌<◌}
-use Rattle.tree_rules.specs.Checks.{IsRightChild}
-use Rattle.tree_rules.proofs.cell.has_wrong_child.Given as goal
-
--- the children that the loop has passed are right
-abbrev pub invariant-loop-byte : goal.invariant-loop-byte
-invariant-loop-byte l = (b : ℕ) → b < l.byte → IsRightChild l.image.layout l.image.words l.reference b

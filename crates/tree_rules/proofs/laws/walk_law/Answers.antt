@@ -1,5 +1,0 @@
-use Rattle.tree_rules.proofs.VisitLaw.{visited_once, visits_are_few}
-use Rattle.tree_rules.proofs.laws.walk_law.Goals as goal
-
-pub returns : goal.returns
-returns c = record { once = visited_once; few = visits_are_few }

@@ -1,9 +1,0 @@
-mod KeyLemmas
-mod RowLemmas
-mod StageLemmas
-mod AfterLaw
-mod StepLaw
-mod OnLayer
-mod RootLemmas
-mod BesideLemmas
-mod FloorLemmas

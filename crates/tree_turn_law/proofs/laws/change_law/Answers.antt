@@ -1,6 +1,0 @@
-use Rattle.tree_turn_law.proofs.StageLemmas.{change_is_backed, stage_evicts}
-use Rattle.tree_turn_law.proofs.StepLaw.{step_can_act, change_step_keeps}
-use Rattle.tree_turn_law.proofs.laws.change_law.Goals as goal
-
-pub returns : goal.returns
-returns c = record { acts = step_can_act; keeps = change_step_keeps; backed = change_is_backed; evicts = stage_evicts }

@@ -1,9 +1,0 @@
-pub mod KeyNumbers
-pub mod Places
-pub mod Rows
-pub mod Kept
-pub mod ChangeStages
-pub mod Laws
-pub mod Beside
-pub mod RootLine
-pub mod Floors
