@@ -8,12 +8,11 @@ ghost use Rattle.tree_update.specs.Runs.{layer_in, IsAtRest};
 
 use pm_words::{Action, Image, Layout, Machine, Memory, Steps, Turn};
 use radix_nodes::Key;
+use search_layer::{Change, Ended, Floor, Set, Unset, floor_alone, set_alone, unset_alone};
 use std::alloc::Global;
 use std::marker::Brand;
 use std::sync::ledger::{Blank, Ledger};
-use tree_floor::Floor;
 use tree_marks::mark_tree;
-use tree_update::{Change, Ended, Set, Unset, floor_alone, set_alone, unset_alone};
 
 /// How many keys these tests have, and how many of them the layer has at most at once.
 const KEYS: u64 = 56;

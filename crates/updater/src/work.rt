@@ -29,9 +29,8 @@ use pm_words::codes::updater_lock::UNTAKEN;
 use pm_words::offsets::shared::UPDATER;
 use pm_words::offsets::{node, volatile};
 use pm_words::{Action, LOG_LINES, Layout, Machine, Turn};
+use search_layer::{Floor, Set, Unset};
 use smo_log::{Clear, Entry, ReadLine};
-use tree_floor::Floor;
-use tree_update::{Set, Unset};
 
 /// A turn of the updater, which has taken the updater lock for it.
 #[derive(Clone, Copy)]
