@@ -1,5 +1,6 @@
--- With each turn of its floor or of its change that goes on, a turn of the updater has less left.
-use Rattle.std.proofs.Common.{◌≡◌, ℕ, ◌^◌, ◌<◌, subst, sym, arith}
+-- With each turn of its floor or of its change a turn of the updater has less left.
+use Rattle.std.proofs.Common.{◌≡◌, ℕ, ◌+◌, ◌^◌, ◌<◌, ◌≤◌, ◌==◌, Bool, true, false, cond, subst, sym, arith}
+use Rattle.pm_words.specs.Codes.{merge_kind}
 use Rattle.pm_words.specs.declared.machine.Turn.{Turn}
 use Rattle.pm_words.specs.declared.machine.Turn.TheVariants.{Go, Done}
 use Rattle.pm_words.specs.Turns.{GoesBelow}
@@ -11,13 +12,13 @@ use Rattle.tree_update.specs.declared.change.Ended.{Ended}
 use Rattle.tree_update.specs.declared.set.Set.{Set}
 use Rattle.tree_update.specs.declared.set.Unset.{Unset}
 use Rattle.tree_update.specs.Changes.{change_left, change_turned}
-use Rattle.tree_update.specs.Sets.{IsSet, IsUnset, set_of, set_turned, set_left, unset_of, unset_turned, unset_left}
+use Rattle.tree_update.specs.Sets.{IsSet, IsUnset, set_of, set_left, unset_of, unset_left}
 use Rattle.tree_update.proofs.ChangeStays.{change_fewer}
 use Rattle.smo_log.specs.declared.line.Entry.{Entry}
 use Rattle.updater.specs.declared.work.Work.{Work}
 use Rattle.updater.specs.declared.work.WorkAt.{WorkAt}
 use Rattle.updater.specs.declared.work.WorkAt.TheVariants as at
-use Rattle.updater.specs.Works.{IsWork, IsWorkAt, has_landed, has_set, has_unset, work_at_left, work_at_turned, work_left, work_turned}
+use Rattle.updater.specs.Works.{IsWork, IsWorkAt, changed, clears, has_landed, has_set, has_unset, lines_left, on, work_at_left, work_at_turned, work_left, work_turned}
 
 -- what it keeps at its state
 here_at : (work : Work) (a : WorkAt) → IsWork work → work.at ≡ a → IsWorkAt work.terms work.tally a
@@ -29,42 +30,42 @@ whole : (work : Work) (a : WorkAt) (x : ℕ) → work.at ≡ a
 whole work a x place at =
     subst (λ (b : WorkAt). GoesBelow work_left (work_at_left work.terms.layout b) (work_at_turned work b x)) (sym place) at
 
-pub landing_fewer : (work : Work) (line : ℕ) (entry : Entry) (floor next : Floor) (x : ℕ) → IsWork work
-    → work.at ≡ at.Landing line entry floor → x < 2 ^ 64 → floor_turned floor x ≡ Go next → GoesBelow work_left (work_left work) (work_turned work x)
-landing_fewer work line entry floor next x is place fits goes =
+pub landing_fewer : (work : Work) (line : ℕ) (entry : Entry) (floor : Floor) (x : ℕ) → IsWork work → work.at ≡ at.Landing line entry floor → x < 2 ^ 64
+    → GoesBelow work_left (work_left work) (work_turned work x)
+landing_fewer work line entry floor x is place fits =
     let here = here_at work (at.Landing line entry floor) is place in
-    let fewer : floor_left next < floor_left floor =
-    subst (GoesBelow {A = ℕ} floor_left (floor_left floor)) goes (floor_fewer floor x (here.2, fits)) in
-    whole work (at.Landing line entry floor) x place
-    (subst (λ (t : Turn Floor ℕ). work_left (has_landed work line entry t) < work_at_left work.terms.layout (at.Landing line entry floor)) (sym goes) (omega (arith, fewer)))
+    whole work (at.Landing line entry floor) x place (below (floor_turned floor x) (floor_fewer floor x (here.2, fits)))
+  where
+    below : (t : Turn Floor ℕ) → GoesBelow floor_left (floor_left floor) t → work_left (has_landed work line entry t) < work_at_left work.terms.layout (at.Landing line entry floor)
+    below (Go next) fewer = omega (arith, fewer)
+    below (Done hint) fewer = let few : work.terms.layout.nodes ≤ 4096 = is.terms.layout.nodes.1 in omega (arith, few)
 
--- a set and an unset have as much left as their change
-set_below : (bound : ℕ) (t : Turn Change Ended) → GoesBelow change_left bound t → GoesBelow {A = Ended} set_left bound (set_of t)
-set_below bound (Go next) fewer = fewer
-set_below bound (Done ended) fewer = tt
+-- the layer is changed
+changed_below : (work : Work) (line : ℕ) (entry : Entry) → work_left (on work (changed work.terms line entry)) < lines_left work.terms.layout line + 10
+changed_below work line entry =
+    elim (entry.kind == merge_kind) as (λ (b : Bool). work_at_left work.terms.layout (cond b (at.Stamping line entry) (clears work.terms line)) < lines_left work.terms.layout line + 10) [
+      | true ↦ omega arith
+      | false ↦ omega arith
+    ]
 
-unset_below : (bound : ℕ) (t : Turn Change Ended) → GoesBelow change_left bound t → GoesBelow {A = Ended} unset_left bound (unset_of t)
-unset_below bound (Go next) fewer = fewer
-unset_below bound (Done ended) fewer = tt
-
-pub setting_fewer : (work : Work) (line : ℕ) (entry : Entry) (set next : Set) (x : ℕ) → IsWork work
-    → work.at ≡ at.Setting line entry set → x < 2 ^ 64 → set_turned set x ≡ Go next → GoesBelow work_left (work_left work) (work_turned work x)
-setting_fewer work line entry set next x is place fits goes =
+pub setting_fewer : (work : Work) (line : ℕ) (entry : Entry) (set : Set) (x : ℕ) → IsWork work → work.at ≡ at.Setting line entry set → x < 2 ^ 64
+    → GoesBelow work_left (work_left work) (work_turned work x)
+setting_fewer work line entry set x is place fits =
     let here = here_at work (at.Setting line entry set) is place in
     let is_set : IsSet set = here.2 in
-    let fewer : set_left next < set_left set =
-    subst (GoesBelow {A = Ended} set_left (set_left set)) goes
-    (set_below (set_left set) (change_turned set.change x) (change_fewer set.change x (is_set.change, fits))) in
-    whole work (at.Setting line entry set) x place
-    (subst (λ (t : Turn Set Ended). work_left (has_set work line entry t) < work_at_left work.terms.layout (at.Setting line entry set)) (sym goes) (omega (arith, fewer)))
+    whole work (at.Setting line entry set) x place (below (change_turned set.change x) (change_fewer set.change x (is_set.change, fits)))
+  where
+    below : (t : Turn Change Ended) → GoesBelow change_left (set_left set) t → work_left (has_set work line entry (set_of t)) < work_at_left work.terms.layout (at.Setting line entry set)
+    below (Go next) fewer = omega (arith, fewer)
+    below (Done ended) fewer = let after = changed_below work line entry in omega (arith, after)
 
-pub unsetting_fewer : (work : Work) (line : ℕ) (entry : Entry) (unset next : Unset) (x : ℕ) → IsWork work
-    → work.at ≡ at.Unsetting line entry unset → x < 2 ^ 64 → unset_turned unset x ≡ Go next → GoesBelow work_left (work_left work) (work_turned work x)
-unsetting_fewer work line entry unset next x is place fits goes =
+pub unsetting_fewer : (work : Work) (line : ℕ) (entry : Entry) (unset : Unset) (x : ℕ) → IsWork work → work.at ≡ at.Unsetting line entry unset → x < 2 ^ 64
+    → GoesBelow work_left (work_left work) (work_turned work x)
+unsetting_fewer work line entry unset x is place fits =
     let here = here_at work (at.Unsetting line entry unset) is place in
     let is_unset : IsUnset unset = here.2 in
-    let fewer : unset_left next < unset_left unset =
-    subst (GoesBelow {A = Ended} unset_left (unset_left unset)) goes
-    (unset_below (unset_left unset) (change_turned unset.change x) (change_fewer unset.change x (is_unset.change, fits))) in
-    whole work (at.Unsetting line entry unset) x place
-    (subst (λ (t : Turn Unset Ended). work_left (has_unset work line entry t) < work_at_left work.terms.layout (at.Unsetting line entry unset)) (sym goes) (omega (arith, fewer)))
+    whole work (at.Unsetting line entry unset) x place (below (change_turned unset.change x) (change_fewer unset.change x (is_unset.change, fits)))
+  where
+    below : (t : Turn Change Ended) → GoesBelow change_left (unset_left unset) t → work_left (has_unset work line entry (unset_of t)) < work_at_left work.terms.layout (at.Unsetting line entry unset)
+    below (Go next) fewer = omega (arith, fewer)
+    below (Done ended) fewer = let after = changed_below work line entry in omega (arith, after)

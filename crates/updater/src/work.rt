@@ -192,49 +192,17 @@ impl Work {
         ensures turned { AdvancesTo (work_turned self.old got) self.new result }
         ensures fewer { GoesBelow work_left (work_left self.old) (work_turned self.old got) }
     {
-        let layout = self.terms.layout;
-        match &mut self.at {
-            WorkAt::State { line } => {
-                if got != READY && *line + 1 < LOG_LINES * layout.callers() {
-                    *line += 1;
-                    return None;
-                }
-                let line = *line;
-                self.saw_state(line, got);
-            }
-            WorkAt::Reading { read } => match read.resume(got) {
-                Turn::Go(next) => *read = next,
-                Turn::Done(seen) => {
-                    let line = read.line;
-                    self.lands(line, seen.entry);
-                }
-            },
-            WorkAt::Landing { line, entry, floor } => {
-                let hint = floor.advance(got)?;
-                let (line, entry) = (*line, *entry);
-                self.walks(line, entry, hint);
-            }
-            WorkAt::Walking { line, entry, walk } => match walk.advance(got) {
-                None => {}
-                Some(walked) => {
-                    let (line, entry) = (*line, *entry);
-                    self.walked(line, entry, walked);
-                }
-            },
+        match &self.at {
+            WorkAt::State { .. } => self.told_state(got),
+            WorkAt::Reading { .. } => self.told_word(got),
+            WorkAt::Landing { .. } => self.told_of_layer(got),
+            WorkAt::Walking { .. } => self.told_of_walk(got),
             WorkAt::Seeing { line, entry, found } => {
                 let (line, entry, found) = (*line, *entry, *found);
                 self.saw_again(line, entry, found, got);
             }
-            WorkAt::Setting { line, entry, set } => {
-                set.advance(got)?;
-                let (line, entry) = (*line, *entry);
-                self.changed(line, entry);
-            }
-            WorkAt::Unsetting { line, entry, unset } => {
-                unset.advance(got)?;
-                let (line, entry) = (*line, *entry);
-                self.changed(line, entry);
-            }
+            WorkAt::Setting { .. } => self.told_of_set(got),
+            WorkAt::Unsetting { .. } => self.told_of_unset(got),
             WorkAt::Stamping { line, .. } => {
                 let line = *line;
                 self.clears(line);
@@ -243,14 +211,7 @@ impl Work {
                 let line = clear.line;
                 self.emptied(line);
             }
-            WorkAt::Status { node } => {
-                if got != GONE && *node + 1 < layout.nodes() {
-                    *node += 1;
-                    return None;
-                }
-                let node = *node;
-                self.saw_status(node, got);
-            }
+            WorkAt::Status { .. } => self.told_status(got),
             WorkAt::Stamp { node } => {
                 let node = *node;
                 self.saw_stamp(node, got);
@@ -259,32 +220,178 @@ impl Work {
                 let node = *node;
                 self.saw_version(node, got);
             }
-            WorkAt::Releasing { release } => match release.resume(got) {
-                Turn::Go(next) => *release = next,
-                Turn::Done(_) => {
-                    let node = release.node;
-                    self.freed(node);
-                }
-            },
-            WorkAt::Counting { node, none_free } => {
-                *none_free = *none_free && got != FREE;
-                if *node + 1 < layout.nodes() {
-                    *node += 1;
-                    return None;
-                }
-                let none_free = *none_free;
-                self.has_counted(none_free);
-            }
-            WorkAt::Leaving { none_free } => {
-                return Some(Turned {
-                    applied: self.tally.applied,
-                    left: self.tally.left,
-                    freed: self.tally.freed,
-                    none_free: *none_free,
-                });
-            }
+            WorkAt::Releasing { .. } => self.told_of_release(got),
+            WorkAt::Counting { .. } => self.told_count(got),
+            WorkAt::Leaving { none_free } => return Some(self.answer(*none_free)),
         }
         None
+    }
+}
+
+// What it is told in the states in which it stays for more than one turn: it goes on in place while it stays in one.
+impl Work {
+    ghost use Rattle.std.specs.Prelude.{◌≡◌, ℕ, Bool, ◌&&◌, ◌==◌, not};
+    ghost use Rattle.pm_words.specs.Codes.{free_status};
+    ghost use Rattle.smo_log.specs.Reads.{read_turned};
+    ghost use Rattle.tree_floor.specs.Floors.{floor_turned};
+    ghost use Rattle.data_list.specs.Walks.{walk_turned};
+    ghost use Rattle.tree_update.specs.Sets.{set_turned, unset_turned};
+    ghost use Rattle.pm_alloc.specs.Gone.{release_turned};
+    ghost use Rattle.updater.specs.declared.work.WorkAt.TheVariants as WorkAt;
+    ghost use Rattle.updater.specs.Works.{work_takes, saw_state, saw_status, after_count, on};
+    ghost use Rattle.updater.specs.Works.{has_read, has_landed, has_walked, has_set, has_unset, has_released};
+
+    /// The state of a line: on to the next line in place where this one isn't READY.
+    fn told_state(&mut self, got: u64)
+        requires { work_takes self.old got }
+        ensures { (line : ℕ) → self.old.at ≡ WorkAt.State line
+            → self.new ≡ on self.old (saw_state self.old.terms line got) }
+    {
+        let lines = LOG_LINES * self.terms.layout.callers();
+        let WorkAt::State { line } = &mut self.at else {
+            return;
+        };
+        if got != READY && *line + 1 < lines {
+            *line += 1;
+            return;
+        }
+        let line = *line;
+        self.saw_state(line, got);
+    }
+
+    /// A word of a line: it has read the line with the last one.
+    fn told_word(&mut self, got: u64)
+        requires { work_takes self.old got }
+        ensures { (read : ReadLine) → self.old.at ≡ WorkAt.Reading read
+            → self.new ≡ has_read self.old read.line (read_turned read got) }
+    {
+        let WorkAt::Reading { read } = &mut self.at else {
+            return;
+        };
+        match read.resume(got) {
+            Turn::Go(next) => *read = next,
+            Turn::Done(seen) => {
+                let line = read.line;
+                self.lands(line, seen.entry);
+            }
+        }
+    }
+
+    /// A word of the search layer: the last one leads to the node from which it walks.
+    fn told_of_layer(&mut self, got: u64)
+        requires { work_takes self.old got }
+        ensures { (line : ℕ) (entry : Entry) (floor : Floor) → self.old.at ≡ WorkAt.Landing line entry floor
+            → self.new ≡ has_landed self.old line entry (floor_turned floor got) }
+    {
+        let WorkAt::Landing { line, entry, floor } = &mut self.at else {
+            return;
+        };
+        let Some(hint) = floor.advance(got) else {
+            return;
+        };
+        let (line, entry) = (*line, *entry);
+        self.walks(line, entry, hint);
+    }
+
+    /// A word of the walk, which ends with the last one.
+    fn told_of_walk(&mut self, got: u64)
+        requires { work_takes self.old got }
+        ensures { (line : ℕ) (entry : Entry) (walk : Walk) → self.old.at ≡ WorkAt.Walking line entry walk
+            → self.new ≡ has_walked self.old line entry (walk_turned walk got) }
+    {
+        let WorkAt::Walking { line, entry, walk } = &mut self.at else {
+            return;
+        };
+        let Some(walked) = walk.advance(got) else {
+            return;
+        };
+        let (line, entry) = (*line, *entry);
+        self.walked(line, entry, walked);
+    }
+
+    /// A word of the set, with the last of which the layer is changed.
+    fn told_of_set(&mut self, got: u64)
+        requires { work_takes self.old got }
+        ensures { (line : ℕ) (entry : Entry) (set : Set) → self.old.at ≡ WorkAt.Setting line entry set
+            → self.new ≡ has_set self.old line entry (set_turned set got) }
+    {
+        let WorkAt::Setting { line, entry, set } = &mut self.at else {
+            return;
+        };
+        if set.advance(got).is_some() {
+            let (line, entry) = (*line, *entry);
+            self.changed(line, entry);
+        }
+    }
+
+    /// A word of the unset, with the last of which the layer is changed.
+    fn told_of_unset(&mut self, got: u64)
+        requires { work_takes self.old got }
+        ensures { (line : ℕ) (entry : Entry) (unset : Unset) → self.old.at ≡ WorkAt.Unsetting line entry unset
+            → self.new ≡ has_unset self.old line entry (unset_turned unset got) }
+    {
+        let WorkAt::Unsetting { line, entry, unset } = &mut self.at else {
+            return;
+        };
+        if unset.advance(got).is_some() {
+            let (line, entry) = (*line, *entry);
+            self.changed(line, entry);
+        }
+    }
+
+    /// The status of a node: on to the next node in place where this one isn't GONE.
+    fn told_status(&mut self, got: u64)
+        requires { work_takes self.old got }
+        ensures { (node : ℕ) → self.old.at ≡ WorkAt.Status node
+            → self.new ≡ on self.old (saw_status self.old.terms node got) }
+    {
+        let nodes = self.terms.layout.nodes();
+        let WorkAt::Status { node } = &mut self.at else {
+            return;
+        };
+        if got != GONE && *node + 1 < nodes {
+            *node += 1;
+            return;
+        }
+        let node = *node;
+        self.saw_status(node, got);
+    }
+
+    /// What an action of a release gave: the node is FREE with the last one.
+    fn told_of_release(&mut self, got: u64)
+        requires { work_takes self.old got }
+        ensures { (release : Release) → self.old.at ≡ WorkAt.Releasing release
+            → self.new ≡ has_released self.old release.node (release_turned release got) }
+    {
+        let WorkAt::Releasing { release } = &mut self.at else {
+            return;
+        };
+        match release.resume(got) {
+            Turn::Go(next) => *release = next,
+            Turn::Done(_) => {
+                let node = release.node;
+                self.freed(node);
+            }
+        }
+    }
+
+    /// The status of a node, as it counts: on to the next node in place while there is one.
+    fn told_count(&mut self, got: u64)
+        requires { work_takes self.old got }
+        ensures { (node : ℕ) (so_far : Bool) → self.old.at ≡ WorkAt.Counting node so_far
+            → self.new ≡ on self.old (after_count self.old.terms node (so_far && not (got == free_status))) }
+    {
+        let nodes = self.terms.layout.nodes();
+        let WorkAt::Counting { node, none_free } = &mut self.at else {
+            return;
+        };
+        *none_free = *none_free && got != FREE;
+        if *node + 1 < nodes {
+            *node += 1;
+            return;
+        }
+        let none_free = *none_free;
+        self.has_counted(none_free);
     }
 }
 
@@ -297,6 +404,7 @@ impl Work {
     ghost use Rattle.updater.specs.declared.work.WorkAt.TheVariants as WorkAt;
     ghost use Rattle.updater.specs.Works.{IsTerms, IsEntry, saw_state, lands, walks, walk_ended, saw_again, leaves};
     ghost use Rattle.updater.specs.Works.{changed, clears, emptied, saw_status, saw_stamp, saw_version, freed, on};
+    ghost use Rattle.updater.specs.Works.{turned_of};
 
     /// It leaves this line as it is.
     fn leaves(&mut self, line: u64)
@@ -437,6 +545,18 @@ impl Work {
     {
         self.tally.freed += 1;
         self.at = self.terms.after_node(node);
+    }
+
+    /// What it has done.
+    fn answer(&self, none_free: bool) -> Turned
+        ensures { result ≡ turned_of self.now.tally none_free }
+    {
+        Turned {
+            applied: self.tally.applied,
+            left: self.tally.left,
+            freed: self.tally.freed,
+            none_free,
+        }
     }
 
     /// It has the statuses of all nodes, and gives the updater lock back.
