@@ -1,5 +1,5 @@
-/* Preloaded into a program: refuses the one allocation whose number, counted from 1, is in REFUSED. Where that is 0, a line
-   feed for each allocation goes to standard error, since the program ends without a word at its end. */
+/* Preloaded into a program: refuses the one allocation whose number, counted from 1, is in REFUSED. Where that is 0, a
+   line feed for each allocation goes to standard error, since the program ends without a word at its end. */
 #include <errno.h>
 #include <stddef.h>
 #include <stdlib.h>

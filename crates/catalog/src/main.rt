@@ -16,7 +16,8 @@ const FORMS: &str = "\
     gen: plays COUNT calls that are made from SEED, and prints what they come to\n\
     words: prints COUNT words of a file from number FROM on\n\
     \n\
-    a script has a line for each call: CALLER put NAME NUMBER, CALLER get NAME, CALLER del NAME, CALLER scan NAME COUNT\n\
+    a script has a line for each call: CALLER put NAME NUMBER, CALLER get NAME, CALLER del NAME, \
+    CALLER scan NAME COUNT\n\
     join, or crash SEED BUDGETS, ends a round; updater CALLS and limit WRITES hold from their round on\n\
     the callers of a round make their calls at once, each in a thread of its own: a report of several callers differs \
     from run to run";

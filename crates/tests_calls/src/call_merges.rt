@@ -11,7 +11,8 @@ use pm_words::{Again, Layout};
 use std::process::Abort;
 use std::test::Fail;
 
-/// Node 0 gets the names a and b, and node 2 the name g. A walk to node 0 takes 9 loads, and one to node 2 as many more; a put of a new name takes 67 actions behind the walk.
+/// Node 0 gets the names a and b, and node 2 the name g. A walk to node 0 takes 9 loads, and one to node 2 as many
+/// more; a put of a new name takes 67 actions behind the walk.
 fn three_names(rt: &impl Abort, row: &mut Row)
     ensures { row.new.layout ≡ row.old.layout }
 {

@@ -180,13 +180,14 @@ pub(crate) fn done_after(old: Option<u64>, place: u64, hops: u64) -> Once<Placed
 
 /// Puts, gets and deletes on a node of four slots, one after another: what each answers, and in how many actions.
 ///
-/// The floor takes 5 loads: the root's word refers to a leaf, which has three words of a key and a node word. A walk to the one node takes 6 loads: version,
-/// status, three words of the anchor, and next. The look-up of a write takes 11 actions more until the fingerprints are
-/// loaded, the lock, the clock, the bitmap and eight words of fingerprints, and three or four for each slot with the
-/// name's fingerprint. A get takes no lock, so it has one action less there; it loads the version again at its end, and
-/// where nothing is changed a write stores one in its place. A write into a clear slot takes 5 stores, two fences of 16
-/// actions and the store of the bitmap, and its end a fence, the add and the unlock. Where no slot is clear, the split
-/// loads next, takes a line by the load of its state and a fence, finds no free node by one load, and unlocks.
+/// The floor takes 5 loads: the root's word refers to a leaf, which has three words of a key and a node word. A walk to
+/// the one node takes 6 loads: version, status, three words of the anchor, and next. The look-up of a write takes 11
+/// actions more until the fingerprints are loaded, the lock, the clock, the bitmap and eight words of fingerprints, and
+/// three or four for each slot with the name's fingerprint. A get takes no lock, so it has one action less there; it
+/// loads the version again at its end, and where nothing is changed a write stores one in its place. A write into a
+/// clear slot takes 5 stores, two fences of 16 actions and the store of the bitmap, and its end a fence, the add and
+/// the unlock. Where no slot is clear, the split loads next, takes a line by the load of its state and a fence, finds
+/// no free node by one load, and unlocks.
 fn calls_on_four_slots() -> [(Ask, Once<Placed>, u64); 13] {
     let spent = Once::Spent { clock: 8 };
     let late = Ask::Put {
@@ -242,10 +243,10 @@ fn one_caller_on_four_slots(rt: HostRuntime) -> Result<(), Fail> {
     Ok(())
 }
 
-/// A put that finds its node full splits it, and is to be made again: then it goes to the fresh node. The split takes 1 load of next, 17 actions for a line, 3 for the claim, 24 loads of
-/// the node's words, 14 stores and three fences for the fresh node, 40 actions for the opened line, 3 stores up to the
-/// switch and its fence, a store and a fence for the bitmap, 17 actions for READY, and 2 stores. Its line is left
-/// READY.
+/// A put that finds its node full splits it, and is to be made again: then it goes to the fresh node. The split takes 1
+/// load of next, 17 actions for a line, 3 for the claim, 24 loads of the node's words, 14 stores and three fences for
+/// the fresh node, 40 actions for the opened line, 3 stores up to the switch and its fence, a store and a fence for the
+/// bitmap, 17 actions for READY, and 2 stores. Its line is left READY.
 fn calls_that_split() -> [(Ask, Once<Placed>, u64); 8] {
     let split = 1 + 17 + 3 + 24 + 14 + 48 + 40 + 3 + 16 + 17 + 17 + 2;
     let again = Once::Again(Again::NeedsSplit { node: 0 });
@@ -348,8 +349,9 @@ pub(crate) fn three_nodes(rt: &impl Abort, row: &mut Row)
     row.set(rt, 1, node::ANCHOR, P);
 }
 
-/// Calls on that list: each goes to the node of its name, and tells its hops. The floor leads to node 0. At a node that leads on, the three words of the next node's anchor are loaded too, so 9
-/// loads each. After the walk all is as on one node.
+/// Calls on that list: each goes to the node of its name, and tells its hops. The floor leads to node 0. At a node that
+/// leads on, the three words of the next node's anchor are loaded too, so 9 loads each. After the walk all is as on one
+/// node.
 fn calls_by_walks() -> [(Ask, Once<Placed>, u64); 7] {
     let [first, second, third] = [FLOOR + 9, FLOOR + 9 + 9, FLOOR + 9 + 9 + 6];
     let late = Ask::Del {

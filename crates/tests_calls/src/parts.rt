@@ -180,7 +180,8 @@ fn parts_of_one_node(rt: HostRuntime) -> Result<(), Fail> {
     Ok(())
 }
 
-/// A node that was split ends before the anchor of the next one, to which the walk makes a hop. Each of the two nodes is sorted once.
+/// A node that was split ends before the anchor of the next one, to which the walk makes a hop. Each of the two nodes
+/// is sorted once.
 #[test]
 fn parts_end_with_their_node(rt: HostRuntime) -> Result<(), Fail> {
     let layout = Layout::new(2, 4, 1)?;

@@ -63,8 +63,8 @@ pub(crate) struct Row {
     ghost in_range: { IsLayout layout },
 }
 
-/// How many loads a floor takes in the layer that a row begins with: of the root's word, and of the key and the node word
-/// of the leaf to which that refers.
+/// How many loads a floor takes in the layer that a row begins with: of the root's word, and of the key and the node
+/// word of the leaf to which that refers.
 pub(crate) const FLOOR: u64 = 1 + 3 + 1;
 
 /// The root's word among those of the image.

@@ -110,8 +110,8 @@ fn entries(letter: u8) -> [u64; 2] {
     [LEAF, (u64::from(letter) << 32) + LEAF + 1]
 }
 
-/// The second leaf has this one-letter key and leads to this node, and the root refers to the first cell of form 4, which
-/// has both leaves.
+/// The second leaf has this one-letter key and leads to this node, and the root refers to the first cell of form 4,
+/// which has both leaves.
 fn lead(rt: &impl Abort, row: &mut Row, letter: u8, to: u64)
     ensures { row.new.layout ≡ row.old.layout }
 {
@@ -204,9 +204,9 @@ fn split(rt: &impl Abort, row: &mut Row)
     make_ready(rt, row, 1, 1, G);
 }
 
-/// The stores of a split's line: the second leaf gets its mark, the key, the node and zeros, and the first cell its mark,
-/// depth 0, no prefix, and as entries the first leaf under byte 0, to which the root referred, and the second one under
-/// g; then the root refers to that cell, and the line is EMPTY.
+/// The stores of a split's line: the second leaf gets its mark, the key, the node and zeros, and the first cell its
+/// mark, depth 0, no prefix, and as entries the first leaf under byte 0, to which the root referred, and the second one
+/// under g; then the root refers to that cell, and the line is EMPTY.
 fn stores_of_split(rt: &impl Abort, layout: &Layout) -> [Stored; 21]
     requires { IsLayout layout.now }
 {
@@ -241,9 +241,9 @@ fn stores_of_split(rt: &impl Abort, layout: &Layout) -> [Stored; 21]
 /// A split's line: its anchor leads to the new node, durably, before the line is EMPTY. The fields, the floor, the walk
 /// over one hop, the version again, the set, and EMPTY.
 ///
-/// The set loads the root's word and the key of the leaf to which that refers. It finds that the first leaf has its mark
-/// and the second one none, which it sets, and fills that by 8 stores and a fence of 16 actions; so it does with a cell,
-/// the first one. The switch store has a fence too.
+/// The set loads the root's word and the key of the leaf to which that refers. It finds that the first leaf has its
+/// mark and the second one none, which it sets, and fills that by 8 stores and a fence of 16 actions; so it does with a
+/// cell, the first one. The switch store has a fence too.
 #[test]
 fn carries_a_split(rt: HostRuntime) -> Result<(), Fail> {
     let mut row = one_node(&rt, vec![in rt.alloc(); 0u64; ROW]?);
@@ -292,12 +292,13 @@ fn stores_of_merge(rt: &impl Abort, layout: &Layout) -> [Stored; 7]
 /// before the line is EMPTY. Where the release allows the stamp, the node is FREE by the same turn.
 ///
 /// The fields; the floor, which loads the root's word, of the cell the depth, the prefix and four entries, and the key
-/// and the node word of the second leaf; the walk, which loads the version, the status and the node before of the merged
-/// node, and then of node 0 its version, its status, its anchor and that there is no next node; the version again; the
-/// unset; the stamp, and EMPTY. The unset loads the root's word, the depth, the prefix, two entries and the leaf's key,
-/// the depth again and four entries, among which there is one other child; it stores that in the place of the cell, with
-/// a fence, and takes two marks away. Of each line the state; of each node the status, and of the merged one the stamp;
-/// the statuses once more, and the lock. Where the release allows the stamp, the version of the node, stamp 0 and FREE.
+/// and the node word of the second leaf; the walk, which loads the version, the status and the node before of the
+/// merged node, and then of node 0 its version, its status, its anchor and that there is no next node; the version
+/// again; the unset; the stamp, and EMPTY. The unset loads the root's word, the depth, the prefix, two entries and the
+/// leaf's key, the depth again and four entries, among which there is one other child; it stores that in the place of
+/// the cell, with a fence, and takes two marks away. Of each line the state; of each node the status, and of the merged
+/// one the stamp; the statuses once more, and the lock. Where the release allows the stamp, the version of the node,
+/// stamp 0 and FREE.
 fn carries_a_merge(rt: &impl Abort, row: &mut Row, release: u64) {
     let (floor, walk) = (1 + 1 + 3 + 4 + 3 + 1, 3 + 6);
     let unset = 1 + 1 + 3 + 2 + 3 + 1 + 4 + 1 + 16 + 2;

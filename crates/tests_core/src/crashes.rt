@@ -166,11 +166,11 @@ fn first_otherwise(alloc: Global, rows: &[Row]) -> Option<(usize, u64)> {
 
 #[test]
 fn a_crash_keeps_the_map_with_what_is_found(rt: HostRuntime) -> Result<(), Fail> {
-    // A write is found from the store of its word on where that word is evicted, and else from its drain on. The
-    // bitmap is word 17 of the image, which a put into a clear slot stores as its event 60 and drains as 64, and a
-    // delete, which leaves few names and so looks where its node leads, as 28 and 32; the value of slot 0 is word 35,
-    // and is stored in place as event 27 and drained as event 35. The first five events are those of the floor. So it is
-    // with the delete that merges; it walks, locks and looks up with 24, as far as the value, sees where its node leads,
+    // A write is found from the store of its word on where that word is evicted, and else from its drain on. The bitmap
+    // is word 17 of the image, which a put into a clear slot stores as its event 60 and drains as 64, and a delete,
+    // which leaves few names and so looks where its node leads, as 28 and 32; the value of slot 0 is word 35, and is
+    // stored in place as event 27 and drained as event 35. The first five events are those of the floor. So it is with
+    // the delete that merges; it walks, locks and looks up with 24, as far as the value, sees where its node leads,
     // takes its third log line with 19, since those of two splits are READY, and stores its bitmap then.
     let rows = [
         (scene(1, 1, 0), Asked::Put(1, 70), [60, 64]),

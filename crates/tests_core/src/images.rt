@@ -202,8 +202,8 @@ const LEAF: u64 = 1 << 16;
 const FORM_4: u64 = 2 << 16;
 
 /// Three keys for two nodes: the second leaf, at word 344, leads the third name to node 1, and the third one a name of
-/// another first byte to node 0; the root refers to the first cell of form 4, at word 384, which has these and the first
-/// leaf.
+/// another first byte to node 0; the root refers to the first cell of form 4, at word 384, which has these and the
+/// first leaf.
 fn three_keys() -> [(u64, u64); 8] {
     [
         (8, FORM_4),

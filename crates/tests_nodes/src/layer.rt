@@ -33,8 +33,8 @@ const WAYS: u64 = 4;
 /// The node and one to which each key leads, 0 for none.
 type Layer = [u64; KEYS as usize];
 
-/// A key by its number. Keys rise with their numbers. Most of them part at their first byte; two part there from the key
-/// before them and from one another behind it.
+/// A key by its number. Keys rise with their numbers. Most of them part at their first byte; two part there from the
+/// key before them and from one another behind it.
 fn key_of(number: u64) -> Key
     ensures { 1 ≤ number → key_number result ≢ 0 }
 {
@@ -174,8 +174,8 @@ fn is_left(memory: &Memory, way: u64, layer: &Layer) -> bool {
     true
 }
 
-/// What is seen of a change: the layers before and after it, and in which ways the image that a crash leaves has had the
-/// latter, a bit for each.
+/// What is seen of a change: the layers before and after it, and in which ways the image that a crash leaves has had
+/// the latter, a bit for each.
 #[derive(Clone, Copy)]
 struct Seen {
     before: Layer,
@@ -455,9 +455,9 @@ fn sets_take_their_events_in_each_form(rt: HostRuntime) {
     // With so many children in the root's cell as many leaves have their marks, and the next one has none. A look loads
     // the root's word, the depth and the prefix, and of form 4 or 16 all entries, of form 48 a word of the index, of
     // form 256 a reference. Room is looked for in the entries up to a free one. In form 48 it is looked for in the
-    // index, of which the place of the k-th byte takes the words up to that byte's, and a free one all 32 and the byte's
-    // once more; the reference there has a fence of its own. A full cell is read, of 8, 24 or 88 words, and its mark is
-    // taken away once the larger one, of 3, 11 or 33 lines, is in its place.
+    // index, of which the place of the k-th byte takes the words up to that byte's, and a free one all 32 and the
+    // byte's once more; the reference there has a fence of its own. A full cell is read, of 8, 24 or 88 words, and its
+    // mark is taken away once the larger one, of 3, 11 or 33 lines, is in its place.
     for (children, actions) in [
         (2, 9 + 4 + 24 + 3 + 17),
         (3, 9 + 5 + 24 + 4 + 17),

@@ -35,8 +35,8 @@ fn idle() -> Plan {
     }
 }
 
-/// How many steps a floor takes where the layer has the zero key alone: the root's word, and of a leaf the three words of
-/// its key and its node word.
+/// How many steps a floor takes where the layer has the zero key alone: the root's word, and of a leaf the three words
+/// of its key and its node word.
 const FLOOR: u64 = 1 + 3 + 1;
 
 /// How many steps a get takes where its node has one live slot or two: of the floor, the walk, the clock, the bitmap

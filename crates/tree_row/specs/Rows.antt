@@ -1,6 +1,6 @@
 -- The words of the layer in a row, as either twin has them, and what actions make of them.
-use Rattle.std.specs.Prelude.{◌≡◌, ℕ, ◌^◌, ◌<◌, ◌≤◌, ◌&&◌, nat_lt, nat_le, if◌then◌else◌, Bool, true, List, Some, length}
-use Rattle.std.specs.Prelude.{slice_index, slice_set}
+use Rattle.std.specs.Prelude.{◌≡◌, ℕ, ◌^◌, ◌<◌, ◌≤◌, ◌&&◌, nat_lt, nat_le, if◌then◌else◌, Bool, true, List, Some}
+use Rattle.std.specs.Prelude.{length, slice_index, slice_set}
 use Rattle.pm_words.specs.declared.layout.Layout.{Layout}
 use Rattle.pm_words.specs.declared.action.Action.TheVariants.{Load, Store, Drain}
 use Rattle.pm_words.specs.Locations.{Word, Header, Root, Node, Line, Leaf, Cell, HasWord}
@@ -11,7 +11,8 @@ use Rattle.pm_words.specs.Layouts.{IsLayout}
 use Rattle.pm_words.specs.Rows.{acted, evicted, durable_row, row_of}
 use Rattle.layer_map.specs.Layers.{HasFew}
 use Rattle.tree_law.specs.Fresh as tree
-use Rattle.tree_law.specs.Words.{LayerWord, RootWord, LeafWord, CellWord, LayerWords, word_in, layer_of, Keeps, Stored, IsMix}
+use Rattle.tree_law.specs.Words.{LayerWord, RootWord, LeafWord, CellWord, LayerWords, word_in, layer_of, Keeps}
+use Rattle.tree_law.specs.Words.{Stored, IsMix}
 
 -- the name of a word of the layer in an image, and the address of its cached twin
 abbrev pub image_word : LayerWord → Word

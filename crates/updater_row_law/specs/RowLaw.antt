@@ -49,8 +49,8 @@ pub record IsSighted (r : RowTerms) (target : RowTarget) : Type 0 where
   pub within : target.node < r.layout.nodes
   pub free : is_free_word target.version r.generation ≡ true
 
--- What a change of the layer knows, which began on the layer `before`: that had few keys, the zero key among them, which
--- is not taken out, and what a fence of the root's line has in hand is as it is cached.
+-- What a change of the layer knows, which began on the layer `before`: that had few keys, the zero key among them,
+-- which is not taken out, and what a fence of the root's line has in hand is as it is cached.
 pub record IsChanging (r : RowTerms) (words : List ℕ) (e : RowLine) (word : ℕ) (s : Changing) : Type 0 where
   pub before : Layer
   pub few : HasFew r.layout.nodes before
