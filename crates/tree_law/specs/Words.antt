@@ -1,5 +1,5 @@
 -- The words in which a tree is kept, of one row, and what stores and mixes of them make of its layer.
-use Rattle.std.specs.Prelude.{◌≡◌, ◌≢◌, ℕ, ◌+◌, ◌-◌, ◌*◌, ◌/◌, ◌%◌, ◌^◌, ◌≤◌, ◌==◌, ◌&&◌, ◌⊎◌}
+use Rattle.std.specs.Prelude.{◌≡◌, ◌≢◌, ℕ, ◌-◌, ◌/◌, ◌%◌, ◌^◌, ◌≤◌, ◌==◌, ◌&&◌, ◌⊎◌}
 use Rattle.std.specs.Prelude.{nat_lt, nat_le, if◌then◌else◌, Option, Some}
 use Rattle.cat_key.specs.declared.TheConstants.{WORDS}
 use Rattle.radix_nodes.specs.Keys.{KeyWords}
@@ -9,7 +9,7 @@ use Rattle.layer_map.specs.Layers.{Layer, AreSame, changed_at}
 use Rattle.layer_map.specs.Keys.{key_of}
 use Rattle.tree_law.specs.Trees.{Reference, Nothing, Leaf, Cell, Tree, Reaches, IsReached, Room, IsTree, layer_in}
 use Rattle.tree_law.specs.Switches as switches
-use Rattle.tree_law.specs.Switches.{Place, Entry, reference_at}
+use Rattle.tree_law.specs.Switches.{Place, Entry}
 
 pub data LayerWord : Type 0 where
   RootWord : LayerWord

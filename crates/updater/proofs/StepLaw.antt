@@ -40,7 +40,7 @@ use Rattle.smo_log.specs.declared.read.ReadLine.{ReadLine}
 use Rattle.smo_log.specs.LogLines.{numbered_address}
 use Rattle.smo_log.specs.Reads.{read_asks, read_turned, seen_in}
 use Rattle.updater_row_law.specs.Columns.{RowTerms}
-use Rattle.updater_row_law.specs.RowStages.{RowLine, line_read, RowStage, Resting, Between, Reads, Lands, HasTarget, Changes, Stamps, Clears, Sweeps, Gone, HasStamp, IsUnworn, Frees, Counts, after_line as line_done, after_node as node_done, after_change as change_done}
+use Rattle.updater_row_law.specs.RowStages.{line_read, RowStage, Resting, Between, Reads, Lands, HasTarget, Changes, Stamps, Clears, Sweeps, Gone, HasStamp, IsUnworn, Frees, Counts, after_line as line_done, after_node as node_done, after_change as change_done}
 use Rattle.updater_row_law.specs.RowStages as rows
 use Rattle.updater_row_law.specs.RowSteps.{RowStep, line_at}
 use Rattle.updater_row_law.specs.RowSteps as steps
