@@ -216,8 +216,9 @@ impl Walk {
 
     /// Does what it asks for until it has its answer, with nothing between. `steps` counts the events.
     pub fn run<L: Ledger>(&mut self, memory: &mut Memory, steps: &mut Steps<L>) -> Walked
-        requires { MayGo walk_asks walk_turned walk_takes memory.old.layout memory.old.words self.old }
-        ensures { Bursts walk_asks walk_turned memory.old memory.new self.old (Done result) steps.old steps.new }
+        requires { MayGo walk_asks walk_turned walk_left walk_takes memory.old.layout memory.old.words self.old }
+        ensures { Bursts walk_asks walk_turned walk_left memory.old memory.new self.old (Done result) steps.old
+            steps.new }
     {
         'turns: loop {
             let got = memory.act(self.action(), steps);

@@ -30,3 +30,8 @@ pub mod PartBounds
 pub mod PartListing
 pub mod Rechecks
 pub mod FullSplits
+pub mod Bursting
+pub mod CallBursts
+pub mod PutBursts
+pub mod DelBursts
+pub mod RunningBursts

@@ -124,7 +124,7 @@ floor_ends_within call at floor x node is here fits ends_at =
     subst (FloorAfter call.view.layout call.name (floor_left floor)) ends_at (floor_after call floor x (subst (IsLookupAt call) is here) fits)
 
 -- the walk goes on, or has ended
-walk_fewer_by : (call : Call) (walk : Walk) (turn : Turn Walk Walked) → GoesBelow {A = Walked} walk_left (walk_left walk) turn
+pub walk_fewer_by : (call : Call) (walk : Walk) (turn : Turn Walk Walked) → GoesBelow {A = Walked} walk_left (walk_left walk) turn
     → GoesBelow {A = Looked} lookup_left (walk_left walk + (3 * call.view.layout.slots + 13)) (walked_on call turn)
 walk_fewer_by call walk (Go next) fewer = omega arith
 walk_fewer_by call walk (Done (walked.Again why)) fewer = tt

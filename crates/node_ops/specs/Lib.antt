@@ -18,3 +18,4 @@ pub mod Endings
 pub mod Landings
 pub mod Costs
 pub mod Laws
+pub mod Bursts

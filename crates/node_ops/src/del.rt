@@ -10,8 +10,9 @@ use crate::single_del::{CountedDel, SingleDel, SingleDelDone};
 use call_stages::{Once, Placed, View};
 use cat_history::{Change, NameOp};
 use cat_key::Name;
-use pm_words::{Action, Machine, Turn};
+use pm_words::{Action, Machine, Memory, Steps, Turn};
 use split_merge::{Merge, Merged};
+use std::sync::ledger::Ledger;
 
 /// A delete: it takes a name out of its node, and answers what the name had.
 #[derive(Clone, Copy)]
@@ -167,8 +168,9 @@ impl Machine for Del {
 
 impl Del {
     ghost use Rattle.pm_words.specs.Turns.{GoesBelow};
-    ghost use Rattle.pm_words.specs.Turns.{AdvancesTo};
-    ghost use Rattle.node_ops.specs.DelSteps.{del_left, del_takes, del_turned};
+    ghost use Rattle.pm_words.specs.Turns.{AdvancesTo, turn_of};
+    ghost use Rattle.machine_runs.specs.Runs.{AddsNothing, Bursts, MayGo};
+    ghost use Rattle.node_ops.specs.DelSteps.{del_asks, del_left, del_takes, del_turned};
 
     /// Tells it in place the number that its action gave. It goes on, or is done where there is an answer.
     pub(crate) fn advance(&mut self, got: u64) -> Option<Once<Placed>>
@@ -194,6 +196,31 @@ impl Del {
                 let (old, place, hops) = (*old, *place, call.hops);
                 merges(merge, got)?;
                 Some(Once::Done(Placed { old, place, hops }))
+            }
+        }
+    }
+
+    /// Does what it asks for, and goes on so as long as one part of it does, with nothing between. It goes on, or is
+    /// done where there is an answer. `steps` counts the events.
+    pub(crate) fn burst<L: Ledger>(
+        &mut self,
+        memory: &mut Memory,
+        steps: &mut Steps<L>,
+    ) -> Option<Once<Placed>>
+        requires may { MayGo del_asks del_turned del_left del_takes memory.old.layout memory.old.words self.old }
+        requires adds { AddsNothing (del_asks self.old) }
+        ensures { Bursts del_asks del_turned del_left memory.old memory.new self.old (turn_of self.new result) steps.old
+            steps.new }
+    {
+        let Del::Single(single) = self else {
+            let got = memory.act(self.action(), steps);
+            return self.advance(got);
+        };
+        match single.burst(memory, steps)? {
+            SingleDelDone::Answered(answer) => Some(answer),
+            SingleDelDone::Counted(counted) => {
+                self.merges(counted);
+                None
             }
         }
     }

@@ -10,7 +10,8 @@ use crate::lookup::{Hit, Hold};
 use cat_key::WORDS;
 use data_node::{with_live, with_print, without_live};
 use pm_words::offsets::node;
-use pm_words::{Action, Fence, Machine, Turn, line_of};
+use pm_words::{Action, Fence, Machine, Memory, Steps, Turn, line_of};
+use std::sync::ledger::Ledger;
 
 /// Writes the call's name and value into a clear slot, with its fingerprint, and makes these durable. Then it stores
 /// the bitmap, once: the slot is live there, and the one that had the name before is clear. So the node shows the old
@@ -86,8 +87,10 @@ impl Fill {
     ghost use Rattle.std.specs.Prelude.{◌≡◌, ◌<◌, IfSome};
     ghost use Rattle.pm_words.specs.Turns.{GoesBelow};
     ghost use Rattle.data_node.specs.Bits.{printed};
+    ghost use Rattle.pm_words.specs.declared.machine.Turn.TheVariants.{Done};
+    ghost use Rattle.machine_runs.specs.Runs.{Bursts, MayGo};
     ghost use Rattle.node_ops.specs.FillSteps.{FillTurns, fill_takes, fill_turned, fill_left, fill_word, bitmap_after};
-    ghost use Rattle.node_ops.specs.FillSteps.{filled};
+    ghost use Rattle.node_ops.specs.FillSteps.{fill_asks, filled};
 
     /// Tells it in place the number that its action gave, and answers whether it is done.
     pub(crate) fn advance(&mut self, got: u64) -> bool
@@ -123,6 +126,20 @@ impl Fill {
             FillAt::Bitmap => return true,
         }
         false
+    }
+
+    /// Does what it asks for until it is done, with nothing between.
+    pub(crate) fn run<L: Ledger>(&mut self, memory: &mut Memory, steps: &mut Steps<L>)
+        requires { MayGo fill_asks fill_turned fill_left fill_takes memory.old.layout memory.old.words self.old }
+        ensures { Bursts fill_asks fill_turned fill_left memory.old memory.new self.old (Done (filled self.new))
+            steps.old steps.new }
+    {
+        'turns: loop {
+            let got = memory.act(self.action(), steps);
+            if self.advance(got) {
+                return;
+            }
+        }
     }
 
     /// What is left to do once it is done.

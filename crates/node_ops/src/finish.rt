@@ -9,7 +9,8 @@ use call_stages::{Once, Placed};
 use cat_history::{Change, NameOp};
 use pm_words::offsets::node;
 use pm_words::offsets::shared::CLOCK;
-use pm_words::{Action, Fence, Machine, Turn};
+use pm_words::{Action, Fence, Machine, Memory, Steps, Turn};
+use std::sync::ledger::Ledger;
 use version_lock::freed_of;
 
 /// The end of a write whose store is made: it makes the line of that store durable, takes its place from the clock, and
@@ -70,10 +71,11 @@ impl Machine for Finish {
 impl Finish {
     ghost use Rattle.std.specs.Prelude.{◌≡◌};
     ghost use Rattle.pm_words.specs.Turns.{GoesBelow};
-    ghost use Rattle.pm_words.specs.Turns.{AdvancesTo};
+    ghost use Rattle.pm_words.specs.Turns.{AdvancesTo, turn_of};
+    ghost use Rattle.machine_runs.specs.Runs.{AddsNothing, Bursts, MayGo};
     ghost use Rattle.call_stages.specs.Stages.{counted, placed_in};
     ghost use Rattle.node_ops.specs.Calls.{IsCall, name_in};
-    ghost use Rattle.node_ops.specs.FinishSteps.{IsFinish, finish_takes, finish_turned, finish_left};
+    ghost use Rattle.node_ops.specs.FinishSteps.{IsFinish, finish_asks, finish_takes, finish_turned, finish_left};
     ghost use Rattle.node_ops.specs.CallStages.{change_to, finish_stage};
     ghost use Rattle.node_ops.specs.Asked.{op_of_finish};
 
@@ -100,6 +102,29 @@ impl Finish {
                 place: *place,
                 hops: self.call.hops,
             })),
+        }
+    }
+
+    /// Makes the line durable, or gives the node back, with nothing between: it stops before it is counted.
+    pub(crate) fn burst<L: Ledger>(
+        &mut self,
+        memory: &mut Memory,
+        steps: &mut Steps<L>,
+    ) -> Option<Once<Placed>>
+        requires may { MayGo finish_asks finish_turned finish_left finish_takes memory.now.layout memory.now.words
+            self.now }
+        requires adds { AddsNothing (finish_asks self.now) }
+        ensures { Bursts finish_asks finish_turned finish_left memory.entry.now memory.exit.now self.entry.now
+            (turn_of self.exit.now result) steps.entry.now steps.exit.now }
+    {
+        'turns: loop {
+            let got = memory.act(self.action(), steps);
+            if let Some(answer) = self.advance(got) {
+                return Some(answer);
+            }
+            let FinishAt::Fence { .. } = &self.at else {
+                return None;
+            };
         }
     }
 

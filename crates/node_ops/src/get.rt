@@ -8,7 +8,8 @@ use crate::lookup::{Hit, Hold, Looked, Lookup};
 use call_stages::{Once, Placed, View};
 use cat_key::Name;
 use pm_words::offsets::node;
-use pm_words::{Action, Again, Machine, Turn};
+use pm_words::{Action, Again, Machine, Memory, Steps, Turn};
+use std::sync::ledger::Ledger;
 
 /// A get: what a name has, at the clock that was loaded between two loads of its node's version word.
 #[derive(Clone, Copy)]
@@ -101,9 +102,10 @@ impl Machine for Get {
 impl Get {
     ghost use Rattle.std.specs.Prelude.{◌≡◌};
     ghost use Rattle.pm_words.specs.Turns.{GoesBelow};
-    ghost use Rattle.pm_words.specs.Turns.{AdvancesTo};
+    ghost use Rattle.pm_words.specs.Turns.{AdvancesTo, turn_of};
+    ghost use Rattle.machine_runs.specs.Runs.{Bursts, MayGo};
     ghost use Rattle.node_ops.specs.LookupSteps.{lookup_turned};
-    ghost use Rattle.node_ops.specs.GetSteps.{get_left, get_looked, get_takes, get_turned};
+    ghost use Rattle.node_ops.specs.GetSteps.{get_asks, get_left, get_looked, get_takes, get_turned};
 
     /// Tells it in place the number that its action gave. It goes on, or is done where there is an answer.
     pub(crate) fn advance(&mut self, got: u64) -> Option<Once<Placed>>
@@ -127,6 +129,33 @@ impl Get {
                 })
             }),
         }
+    }
+
+    /// Does what it asks for, and goes on so as long as one part of it does, with nothing between. It goes on, or is
+    /// done where there is an answer. `steps` counts the events.
+    pub(crate) fn burst<L: Ledger>(
+        &mut self,
+        memory: &mut Memory,
+        steps: &mut Steps<L>,
+    ) -> Option<Once<Placed>>
+        requires { MayGo get_asks get_turned get_left get_takes memory.old.layout memory.old.words self.old }
+        ensures { Bursts get_asks get_turned get_left memory.old memory.new self.old (turn_of self.new result) steps.old
+            steps.new }
+    {
+        let Get::Looking { lookup } = self else {
+            let got = memory.act(self.action(), steps);
+            return self.advance(got);
+        };
+        let found = match lookup.burst(memory, steps)? {
+            Looked::Early(answer) => return Some(answer),
+            Looked::Found(found) => found,
+        };
+        *self = Get::Checking {
+            call: lookup.call,
+            hold: found.hold,
+            old: Hit::value_of(found.hit),
+        };
+        None
     }
 
     /// Where it looks, it has one number more, and once it has looked it checks.

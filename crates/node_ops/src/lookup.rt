@@ -23,7 +23,8 @@ use data_list::{Sighting, Target, Walk, Walked};
 use data_node::{PRINT_WORDS, candidates, lowest_live, without_live};
 use pm_words::offsets::node;
 use pm_words::offsets::shared::CLOCK;
-use pm_words::{Action, Again, Machine, Turn};
+use pm_words::{Action, Again, Machine, Memory, Steps, Turn};
+use std::sync::ledger::Ledger;
 use tree_floor::Floor;
 use version_lock::{freed_of, locked_of};
 
@@ -194,7 +195,9 @@ impl Lookup {
     ghost use Rattle.node_ops.specs.Calls.{IsCall};
     ghost use Rattle.node_ops.specs.LookupSteps.{IsLookup, starts, floored, walked_on, came_to, tried_lock, saw_clock};
     ghost use Rattle.node_ops.specs.LookupSteps.{saw_prints, saw_directory, saw_name, next_candidate, goes_to, finds};
-    ghost use Rattle.node_ops.specs.LookupSteps.{lookup_left, lookup_takes, lookup_turned};
+    ghost use Rattle.node_ops.specs.LookupSteps.{lookup_asks, lookup_left, lookup_takes, lookup_turned};
+    ghost use Rattle.machine_runs.specs.Runs.{MayGo};
+    ghost use Rattle.node_ops.specs.Bursts.{LookupBursts};
 
     pub(crate) fn new(call: Call) -> Lookup
         requires { IsCall call }
@@ -242,6 +245,44 @@ impl Lookup {
             LookupAt::Prints { .. } => self.saw_prints(got),
             LookupAt::Name { .. } => self.saw_name(got),
             LookupAt::Value { .. } => self.saw_value(got),
+        }
+    }
+
+    /// Does what it asks for, and goes on so as long as one part of it does, with nothing between: as its floor, as its
+    /// walk, or with all that is left. It goes on, or is done where there is an answer. `steps` counts the events.
+    pub(crate) fn burst<L: Ledger>(
+        &mut self,
+        memory: &mut Memory,
+        steps: &mut Steps<L>,
+    ) -> Option<Looked>
+        requires { MayGo lookup_asks lookup_turned lookup_left lookup_takes memory.old.layout memory.old.words
+            self.old }
+        ensures { LookupBursts memory.old memory.new self.old self.new result steps.old steps.new }
+    {
+        match &mut self.at {
+            LookupAt::Floor { floor } => {
+                let node = floor.run(memory, steps);
+                self.floored(node)
+            }
+            LookupAt::Walk { walk } => match walk.run(memory, steps) {
+                Walked::Again(why) => Some(Looked::Early(Once::Again(why))),
+                Walked::Target(target) => self.came_to(target),
+            },
+            _ => Some(self.run(memory, steps)),
+        }
+    }
+
+    /// Does what it asks for until it has its answer, with nothing between.
+    fn run<L: Ledger>(&mut self, memory: &mut Memory, steps: &mut Steps<L>) -> Looked
+        requires { MayGo lookup_asks lookup_turned lookup_left lookup_takes memory.old.layout memory.old.words
+            self.old }
+        ensures { LookupBursts memory.old memory.new self.old self.new (Some result) steps.old steps.new }
+    {
+        'turns: loop {
+            let got = memory.act(self.action(), steps);
+            if let Some(looked) = self.advance(got) {
+                return looked;
+            }
         }
     }
 

@@ -9,8 +9,9 @@ use crate::single_put::{FullNode, SinglePut, SinglePutDone};
 use call_stages::{Once, Placed, View};
 use cat_history::{Change, NameOp};
 use cat_key::Name;
-use pm_words::{Action, Again, Machine, Turn};
+use pm_words::{Action, Again, Machine, Memory, Steps, Turn};
 use split_merge::{Split, SplitDone};
+use std::sync::ledger::Ledger;
 
 /// A put: it gives a name a value, and answers what the name had.
 #[derive(Clone, Copy)]
@@ -182,8 +183,9 @@ impl Machine for Put {
 
 impl Put {
     ghost use Rattle.pm_words.specs.Turns.{GoesBelow};
-    ghost use Rattle.pm_words.specs.Turns.{AdvancesTo};
-    ghost use Rattle.node_ops.specs.PutSteps.{put_left, put_takes, put_turned};
+    ghost use Rattle.pm_words.specs.Turns.{AdvancesTo, turn_of};
+    ghost use Rattle.machine_runs.specs.Runs.{AddsNothing, Bursts, MayGo};
+    ghost use Rattle.node_ops.specs.PutSteps.{put_asks, put_left, put_takes, put_turned};
 
     /// Tells it in place the number that its action gave. It goes on, or is done where there is an answer.
     pub(crate) fn advance(&mut self, got: u64) -> Option<Once<Placed>>
@@ -202,6 +204,31 @@ impl Put {
             Put::Splitting { call, split, .. } => {
                 let done = split.advance(got)?;
                 Some(Once::Again(Put::split_done(call.node, done)))
+            }
+        }
+    }
+
+    /// Does what it asks for, and goes on so as long as one part of it does, with nothing between. It goes on, or is
+    /// done where there is an answer. `steps` counts the events.
+    pub(crate) fn burst<L: Ledger>(
+        &mut self,
+        memory: &mut Memory,
+        steps: &mut Steps<L>,
+    ) -> Option<Once<Placed>>
+        requires may { MayGo put_asks put_turned put_left put_takes memory.old.layout memory.old.words self.old }
+        requires adds { AddsNothing (put_asks self.old) }
+        ensures { Bursts put_asks put_turned put_left memory.old memory.new self.old (turn_of self.new result) steps.old
+            steps.new }
+    {
+        let Put::Single(single) = self else {
+            let got = memory.act(self.action(), steps);
+            return self.advance(got);
+        };
+        match single.burst(memory, steps)? {
+            SinglePutDone::Answered(answer) => Some(answer),
+            SinglePutDone::Full(full) => {
+                self.splits(full);
+                None
             }
         }
     }

@@ -9,7 +9,8 @@ use crate::put::Put;
 use call_stages::{Once, Placed, View};
 use cat_history::{Change, NameOp};
 use cat_key::Name;
-use pm_words::{Action, Machine, Turn};
+use pm_words::{Action, Machine, Memory, Steps, Turn};
+use std::sync::ledger::Ledger;
 
 /// Any call in flight.
 #[derive(Clone, Copy)]
@@ -113,10 +114,11 @@ impl Running {
     ghost use Rattle.std.specs.Prelude.{◌≡◌, ◌↔◌, IsSome, IsTrue};
     ghost use Rattle.call_stages.specs.Stages.{counted, placed_in};
     ghost use Rattle.pm_words.specs.Turns.{GoesBelow};
-    ghost use Rattle.pm_words.specs.Turns.{AdvancesTo};
+    ghost use Rattle.pm_words.specs.Turns.{AdvancesTo, turn_of};
+    ghost use Rattle.machine_runs.specs.Runs.{AddsNothing, Bursts, MayGo};
     ghost use Rattle.node_ops.specs.PartSteps.{part_left, part_takes, part_turned};
     ghost use Rattle.node_ops.specs.RunningSteps.{IsRunning, running_call, running_left, running_takes, running_turned};
-    ghost use Rattle.node_ops.specs.RunningSteps.{count_in, listed_in, wrapped_part};
+    ghost use Rattle.node_ops.specs.RunningSteps.{count_in, listed_in, running_asks, wrapped_part};
     ghost use Rattle.node_ops.specs.CallStages.{stage_of};
     ghost use Rattle.node_ops.specs.Asked.{op_in};
 
@@ -131,6 +133,30 @@ impl Running {
             Running::Putting(put) => put.advance(got),
             Running::Deleting(del) => del.advance(got),
             Running::Parting(part) => Running::advance_part(part, got),
+        }
+    }
+
+    /// Does what it asks for, and goes on so as long as one part of it does, with nothing between. It goes on, or is
+    /// done where there is an answer. `steps` counts the events.
+    pub fn burst<L: Ledger>(
+        &mut self,
+        memory: &mut Memory,
+        steps: &mut Steps<L>,
+    ) -> Option<Once<Placed>>
+        requires may { MayGo running_asks running_turned running_left running_takes memory.old.layout memory.old.words
+            self.old }
+        requires adds { AddsNothing (running_asks self.old) }
+        ensures { Bursts running_asks running_turned running_left memory.old memory.new self.old
+            (turn_of self.new result) steps.old steps.new }
+    {
+        match self {
+            Running::Getting(get) => get.burst(memory, steps),
+            Running::Putting(put) => put.burst(memory, steps),
+            Running::Deleting(del) => del.burst(memory, steps),
+            Running::Parting(_) => {
+                let got = memory.act(self.action(), steps);
+                self.advance(got)
+            }
         }
     }
 

@@ -16,8 +16,9 @@ use call_stages::{Once, Placed};
 use cat_history::{Change, NameOp};
 use data_node::{live_count, without_live};
 use pm_words::offsets::node;
-use pm_words::{Action, Again, Fence, Machine, Turn, line_of};
+use pm_words::{Action, Again, Fence, Machine, Memory, Steps, Turn, line_of};
 use smo_log::{Take, Taken};
+use std::sync::ledger::Ledger;
 use version_lock::freed_of;
 
 /// A delete that works on one node.
@@ -83,8 +84,10 @@ impl SingleDel {
     ghost use Rattle.node_ops.specs.declared.del.Del.TheVariants as Del;
     ghost use Rattle.node_ops.specs.FinishSteps.{finish_turned};
     ghost use Rattle.node_ops.specs.LookupSteps.{lookup_turned};
-    ghost use Rattle.node_ops.specs.DelSteps.{SingleDelTurns, del_finished, del_left, del_looked, del_takes};
+    ghost use Rattle.machine_runs.specs.Runs.{AddsNothing, MayGo};
+    ghost use Rattle.node_ops.specs.DelSteps.{SingleDelTurns, del_asks, del_finished, del_left, del_looked, del_takes};
     ghost use Rattle.node_ops.specs.DelSteps.{del_turned};
+    ghost use Rattle.node_ops.specs.Bursts.{SingleDelBursts};
 
     /// Tells it in place the number that its action gave. It goes on, or its work on the node is done.
     pub(crate) fn advance(&mut self, got: u64) -> Option<SingleDelDone>
@@ -116,6 +119,38 @@ impl SingleDel {
         }
     }
 
+    /// Does what it asks for, and goes on so as long as one part of it does, with nothing between. It goes on, or its
+    /// work on the node is done. `steps` counts the events.
+    pub(crate) fn burst<L: Ledger>(
+        &mut self,
+        memory: &mut Memory,
+        steps: &mut Steps<L>,
+    ) -> Option<SingleDelDone>
+        requires may { MayGo del_asks del_turned del_left del_takes memory.old.layout memory.old.words
+            (Del.Single self.old) }
+        requires adds { AddsNothing (del_asks (Del.Single self.old)) }
+        ensures { SingleDelBursts memory.old memory.new self.old self.new result steps.old steps.new }
+    {
+        match self {
+            SingleDel::Looking { lookup } => match lookup.burst(memory, steps)? {
+                Looked::Early(answer) => Some(SingleDelDone::Answered(answer)),
+                Looked::Found(found) => {
+                    let call = lookup.call;
+                    *self = SingleDel::found(call, found);
+                    None
+                }
+            },
+            SingleDel::Finishing { finish, line } => {
+                let line = *line;
+                SingleDel::ends(finish, line, memory, steps)
+            }
+            _ => {
+                let got = memory.act(self.action(), steps);
+                self.advance(got)
+            }
+        }
+    }
+
     /// Where it looks, it has one number more, and once it has looked it goes on with what it found.
     fn looked(&mut self, got: u64) -> Option<SingleDelDone>
         requires { del_takes (Del.Single self.old) got }
@@ -132,6 +167,31 @@ impl SingleDel {
             Looked::Found(found) => {
                 *self = SingleDel::found(lookup.call, found);
                 None
+            }
+        }
+    }
+
+    /// Makes the end of a write with nothing between. With a line it makes one turn, which may end with its place.
+    fn ends<L: Ledger>(
+        finish: &mut Finish,
+        line: Option<u64>,
+        memory: &mut Memory,
+        steps: &mut Steps<L>,
+    ) -> Option<SingleDelDone>
+        requires may { MayGo del_asks del_turned del_left del_takes memory.now.layout memory.now.words
+            (Del.Single (SingleDel.Finishing finish.now line)) }
+        requires adds { AddsNothing (del_asks (Del.Single (SingleDel.Finishing finish.now line))) }
+        ensures { SingleDelBursts memory.entry.now memory.exit.now (SingleDel.Finishing finish.entry.now line)
+            (SingleDel.Finishing finish.exit.now line) result steps.entry.now steps.exit.now }
+    {
+        match line {
+            None => {
+                let answer = finish.burst(memory, steps)?;
+                Some(SingleDelDone::Answered(answer))
+            }
+            Some(_) => {
+                let got = memory.act(finish.action(), steps);
+                SingleDel::finishes(finish, line, got)
             }
         }
     }

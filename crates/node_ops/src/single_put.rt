@@ -15,7 +15,8 @@ use call_stages::{Once, Placed};
 use cat_history::{Change, NameOp};
 use cat_key::WORDS;
 use data_node::clear_slot;
-use pm_words::{Action, Fence, Machine, Turn, line_of};
+use pm_words::{Action, Fence, Machine, Memory, Steps, Turn, line_of};
+use std::sync::ledger::Ledger;
 
 /// A put that works on one node.
 #[derive(Clone, Copy)]
@@ -65,8 +66,10 @@ impl SinglePut {
     ghost use Rattle.node_ops.specs.Calls.{IsCall};
     ghost use Rattle.node_ops.specs.LookupSteps.{IsFoundBy, lookup_turned};
     ghost use Rattle.node_ops.specs.FillSteps.{filled};
-    ghost use Rattle.node_ops.specs.PutSteps.{IsPut, SinglePutTurns, put_found, put_left, put_looked, put_takes};
-    ghost use Rattle.node_ops.specs.PutSteps.{put_turned, replaced};
+    ghost use Rattle.machine_runs.specs.Runs.{AddsNothing, MayGo};
+    ghost use Rattle.node_ops.specs.PutSteps.{IsPut, SinglePutTurns, put_asks, put_found, put_left, put_looked};
+    ghost use Rattle.node_ops.specs.PutSteps.{put_takes, put_turned, replaced};
+    ghost use Rattle.node_ops.specs.Bursts.{SinglePutBursts};
 
     /// Tells it in place the number that its action gave. It goes on, or its work on the node is done.
     pub(crate) fn advance(&mut self, got: u64) -> Option<SinglePutDone>
@@ -88,6 +91,42 @@ impl SinglePut {
             }
             SinglePut::Finishing { finish } => {
                 let answer = finish.advance(got)?;
+                Some(SinglePutDone::Answered(answer))
+            }
+        }
+    }
+
+    /// Does what it asks for, and goes on so as long as one part of it does, with nothing between. It goes on, or its
+    /// work on the node is done. `steps` counts the events.
+    pub(crate) fn burst<L: Ledger>(
+        &mut self,
+        memory: &mut Memory,
+        steps: &mut Steps<L>,
+    ) -> Option<SinglePutDone>
+        requires may { MayGo put_asks put_turned put_left put_takes memory.old.layout memory.old.words
+            (Put.Single self.old) }
+        requires adds { AddsNothing (put_asks (Put.Single self.old)) }
+        ensures { SinglePutBursts memory.old memory.new self.old self.new result steps.old steps.new }
+    {
+        match self {
+            SinglePut::Looking { lookup, value } => match lookup.burst(memory, steps)? {
+                Looked::Early(answer) => Some(SinglePutDone::Answered(answer)),
+                Looked::Found(found) => {
+                    let (call, value) = (lookup.call, *value);
+                    self.found(call, found, value)
+                }
+            },
+            SinglePut::Filling { fill } => {
+                fill.run(memory, steps);
+                self.filled();
+                None
+            }
+            SinglePut::Replacing { .. } => {
+                let got = memory.act(self.action(), steps);
+                self.advance(got)
+            }
+            SinglePut::Finishing { finish } => {
+                let answer = finish.burst(memory, steps)?;
                 Some(SinglePutDone::Answered(answer))
             }
         }

@@ -113,9 +113,9 @@ impl Floor {
     ghost use Rattle.pm_words.specs.Turns.{AdvancesTo};
     ghost use Rattle.pm_words.specs.declared.machine.Turn.TheVariants.{Done};
     ghost use Rattle.machine_runs.specs.Runs.{Bursts, MayGo};
-    ghost use Rattle.tree_floor.specs.Floors.{IsFloor, IsCellOf, floor_asks, floor_starts, floor_takes, floor_turned};
+    ghost use Rattle.tree_floor.specs.Floors.{IsFloor, IsCellOf, floor_asks, floor_left, floor_starts, floor_takes};
     ghost use Rattle.tree_floor.specs.Floors.{goes_to, lands, back, enters, scans, has_key, has_key_word, has_depth};
-    ghost use Rattle.tree_floor.specs.Floors.{has_prefix, has_prefix_word, has_scanned};
+    ghost use Rattle.tree_floor.specs.Floors.{floor_turned, has_prefix, has_prefix_word, has_scanned};
 
     /// The floor of this key.
     pub fn new(layout: Layout, key: Key) -> Floor
@@ -169,8 +169,9 @@ impl Floor {
 
     /// Does what it asks for until it has its answer, with nothing between. `steps` counts the events.
     pub fn run<L: Ledger>(&mut self, memory: &mut Memory, steps: &mut Steps<L>) -> u64
-        requires { MayGo floor_asks floor_turned floor_takes memory.old.layout memory.old.words self.old }
-        ensures { Bursts floor_asks floor_turned memory.old memory.new self.old (Done result) steps.old steps.new }
+        requires { MayGo floor_asks floor_turned floor_left floor_takes memory.old.layout memory.old.words self.old }
+        ensures { Bursts floor_asks floor_turned floor_left memory.old memory.new self.old (Done result) steps.old
+            steps.new }
     {
         'turns: loop {
             let got = memory.act(self.action(), steps);

@@ -1,6 +1,6 @@
-use Rattle.std.proofs.Common.{◌≡◌, ℕ, sym, refl, ap, ◌∙◌, subst}
-use Rattle.pm_words.specs.Turns.{GoesBelow, turn_of}
-use Rattle.machine_runs.proofs.Running.{run_begins, run_goes, run_ends, run_may}
+use Rattle.std.proofs.Common.{◌∙◌, ap, refl}
+use Rattle.pm_words.specs.Turns.{turn_of}
+use Rattle.machine_runs.proofs.Running.{run_begins, run_can, run_ends, run_goes, run_takes, turn_fewer}
 use Rattle.tree_floor.specs.Floors.{floor_left, floor_takes}
 use Rattle.tree_floor.proofs.FloorStays.{floor_fewer}
 use Rattle.tree_floor.proofs.floor.Floor.run.Goals as goal
@@ -9,26 +9,31 @@ pub turns-init : goal.turns-init
 turns-init g c = run_begins c.args.memory.now c.args.self.now c.args.steps.now
 
 pub action-requires : goal.action-requires
-action-requires g c = (run_may floor_takes c.requires c.turns.invariant refl).1.0
+action-requires g c = (run_takes floor_takes c.requires c.turns.invariant refl refl).0
 
 pub act-got-requires : goal.act-got-requires
-act-got-requires g c = (run_may floor_takes c.requires c.turns.invariant c.action.ensures).0
+act-got-requires g c = run_can floor_takes c.requires c.turns.invariant c.action.ensures
 
 pub advance-requires : goal.advance-requires
-advance-requires g c =
-    subst (floor_takes c.turns.self) (sym c.act-got.ensures.got) (run_may floor_takes c.requires c.turns.invariant c.action.ensures).1
+advance-requires g c = run_takes floor_takes c.requires c.turns.invariant c.action.ensures c.act-got.ensures.got
 
 pub returns-in-Some : goal.returns-in-Some
 returns-in-Some g c =
     run_ends c.turns.invariant tt c.action.ensures c.act-got.ensures.row c.act-got.ensures.got c.act-got.ensures.tick
+    (floor_fewer c.turns.self c.act-got.result
+    (run_takes floor_takes c.requires c.turns.invariant c.action.ensures c.act-got.ensures.got))
     (c.advance.ensures ∙ ap (turn_of c.advance.new.self) c.in-Some.is)
 
 pub turns-smaller : goal.turns-smaller
 turns-smaller g c =
-    subst (GoesBelow {A = ℕ} floor_left (floor_left c.turns.self)) (c.advance.ensures ∙ ap (turn_of c.advance.new.self) c.in_default.is)
-    (floor_fewer c.turns.self c.act-got.result (subst (floor_takes c.turns.self) (sym c.act-got.ensures.got) (run_may floor_takes c.requires c.turns.invariant c.action.ensures).1))
+    turn_fewer floor_left _
+    (floor_fewer c.turns.self c.act-got.result
+    (run_takes floor_takes c.requires c.turns.invariant c.action.ensures c.act-got.ensures.got))
+    (c.advance.ensures ∙ ap (turn_of c.advance.new.self) c.in_default.is)
 
 pub turns-preserved : goal.turns-preserved
 turns-preserved g c =
     run_goes c.turns.invariant tt c.action.ensures c.act-got.ensures.row c.act-got.ensures.got c.act-got.ensures.tick
+    (floor_fewer c.turns.self c.act-got.result
+    (run_takes floor_takes c.requires c.turns.invariant c.action.ensures c.act-got.ensures.got))
     (c.advance.ensures ∙ ap (turn_of c.advance.new.self) c.in_default.is)

@@ -3,7 +3,8 @@ use Rattle.tree_floor.specs.Floors.{floor_asks, floor_turned, floor_left}
 use Rattle.tree_floor.proofs.floor.Floor.run.Given as goal
 
 abbrev pub invariant-turns : goal.invariant-turns
-invariant-turns g l = IsOnRun floor_asks floor_turned l.fn.memory l.memory l.fn.self l.self l.fn.steps l.steps
+invariant-turns g l =
+    IsOnRun floor_asks floor_turned floor_left l.fn.memory l.memory l.fn.self l.self l.fn.steps l.steps
 
 abbrev pub decreases-turns : goal.decreases-turns
 decreases-turns g l = floor_left l.self

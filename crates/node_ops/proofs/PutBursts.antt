@@ -1,0 +1,183 @@
+-- The parts of a put that make several turns one after another, as turns of the whole.
+use Rattle.std.proofs.Common.{◌≡◌, ℕ, ◌+◌, ◌-◌, ◌<◌, true, false, cond, ltb, refl, ap, sym, subst, arith}
+use Rattle.std.specs.Prelude.{Option, Some, None}
+use Rattle.pm_words.specs.Images.{Row}
+use Rattle.pm_words.specs.Turns.{GoesBelow, turn_of}
+use Rattle.pm_words.specs.declared.machine.Turn.{Turn}
+use Rattle.pm_words.specs.declared.machine.Turn.TheVariants.{Go, Done}
+use Rattle.pm_words.specs.declared.fence.Fence.{Fence}
+use Rattle.pm_words.specs.Fences.{fence_next}
+use Rattle.call_stages.specs.declared.once.Once.{Once}
+use Rattle.call_stages.specs.declared.once.Placed.{Placed}
+use Rattle.machine_runs.specs.Runs.{AddsNothing, Holds, Bursts, MayGo}
+use Rattle.machine_runs.proofs.Inside.{part_may, part_bursts}
+use Rattle.node_ops.specs.declared.call.Call.{Call}
+use Rattle.node_ops.specs.declared.lookup.Found.{Found}
+use Rattle.node_ops.specs.declared.lookup.Lookup.{Lookup}
+use Rattle.node_ops.specs.declared.lookup.Looked.{Looked}
+use Rattle.node_ops.specs.declared.lookup.Looked.TheVariants as looked_as
+use Rattle.node_ops.specs.declared.lookup.Hit.{Hit}
+use Rattle.node_ops.specs.declared.fill.Fill.{Fill}
+use Rattle.node_ops.specs.declared.fill.FillAt.{FillAt}
+use Rattle.node_ops.specs.declared.fill.FillAt.TheVariants as fill_at
+use Rattle.node_ops.specs.declared.finish.Finish.{Finish}
+use Rattle.node_ops.specs.declared.finish.FinishAt.{FinishAt}
+use Rattle.node_ops.specs.declared.finish.FinishAt.TheVariants as finish_at
+use Rattle.node_ops.specs.declared.put.Put.{Put}
+use Rattle.node_ops.specs.declared.put.Put.TheVariants.{Single}
+use Rattle.node_ops.specs.declared.single_put.SinglePut.{SinglePut}
+use Rattle.node_ops.specs.declared.single_put.SinglePut.TheVariants.{Looking, Filling, Finishing}
+use Rattle.node_ops.specs.Calls.{IsCall}
+use Rattle.node_ops.specs.LookupSteps.{IsFoundBy, lookup_asks, lookup_turned, lookup_left, lookup_takes}
+use Rattle.node_ops.specs.FillSteps.{filled, fill_asks, fill_turned, fill_left, fill_takes}
+use Rattle.node_ops.specs.FillSteps.{fill_at_left, fill_at_turned, fills_on, print_fenced, slot_fenced}
+use Rattle.node_ops.specs.FinishSteps.{finish_asks, finish_at_asks, finish_turned, finish_left, finish_takes}
+use Rattle.node_ops.specs.PutSteps.{put_asks, put_turned, put_left, put_takes}
+use Rattle.node_ops.specs.PutSteps.{put_filled, put_finished, put_full, put_into, put_looked}
+use Rattle.node_ops.specs.Bursts.{LookupBursts}
+use Rattle.node_ops.proofs.CallBursts.{fence_adds_nothing, looked_call, looked_found, looking_bursts}
+
+-- the end of a write that makes its line durable adds to no word
+pub finish_fence_adds_nothing : (finish : Finish) (line : ℕ) (fence : Fence) → finish.at ≡ finish_at.Fence line fence
+    → AddsNothing (finish_asks finish)
+finish_fence_adds_nothing finish line fence is =
+    subst (λ (a : FinishAt). AddsNothing (finish_at_asks finish a)) (sym is) (fence_adds_nothing _ fence.at)
+
+-- a turn of what a put does leaves the put fewer actions where it leaves that fewer
+put_into_below : (call : Call) (found : Found) (value bound : ℕ) (clear : Option ℕ)
+    → put_left (put_into call found value clear) < bound + 30057
+put_into_below call found value bound (Some slot) = omega arith
+put_into_below call found value bound None = by found.hit
+  where
+    by : (hit : Option Hit) → put_left (put_full call found.hold found.directory.bitmap hit value) < bound + 30057
+    by (Some hit) = omega arith
+    by None = omega arith
+
+put_looked_below : (call : Call) (value bound : ℕ) (turn : Turn Lookup Looked)
+    → GoesBelow {A = Looked} lookup_left bound turn
+    → GoesBelow {A = Once Placed} put_left (bound + 30057) (put_looked call value turn)
+put_looked_below call value bound (Go lookup) below = omega arith
+put_looked_below call value bound (Done (looked_as.Early answer)) below = tt
+put_looked_below call value bound (Done (looked_as.Found found)) below = put_into_below call found value bound _
+
+put_filled_below : (fill : Fill) (at : FillAt) (number : ℕ)
+    → GoesBelow {A = Finish} fill_left (fill_at_left at) (fill_at_turned fill at number)
+    → GoesBelow {A = Once Placed} put_left (fill_at_left at + 18) (put_filled (fill_at_turned fill at number))
+put_filled_below fill (fill_at.Word k) number =
+    elim (ltb (k + 1) 4) as (λ b.
+    GoesBelow {A = Finish} fill_left (38 - k)
+    (cond b (fills_on fill (fill_at.Word (k + 1))) (fills_on fill fill_at.Print))
+    → GoesBelow {A = Once Placed} put_left (38 - k + 18)
+    (put_filled (cond b (fills_on fill (fill_at.Word (k + 1))) (fills_on fill fill_at.Print)))) [
+      | true ↦ λ below. omega arith
+      | false ↦ λ below. omega arith
+    ]
+put_filled_below fill fill_at.Print number = λ below. omega arith
+put_filled_below fill (fill_at.FenceSlot fence) number =
+    elim (fence_next fence number) as (λ o.
+    GoesBelow {A = Finish} fill_left (fill_at_left (fill_at.FenceSlot fence)) (slot_fenced fill o)
+    → GoesBelow {A = Once Placed} put_left (fill_at_left (fill_at.FenceSlot fence) + 18)
+    (put_filled (slot_fenced fill o))) [
+      | Some next ↦ λ below. omega arith
+      | None ↦ λ below. omega arith
+    ]
+put_filled_below fill (fill_at.FencePrint fence) number =
+    elim (fence_next fence number) as (λ o.
+    GoesBelow {A = Finish} fill_left (fill_at_left (fill_at.FencePrint fence)) (print_fenced fill o)
+    → GoesBelow {A = Once Placed} put_left (fill_at_left (fill_at.FencePrint fence) + 18)
+    (put_filled (print_fenced fill o))) [
+      | Some next ↦ λ below. omega arith
+      | None ↦ λ below. omega arith
+    ]
+put_filled_below fill fill_at.Bitmap number = λ below. omega arith
+
+put_finished_below : (bound : ℕ) (turn : Turn Finish (Once Placed))
+    → GoesBelow {A = Once Placed} finish_left bound turn
+    → GoesBelow {A = Once Placed} put_left bound (put_finished turn)
+put_finished_below bound (Go finish) below = below
+put_finished_below bound (Done answer) below = tt
+
+-- a put that looks, that fills a slot, and that finishes
+pub looking_put : (value : ℕ) → Holds lookup_asks lookup_turned lookup_left lookup_takes
+    put_asks put_turned put_left put_takes (λ (l : Lookup). Single (Looking l value))
+looking_put value = record {
+  asked = λ lookup. refl;
+  on = λ lookup next number goes. ap (put_looked lookup.call value) goes;
+  taken = λ lookup number takes. (takes.0.0, takes.1);
+  fewer = λ lookup number takes below.
+      put_looked_below lookup.call value (lookup_left lookup) (lookup_turned lookup number) below;
+}
+
+pub filling_put : Holds fill_asks fill_turned fill_left fill_takes put_asks put_turned put_left put_takes
+    (λ (f : Fill). Single (Filling f))
+filling_put = record {
+  asked = λ fill. refl;
+  on = λ fill next number goes. ap put_filled goes;
+  taken = λ fill number takes. (takes.0, takes.1);
+  fewer = λ fill number takes below. put_filled_below fill fill.at number below;
+}
+
+pub finishing_put : Holds finish_asks finish_turned finish_left finish_takes put_asks put_turned put_left put_takes
+    (λ (f : Finish). Single (Finishing f))
+finishing_put = record {
+  asked = λ finish. refl;
+  on = λ finish next number goes. ap put_finished goes;
+  taken = λ finish number takes. (takes.0, takes.1);
+  fewer = λ finish number takes below.
+      put_finished_below (finish_left finish) (finish_turned finish number) below;
+}
+
+module _ (s : SinglePut) (lookup : Lookup) (value : ℕ) (is : s ≡ Looking lookup value) {old : Row}
+    (may : MayGo put_asks put_turned put_left put_takes old.layout old.words (Single s)) where
+  single_is : Single s ≡ Single (Looking lookup value)
+  single_is = ap (λ (x : SinglePut). Single x) is
+
+  pub put_looking_may : MayGo lookup_asks lookup_turned lookup_left lookup_takes old.layout old.words lookup
+  put_looking_may = part_may (looking_put value) single_is may
+
+  pub put_looked_call : {new : Row} {last : Lookup} {looked : Looked} {begun ended : ℕ}
+      → LookupBursts old new lookup last (Some looked) begun ended → IsCall last.call
+  put_looked_call b = looked_call (looking_put value) single_is may b
+
+  pub put_looked_found : {new : Row} {last : Lookup} {looked : Looked} {begun ended : ℕ} → (found : Found)
+      → LookupBursts old new lookup last (Some looked) begun ended → looked ≡ looked_as.Found found
+      → IsFoundBy last.call.view.layout.slots found
+  put_looked_found found b is_found =
+      looked_found (looking_put value) single_is may (λ l number takes. takes.0.2) found b is_found
+
+  pub put_looking_bursts : {new : Row} {last : Lookup} {looked : Option Looked} {end : Turn Put (Once Placed)}
+      {begun ended : ℕ} → LookupBursts old new lookup last looked begun ended
+      → put_looked last.call value (turn_of last looked) ≡ end
+      → Bursts put_asks put_turned put_left old new (Single s) end begun ended
+  put_looking_bursts b to =
+      looking_bursts (looking_put value) (λ (call : Call). put_looked call value) (λ l number. refl) (λ call l. refl)
+      single_is may b to
+
+pub put_filling_may : (s : SinglePut) (fill : Fill) → s ≡ Filling fill → {old : Row}
+    → MayGo put_asks put_turned put_left put_takes old.layout old.words (Single s)
+    → MayGo fill_asks fill_turned fill_left fill_takes old.layout old.words fill
+put_filling_may s fill is may = part_may filling_put (ap (λ (x : SinglePut). Single x) is) may
+
+pub put_filling_bursts : (s : SinglePut) (fill : Fill) → s ≡ Filling fill → {old new : Row} {begun ended : ℕ}
+    → MayGo put_asks put_turned put_left put_takes old.layout old.words (Single s)
+    → (last : Fill) → Bursts fill_asks fill_turned fill_left old new fill (Done (filled last)) begun ended
+    → Bursts put_asks put_turned put_left old new (Single s) (Go (Single (Finishing (filled last)))) begun ended
+put_filling_bursts s fill is may last b =
+    part_bursts filling_put (ap (λ (x : SinglePut). Single x) is) may b (ap put_filled (sym b.ends))
+
+pub put_finishing_may : (s : SinglePut) (finish : Finish) → s ≡ Finishing finish → {old : Row}
+    → MayGo put_asks put_turned put_left put_takes old.layout old.words (Single s)
+    → MayGo finish_asks finish_turned finish_left finish_takes old.layout old.words finish
+put_finishing_may s finish is may = part_may finishing_put (ap (λ (x : SinglePut). Single x) is) may
+
+pub put_finishing_bursts : (s : SinglePut) (finish : Finish) → s ≡ Finishing finish → {old new : Row} {begun ended : ℕ}
+    → MayGo put_asks put_turned put_left put_takes old.layout old.words (Single s)
+    → (last : Finish) (answer : Option (Once Placed))
+    → Bursts finish_asks finish_turned finish_left old new finish (turn_of last answer) begun ended
+    → Bursts put_asks put_turned put_left old new (Single s) (put_finished (turn_of last answer)) begun ended
+put_finishing_bursts s finish is may last answer b =
+    part_bursts finishing_put (ap (λ (x : SinglePut). Single x) is) may b (ap put_finished (sym b.ends))
+
+pub put_finishing_adds : (s : SinglePut) (finish : Finish) → s ≡ Finishing finish
+    → AddsNothing (put_asks (Single s)) → AddsNothing (finish_asks finish)
+put_finishing_adds s finish is = subst (λ (x : SinglePut). AddsNothing (put_asks (Single x))) is

@@ -1,0 +1,112 @@
+use Rattle.std.proofs.Common.{sym, refl, ap, subst}
+use Rattle.std.specs.Prelude.{Some, None}
+use Rattle.pm_words.specs.declared.machine.Turn.TheVariants.{Go, Done}
+use Rattle.machine_runs.proofs.Running.{run_begins, run_can, run_ends, run_takes}
+use Rattle.node_ops.specs.declared.lookup.Looked.{Looked}
+use Rattle.node_ops.specs.declared.put.Put.TheVariants.{Single}
+use Rattle.node_ops.specs.declared.single_put.SinglePut.{SinglePut}
+use Rattle.node_ops.specs.declared.single_put.SinglePut.TheVariants.{Looking, Finishing}
+use Rattle.node_ops.specs.FillSteps.{filled}
+use Rattle.node_ops.specs.PutSteps.{SinglePutTurns, put_found, put_looked, put_takes, put_turned}
+use Rattle.node_ops.proofs.PutBursts.{put_looking_may, put_looked_call, put_looked_found, put_looking_bursts}
+use Rattle.node_ops.proofs.PutBursts.{put_filling_may, put_filling_bursts, put_finishing_may}
+use Rattle.node_ops.proofs.PutBursts.{put_finishing_bursts}
+use Rattle.node_ops.proofs.single_put.SinglePut.burst.Goals as goal
+
+pub burst-requires : goal.burst-requires
+burst-requires g c =
+    put_looking_may c.args.self.now c.in-Looking.lookup c.in-Looking.value c.in-Looking.is {old = c.args.memory.now}
+    c.requires.may
+
+pub found-requires-clause-call : goal.found-requires-clause-call
+found-requires-clause-call g c =
+    put_looked_call c.args.self.now c.in-Looking.lookup c.in-Looking.value c.in-Looking.is {old = c.args.memory.now}
+    c.requires.may c.in_ok-answer-in-Looking.ensures
+
+pub found-requires-clause-found : goal.found-requires-clause-found
+found-requires-clause-found g c =
+    put_looked_found c.args.self.now c.in-Looking.lookup c.in-Looking.value c.in-Looking.is {old = c.args.memory.now}
+    c.requires.may c.in-Found.found c.in_ok-answer-in-Looking.ensures c.in-Found.is
+
+pub returns-in_err-answer-in-Looking : goal.returns-in_err-answer-in-Looking
+returns-in_err-answer-in-Looking g c = record {
+  end = Go (Single (Looking c.burst.new.self c.in-Looking.value));
+  burst = put_looking_bursts c.args.self.now c.in-Looking.lookup c.in-Looking.value c.in-Looking.is c.requires.may
+      c.in_err-answer-in-Looking.ensures refl;
+  turns = subst (SinglePutTurns (Go (Single (Looking c.burst.new.self c.in-Looking.value)))
+      (Looking c.burst.new.self c.in-Looking.value)) (sym c.from_residual.ensures) refl;
+}
+
+pub returns-in-Early : goal.returns-in-Early
+returns-in-Early g c = record {
+  end = Done c.in-Early.answer;
+  burst = put_looking_bursts c.args.self.now c.in-Looking.lookup c.in-Looking.value c.in-Looking.is c.requires.may
+      c.in_ok-answer-in-Looking.ensures
+      (ap (λ (f : Looked). put_looked c.burst.new.self.call c.in-Looking.value (Done f)) c.in-Early.is);
+  turns = refl;
+}
+
+pub returns-in-Found : goal.returns-in-Found
+returns-in-Found g c = record {
+  end = Go (put_found c.burst.new.self.call c.in-Found.found c.in-Looking.value);
+  burst = put_looking_bursts c.args.self.now c.in-Looking.lookup c.in-Looking.value c.in-Looking.is c.requires.may
+      c.in_ok-answer-in-Looking.ensures
+      (ap (λ (f : Looked). put_looked c.burst.new.self.call c.in-Looking.value (Done f)) c.in-Found.is);
+  turns = c.found.ensures;
+}
+
+pub run-requires : goal.run-requires
+run-requires g c =
+    put_filling_may c.args.self.now c.in-Filling.fill c.in-Filling.is {old = c.args.memory.now} c.requires.may
+
+pub returns-in-Filling : goal.returns-in-Filling
+returns-in-Filling g c = record {
+  end = Go (Single (Finishing (filled c.run.new.self)));
+  burst = put_filling_bursts c.args.self.now c.in-Filling.fill c.in-Filling.is c.requires.may c.run.new.self
+      c.run.ensures;
+  turns = ap (λ (s : SinglePut). Go (Single s)) (sym (c.filled.ensures c.run.new.self refl));
+}
+
+pub action-requires : goal.action-requires
+action-requires g c =
+    (run_takes put_takes c.requires.may (run_begins c.args.memory.now (Single c.args.self.now) c.args.steps.now)
+    refl refl).0
+
+pub act-got-requires : goal.act-got-requires
+act-got-requires g c =
+    run_can put_takes c.requires.may (run_begins c.args.memory.now (Single c.args.self.now) c.args.steps.now)
+    c.action.ensures
+
+pub advance-requires : goal.advance-requires
+advance-requires g c =
+    run_takes put_takes c.requires.may (run_begins c.args.memory.now (Single c.args.self.now) c.args.steps.now)
+    c.action.ensures c.act-got.ensures.got
+
+pub returns-in-Replacing : goal.returns-in-Replacing
+returns-in-Replacing g c = record {
+  end = put_turned (Single c.args.self.now) c.act-got.result;
+  burst = run_ends (run_begins c.args.memory.now (Single c.args.self.now) c.args.steps.now) c.requires.adds
+      c.action.ensures c.act-got.ensures.row c.act-got.ensures.got c.act-got.ensures.tick c.advance.ensures.fewer refl;
+  turns = c.advance.ensures.turned;
+}
+
+pub burst-requires-in-Finishing-clause-may : goal.burst-requires-in-Finishing-clause-may
+burst-requires-in-Finishing-clause-may g c =
+    put_finishing_may c.args.self.now c.in-Finishing.finish c.in-Finishing.is {old = c.args.memory.now} c.requires.may
+
+pub returns-in_err-answer-in-Finishing : goal.returns-in_err-answer-in-Finishing
+returns-in_err-answer-in-Finishing g c = record {
+  end = Go (Single (Finishing c.burst-in-Finishing.new.self));
+  burst = put_finishing_bursts c.args.self.now c.in-Finishing.finish c.in-Finishing.is c.requires.may
+      c.burst-in-Finishing.new.self None c.in_err-answer-in-Finishing.ensures;
+  turns = subst (SinglePutTurns (Go (Single (Finishing c.burst-in-Finishing.new.self)))
+      (Finishing c.burst-in-Finishing.new.self)) (sym c.from_residual-in_err-answer-in-Finishing.ensures) refl;
+}
+
+pub returns-in_ok-answer-in-Finishing : goal.returns-in_ok-answer-in-Finishing
+returns-in_ok-answer-in-Finishing g c = record {
+  end = Done c.in_ok-answer-in-Finishing.answer;
+  burst = put_finishing_bursts c.args.self.now c.in-Finishing.finish c.in-Finishing.is c.requires.may
+      c.burst-in-Finishing.new.self (Some c.in_ok-answer-in-Finishing.answer) c.in_ok-answer-in-Finishing.ensures;
+  turns = refl;
+}
