@@ -39,8 +39,9 @@ use Rattle.search_layer.specs.Floors.{floor_most}
 use Rattle.index_core.specs.declared.party.CoreCall.{CoreCall}
 use Rattle.index_core.specs.declared.party.CoreCall.TheVariants as call
 use Rattle.index_core.specs.CoreCalls.{limit_of, machine_of, op_of}
+use Rattle.index_core.specs.Bursts.{TurnsOn}
 use Rattle.index_core.specs.Costs.{ActionsAreFew, ActsWithin, IsUnworn, IsUnwornWhole, TriesWithin, list_actions, look_actions, merge_actions, most_actions, other_actions, split_actions}
-use Rattle.index_core.specs.Indexes.{Index, IsIndex, Starts, TurnsTo, room_of, told, view_of, world}
+use Rattle.index_core.specs.Indexes.{Index, IsIndex, Starts, told, view_of, world}
 use Rattle.index_core.specs.Lone.{HasNoCalls, HasShortWays, IsWholeAnswer, NeedsNoTurn, TriesAlone, lacks_line, lacks_node, needs_split, part_whole, whole_of}
 use Rattle.index_core.specs.PartyStates.{party_of, state_with}
 use Rattle.lone_updater_law.proofs.ReadyCounts.{ready_are_counted}
@@ -157,12 +158,12 @@ saves_split (call.Part low count) m x answer of sound done = omega arith
 saves_split (call.Recheck node version) m x answer of sound done = omega arith
 saves_split (call.Turn stamp release) m x answer of sound done = omega arith
 
-module _ (s0 s s' : Index) (i : ℕ) (c : CoreCall) (result : Option (Once Placed)) (o : Lone s0 s i c) (t : TurnsTo s i s' result) (is' : IsIndex s') (room : room_of s ≤ room_of s') where
+module _ (s0 s s' : Index) (i : ℕ) (c : CoreCall) (result : Option (Once Placed)) (o : Lone s0 s i c) (t : TurnsOn s i s' result) where
   -- the last turn of a try
   pub costs_end : (answer : Once Placed) → result ≡ Some answer → HasShortWays s0 → IsUnworn answer → 20 * s0.layout.nodes + saved c answer ≤ cost_at s i + 10 * (ready_lines (world s0) + 1)
   costs_end answer answered short unworn =
-      let done = lone_done s0 s s' i c result o t is' room answer answered in
-      let tries = lone_tries s0 s s' i c result o t is' room answer answered in
+      let done = lone_done s0 s s' i c result o t answer answered in
+      let tries = lone_tries s0 s s' i c result o t answer answered in
       let was = lone_cost s0 s i c o in
       let split = saves_split c o.machine (told s o.machine) answer o.call.of o.call.sound.here done in
       let hops = at (has_landed o.machine) refl done tries in

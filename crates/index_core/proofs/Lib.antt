@@ -30,11 +30,14 @@ pub mod MachineLaw
 pub mod Quiet
 pub mod Stamps
 pub mod Tries
+pub mod Bursting
+pub mod CoreBursts
 pub mod PartsAlone
 pub mod Taken
 pub mod Alone
 pub mod Retrying
 pub mod PartTries
+pub mod LoneBursts
 pub mod Costs
 pub mod Either
 pub mod Endings

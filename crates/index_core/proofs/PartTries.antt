@@ -23,12 +23,14 @@ use Rattle.index_core.specs.declared.party.Whole.{Whole}
 use Rattle.index_core.specs.declared.party.Whole.TheVariants as whole
 use Rattle.index_core.specs.PartyStates.{party_of, state_with}
 use Rattle.index_core.specs.Indexes.{Index, room_of, told, world, IsIndex, IsInFlight, TurnsTo}
+use Rattle.index_core.specs.Bursts.{TurnsOn}
 use Rattle.index_core.specs.Listings.{IsPartAt, ListsAt}
 use Rattle.index_core.specs.Lone.{HasListed, HasListing, IsQuiet, IsStill, IsWholeAnswer, SortsIfStale, LoseAtMost, RunsAlone, locks_left, most_tries, part_whole, node_for}
 use Rattle.index_core.proofs.Alone.{part_early, part_done}
 use Rattle.node_ops.specs.Parts.{Confirms, HasCompared}
 use Rattle.node_ops.specs.Permuting.{reading_of}
 use Rattle.pm_words.specs.Rows.{acted}
+use Rattle.index_core.proofs.Bursting.{turns_on}
 use Rattle.index_core.proofs.PartsAlone.{listed_node, listed_word, sorts_so}
 use Rattle.pm_words.specs.declared.layout.Layout.{Layout}
 use Rattle.lone_call_law.specs.LoneCalls.{IsThere}
@@ -76,6 +78,9 @@ module _ (s0 s s' : Index) (i : ℕ) (low : List ℕ) (count : ℕ) (result : Op
   abbrev m : Running
   m = o.machine
 
+  abbrev on : TurnsOn s i s' result
+  on = turns_on t is' room
+
   -- what it lists it tells of itself
   its_own : (words : PartWords) → HasListed s i words → listed_in m ≡ Some words
   its_own words h = ap listed_in (sym (lone_machine s0 s i c o h.state h.machine h.there h.flies)) ∙ h.listed
@@ -89,7 +94,7 @@ module _ (s0 s s' : Index) (i : ℕ) (low : List ℕ) (count : ℕ) (result : Op
   sorts words h names compared =
       let so = sorts_so (world s0) (world s) i low (party_of (state_with o.state (length s0.history) m)) m (told s m) names words o.call (its_own words h) (its_word words h) compared in
       let words_are : s'.words ≡ acted s.layout s.words (running_asks m) =
-      ap (λ (v : Index). v.words) t.is ∙ (λ k. acted s.layout s.words (running_asks (turn_machine s0 s s' i c result o t is' room k))) in
+      ap (λ (v : Index). v.words) t.is ∙ (λ k. acted s.layout s.words (running_asks (turn_machine s0 s s' i c result o on k))) in
       record {
         served = λ made. let both = so.served made in (both.0, words_are ∙ both.1);
         sorted = so.sorted;
@@ -97,18 +102,18 @@ module _ (s0 s s' : Index) (i : ℕ) (low : List ℕ) (count : ℕ) (result : Op
 
   -- its last turn
   pub part_last : (words : PartWords) → HasListed s i words → result ≡ Some (once.Done (words_placed words))
-  part_last words h = turn_told s0 s s' i c result o t is' room ∙ ap reply_of (listed_is_answered m words (its_own words h) (told s m) (its_word words h))
+  part_last words h = turn_told s0 s s' i c result o on ∙ ap reply_of (listed_is_answered m words (its_own words h) (told s m) (its_word words h))
 
   -- with an answer it leaves
   ends_alone : (answer : Once Placed) → result ≡ Some answer → (r : Whole) → RunsAlone s0 i c s' r → EndsAlone s0 s' i low count r
   ends_alone answer answered r runs =
       record {
         runs = runs;
-        quiet = lone_quiet s0 s s' i c result o t is' room answer answered;
-        still = lone_still s0 s s' i c result o t is' room answer answered;
-        spare = spare_left s0 s s' i c o room (lone_none s0 s s' i c result o t is' room answer answered);
-        each_lock = lone_each s0 s s' i c result o t is' room answer answered;
-        locks = lone_locks s0 s s' i c result o t is' room answer answered;
+        quiet = lone_quiet s0 s s' i c result o on answer answered;
+        still = lone_still s0 s s' i c result o on answer answered;
+        spare = spare_left s0 s s' i c o room (lone_none s0 s s' i c result o on answer answered);
+        each_lock = lone_each s0 s s' i c result o on answer answered;
+        locks = lone_locks s0 s s' i c result o on answer answered;
       }
 
   pub part_ends : (words : PartWords) → HasListed s i words → EndsAlone s0 s' i low count (whole.Part words)
@@ -117,19 +122,19 @@ module _ (s0 s s' : Index) (i : ℕ) (low : List ℕ) (count : ℕ) (result : Op
       let answered = part_last words h in
       let node : words.node ≡ node_for s0 low = listed_node s0.layout s0.words s.words low m words listed o.call.of o.call.stands in
       let op_is : op_in m ≡ op.Get low = op_told (op.Get low) m o.call.of in
-      let lists : ListsAt s'.layout (facts (world s')) m (told s m) = subst (λ (q : Running). ListsAt s'.layout (facts (world s')) q (told s q)) (turn_machine s0 s s' i c result o t is' room) t.lists in
+      let lists : ListsAt s'.layout (facts (world s')) m (told s m) = subst (λ (q : Running). ListsAt s'.layout (facts (world s')) q (told s q)) (turn_machine s0 s s' i c result o on) t.lists in
       let of_words : IfSome (count_in m) (λ (n : ℕ). Confirms m (told s m) words → IsPartAt s'.layout (facts (world s')) (reading_of m) (name_asked (op_in m)) n words) =
       subst (λ (found : Option PartWords). IfSome found (λ (w : PartWords). IfSome (count_in m) (λ (n : ℕ). Confirms m (told s m) w → IsPartAt s'.layout (facts (world s')) (reading_of m) (name_asked (op_in m)) n w))) listed lists in
       let is : IsPartAt s'.layout (facts (world s')) (reading_of m) low count words =
       subst (λ (asked : NameOp). IsPartAt s'.layout (facts (world s')) (reading_of m) (name_asked asked) count words) op_is
       (subst (λ (found : Option ℕ). IfSome found (λ (n : ℕ). Confirms m (told s m) words → IsPartAt s'.layout (facts (world s')) (reading_of m) (name_asked (op_in m)) n words)) o.count of_words (its_word words h)) in
       ends_alone (once.Done (words_placed words)) answered (whole.Part words)
-      (part_done s0 s' i low count o.before o.still words (lone_tries s0 s s' i c result o t is' room (once.Done (words_placed words)) answered) node (reading_of m) is (sorts words h))
+      (part_done s0 s' i low count o.before o.still words (lone_tries s0 s s' i c result o on (once.Done (words_placed words)) answered) node (reading_of m) is (sorts words h))
 
   -- one that is answered before is told early
   pub part_is_early : (answer : Once Placed) → (HasListing s i → ⊥) → result ≡ Some answer → IsEarly answer
   part_is_early answer none answered =
-      let done = done_of _ answer (sym (turn_told s0 s s' i c result o t is' room) ∙ answered) in
+      let done = done_of _ answer (sym (turn_told s0 s s' i c result o on) ∙ answered) in
       is_early m (told s m) answer done (subst IsSome (sym o.count) refl) (unlisted (listed_in m) refl)
     where
       unlisted : (found : Option PartWords) → listed_in m ≡ found → found ≡ None
@@ -139,5 +144,5 @@ module _ (s0 s s' : Index) (i : ℕ) (low : List ℕ) (count : ℕ) (result : Op
   pub part_stops : (answer : Once Placed) → (HasListing s i → ⊥) → result ≡ Some answer → EndsAlone s0 s' i low count (part_whole (early_of answer))
   part_stops answer none answered =
       ends_alone answer answered (part_whole (early_of answer))
-      (part_early s0 s' i low count o.before o.still answer (part_is_early answer none answered) (lone_tries s0 s s' i c result o t is' room answer answered)
-      (lone_each s0 s s' i c result o t is' room answer answered) (lone_locks s0 s s' i c result o t is' room answer answered))
+      (part_early s0 s' i low count o.before o.still answer (part_is_early answer none answered) (lone_tries s0 s s' i c result o on answer answered)
+      (lone_each s0 s s' i c result o on answer answered) (lone_locks s0 s s' i c result o on answer answered))

@@ -1,5 +1,5 @@
 -- What keeps the permutations of an index's nodes, and what is read of them.
-use Rattle.std.proofs.Common.{◌≡◌, ◌≢◌, ℕ, ◌<◌, ◌^◌, ◌⊎◌, inl, inr, ⊎_elim, List, [], ◌++◌, length, set, map, refl, sym, ap, ◌∙◌, subst, arith}
+use Rattle.std.proofs.Common.{◌≡◌, ◌≢◌, ℕ, ◌<◌, ◌^◌, ◌⊎◌, inl, inr, ⊎_elim, List, [], ◌++◌, length, set, map, refl, sym, ap, ◌∙◌, subst}
 use Rattle.std.specs.Prelude.{Bool, Option, Some, None, IfSome, slice_set}
 use mathlib.Core.Option.{some}
 use lib.ListN.{get_elem?}
@@ -8,7 +8,6 @@ use Rattle.cat_history.specs.Maps.{Map, map_of}
 use Rattle.cat_history.specs.declared.op.Write.{Write}
 use Rattle.pm_words.specs.declared.layout.Layout.{Layout}
 use Rattle.pm_words.specs.declared.action.Action.{Action}
-use Rattle.pm_words.specs.declared.action.Action.TheVariants.{Load}
 use Rattle.pm_words.specs.declared.machine.Turn.{Turn}
 use Rattle.pm_words.specs.declared.machine.Turn.TheVariants.{Go, Done}
 use Rattle.pm_words.specs.Codes.{no_permutation}
@@ -18,9 +17,9 @@ use Rattle.call_stages.specs.declared.once.Once.{Once}
 use Rattle.call_stages.specs.declared.once.Placed.{Placed}
 use Rattle.call_stages.specs.Stages.{Stage, Holds, Held, counted}
 use Rattle.call_stages.specs.AnySteps.{AnyStep}
-use Rattle.permutation.specs.Sortings.{Sorting, Unsorted, Sorts, Keeps, permutation_address, permutation_version_address}
+use Rattle.permutation.specs.Sortings.{Sorting, Sorts}
 use Rattle.permutation_law.specs.Permuted.{made_at, Permuted, IsPermuted}
-use Rattle.permutation_law.specs.Laws.{HasRead, IsSameNode, Spares, SortLaw}
+use Rattle.permutation_law.specs.Laws.{HasRead, IsSameNode, Spares}
 use Rattle.permutation_law.proofs.Columns.{IsLeft}
 use Rattle.permutation_law.proofs.Frames.{evictions_leave, frames_permute, idle_may_change, rest_permuted}
 use Rattle.permutation_law.proofs.Reading.{frames_keep_reading, reading_begins, reading_goes_on, reading_is_kept, reading_serves, sorts_keep_reading}
@@ -29,7 +28,7 @@ use Rattle.permutation_law.proofs.Steps.{steps_permute}
 use Rattle.data_node.specs.Lists.{ListNode, range_in}
 use Rattle.index_law.specs.Facts.{Facts, facts_of, list_in, spot_in, version_in}
 use Rattle.index_law.specs.Footed.{AreAlike}
-use Rattle.index_law.specs.Lawful.{Each, Lawful, Sure}
+use Rattle.index_law.specs.Lawful.{Lawful, Sure}
 use Rattle.index_law.specs.Worlds.{Party, World, facts, moved_on, stepped, written}
 use Rattle.index_law.proofs.AnySteps.{held_ranges_stay}
 use Rattle.index_law.proofs.Evictions.{evict_facts}

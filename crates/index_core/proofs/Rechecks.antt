@@ -24,7 +24,6 @@ use Rattle.index_law.specs.Laws.{Allowed, loads_clock, loads_word, ActionLaw}
 use Rattle.index_law.specs.Worlds.{facts, written}
 use Rattle.index_law.proofs.Actions.{action_law}
 use Rattle.index_law.proofs.Maps.{after-longer}
-use Rattle.index_law.proofs.Rows.{version_in-here}
 use Rattle.node_ops.specs.declared.recheck.Recheck.{Recheck}
 use Rattle.node_ops.specs.declared.recheck.Recheck.TheVariants.{Dating, Checking}
 use Rattle.node_ops.specs.declared.recheck.Same.{Same}

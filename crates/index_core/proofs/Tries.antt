@@ -39,7 +39,8 @@ use Rattle.index_core.specs.declared.party.CoreCall.{CoreCall}
 use Rattle.index_core.specs.declared.party.CoreCall.TheVariants as call
 use Rattle.index_core.specs.CoreCalls.{machine_of, op_of, limit_of, count_of, most_writes}
 use Rattle.index_core.specs.PartyStates.{party_of, machine_footing, state_with, state_after, machine_owes, owed}
-use Rattle.index_core.specs.Indexes.{Index, room_of, layered, world, IsIndex, IsInFlight, view_of, Starts, started_index, told, stepped_index, TurnsTo}
+use Rattle.index_core.specs.Indexes.{Index, room_of, layered, world, IsIndex, IsInFlight, view_of, Starts, started_index, told, stepped_index}
+use Rattle.index_core.specs.Bursts.{TurnsOn}
 use Rattle.index_core.specs.Lone.{HasNoCalls, IsQuiet, IsStill, TriesAlone, locks_left, LoseAtMost}
 use Rattle.index_core.specs.MachineLaws.{MachineLaw, showing, showing_after}
 use Rattle.index_core.specs.Weights.{weight_of, added_by}
@@ -266,7 +267,7 @@ flight_locks s0 s i c o =
     loses_fewest s0 s o.call.trying.layout o.call.trying.generation
     (lone_calls_lose (world s0) i (op_of c) (limit_of c) (world s) (party_of (state_with o.state (length s0.history) o.machine)) o.machine o.call)
 
-module _ (s0 s s' : Index) (i : ℕ) (c : CoreCall) (result : Option (Once Placed)) (o : Lone s0 s i c) (t : TurnsTo s i s' result) (is' : IsIndex s') (room : room_of s ≤ room_of s') where
+module _ (s0 s s' : Index) (i : ℕ) (c : CoreCall) (result : Option (Once Placed)) (o : Lone s0 s i c) (t : TurnsOn s i s' result) where
   abbrev e : PartyState
   e = state_with o.state (length s0.history) o.machine
 
@@ -280,11 +281,11 @@ module _ (s0 s s' : Index) (i : ℕ) (c : CoreCall) (result : Option (Once Place
   p = party_of e
 
   -- the step is that of this call
-  entry_same : t.state ≡ e
-  entry_same = some-injective _ _ (sym t.there ∙ at_i)
+  entry_same : t.of.state ≡ e
+  entry_same = some-injective _ _ (sym t.of.there ∙ at_i)
 
-  pub turn_machine : t.machine ≡ o.machine
-  turn_machine = lone_machine s0 s i c o t.state t.machine t.there t.flies
+  pub turn_machine : t.of.machine ≡ o.machine
+  turn_machine = lone_machine s0 s i c o t.of.state t.of.machine t.of.there t.of.flies
 
   is : s' ≡ stepped_index s i e o.machine s'.spare
   is = t.is ∙ (λ k. stepped_index s i (entry_same k) (turn_machine k) s'.spare)
@@ -394,7 +395,7 @@ module _ (s0 s s' : Index) (i : ℕ) (c : CoreCall) (result : Option (Once Place
           named = o.named;
           there = o.there;
           states = states;
-          index = is';
+          index = t.index;
           call = subst (λ (w : World). LoneCall (world s0) i (op_of c) (limit_of c) w (moved_on p (stage_of next)) next) (sym (world_is next go.1)) call_on;
           count = count_stays o.machine next x go.1 ∙ o.count;
           log = log_on next go.1 call_on;
@@ -402,7 +403,7 @@ module _ (s0 s s' : Index) (i : ℕ) (c : CoreCall) (result : Option (Once Place
           same_base = ap (λ (v : Index). v.base) is ∙ o.same_base;
           stamps = same_stamps;
           weighs = omega arith;
-          room = omega arith;
+          room = omega (arith, t.room);
         },
         omega (arith, less, was, now),
       )
@@ -502,7 +503,7 @@ module _ (s0 s s' : Index) (i : ℕ) (c : CoreCall) (result : Option (Once Place
     ended_ways =
         tries_lengthen (name_asked (op_of c)) (change_of (op_of c)) (world s0) (stepped (world s) i p (running_asks o.machine) Idle) p.stage o.state.caller answer
         o.call.trying.layout o.call.trying.generation (walks_come s0 o.before o.still.calls).quiet
-        (subst (λ (v : Index). AreQuiet v.layout v.generation (nodes_of (world v))) is (walks_come s' is' (lone_none answer answered)).quiet)
+        (subst (λ (v : Index). AreQuiet v.layout v.generation (nodes_of (world v))) is (walks_come s' t.index (lone_none answer answered)).quiet)
         ended_nodes.0 ended_nodes.1 (subst (AfterCall (world s0) i (op_of c) (limit_of c) (world s) p o.machine) done goes).3 ended_log.1
 
     weighs : weight_of s' ≤ weight_of s0 + added_by (op_of c) answer

@@ -7,6 +7,7 @@ pub mod Causes
 pub mod Heard
 pub mod Listings
 pub mod Indexes
+pub mod Bursts
 pub mod Cores
 pub mod Lone
 pub mod Turns

@@ -5,7 +5,9 @@ ghost use Rattle.std.specs.Prelude.{◌≡◌};
 use crate::party::CoreCall;
 use call_stages::{Once, Placed, View};
 use node_ops::Running;
+use pm_words::{Memory, Steps};
 use std::marker::Model;
+use std::sync::ledger::Ledger;
 
 /// The machine of a party's call in flight, if it has one.
 ///
@@ -50,6 +52,7 @@ impl Flight {
     ghost use Rattle.node_ops.specs.Asked.{IsOf};
     ghost use Rattle.node_ops.specs.CallStages.{reply_of};
     ghost use Rattle.node_ops.specs.RunningSteps.{IsRunning, running_left, running_takes, running_turned};
+    ghost use Rattle.index_core.specs.Bursts.{BurstsInPlace, BurstsSo, MayBurst};
     ghost use Rattle.index_core.specs.CoreCalls.{MayBegin, machine_of, op_of};
     ghost use Rattle.index_core.specs.PartyStates.{flight_after};
 
@@ -147,6 +150,42 @@ impl Flight {
         answer
     }
 
+    /// The call in flight does what it asks for, and goes on so as long as one part of it does, with nothing between.
+    /// Where that ends it, none is in flight. `steps` counts the events.
+    pub(crate) fn burst<L: Ledger>(
+        &mut self,
+        memory: &mut Memory,
+        steps: &mut Steps<L>,
+    ) -> Option<Once<Placed>>
+        requires { IsSomeAnd self.old (MayBurst memory.old) }
+        ensures { IfSome self.old (λ machine. BurstsSo memory.old memory.new machine steps.old steps.new
+            (λ end. (self.new ≡ flight_after end) × (result ≡ reply_of end))) }
+    {
+        let answer = self.goes_on(memory, steps);
+        if answer.is_some() {
+            self.flies = false;
+        }
+        answer
+    }
+
+    /// It does so, and leaves the machine in flight, also where it has answered.
+    fn goes_on<L: Ledger>(
+        &mut self,
+        memory: &mut Memory,
+        steps: &mut Steps<L>,
+    ) -> Option<Once<Placed>>
+        requires { IsSomeAnd self.old (MayBurst memory.old) }
+        ensures { IfSome self.old (λ machine. IsSomeAnd self.new
+            (λ next. BurstsInPlace memory.old memory.new machine next result steps.old steps.new)) }
+    {
+        match self.kind {
+            Kind::Get => burst_in(&mut self.get, memory, steps),
+            Kind::Put => burst_in(&mut self.put, memory, steps),
+            Kind::Del => burst_in(&mut self.del, memory, steps),
+            Kind::Part => burst_in(&mut self.part, memory, steps),
+        }
+    }
+
     /// Tells it the number, and leaves the machine in flight, also where it has answered.
     fn told(&mut self, got: u64) -> Option<Once<Placed>>
         requires { IsSomeAnd self.old (λ machine. running_takes machine got) }
@@ -169,6 +208,7 @@ ghost use Rattle.pm_words.specs.Turns.{AdvancesTo, GoesBelow};
 ghost use Rattle.call_stages.specs.Views.{IsView};
 ghost use Rattle.node_ops.specs.Asked.{IsOf};
 ghost use Rattle.node_ops.specs.RunningSteps.{IsRunning, running_left, running_takes, running_turned};
+ghost use Rattle.index_core.specs.Bursts.{BurstsInPlace, MayBurst};
 ghost use Rattle.index_core.specs.CoreCalls.{MayBegin, machine_of, op_of};
 
 /// A call begins in this room, in the place of the last one where it can.
@@ -231,4 +271,18 @@ fn advance_in(room: &mut Option<Running>, got: u64) -> Option<Once<Placed>>
 {
     let Some(machine) = room else { unreachable!() };
     machine.advance(got)
+}
+
+/// The machine in this room does what it asks for, in place, and goes on so as long as one part of it does.
+fn burst_in<L: Ledger>(
+    room: &mut Option<Running>,
+    memory: &mut Memory,
+    steps: &mut Steps<L>,
+) -> Option<Once<Placed>>
+    requires { IsSomeAnd room.old (MayBurst memory.old) }
+    ensures { IfSome room.old (λ machine. IsSomeAnd room.new
+        (λ next. BurstsInPlace memory.old memory.new machine next result steps.old steps.new)) }
+{
+    let Some(machine) = room else { unreachable!() };
+    machine.burst(memory, steps)
 }

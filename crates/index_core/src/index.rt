@@ -3,6 +3,7 @@ ghost use Rattle.std.specs.Prelude.{IsErr, IsTrue, IfSome, vec_len, vec_capacity
 ghost use Rattle.pm_words.specs.Layouts.{IsLayout};
 ghost use Rattle.index_law.specs.Worlds.{written};
 ghost use Rattle.index_core.specs.CoreCalls.{IfRecheck, IfTurn, MayBegin, MayStart, most_writes};
+ghost use Rattle.index_core.specs.Bursts.{BurstsTo};
 ghost use Rattle.index_core.specs.Indexes.{IsBusy, IsInFlight, IsIndex, IsTurning, KeepsRoom, Starts, StepsTo, TurnsTo};
 ghost use Rattle.index_core.specs.Rechecks.{RecheckStepsTo, StartsRecheck};
 ghost use Rattle.index_core.specs.Indexes.{parties_of};
@@ -284,6 +285,26 @@ impl Core {
         let got = self.memory.act(action, steps);
         count(&mut self.history, *caller, *index, machine, action);
         self.states[at].advance(got)
+    }
+
+    /// Takes steps of the party's call on a name, which is in flight, with nothing between: those that one part of its
+    /// machine makes at once, or the one that counts its write. Returns its answer, if it is answered. So a call that
+    /// is alone makes them in a tight loop.
+    pub(crate) fn burst<L: Ledger>(
+        &mut self,
+        party: u64,
+        steps: &mut Steps<L>,
+    ) -> Option<Once<Placed>>
+        requires flies { IsInFlight self.old party }
+        ensures bursts { BurstsTo self.old party self.new result steps.old steps.new }
+        ensures index { IsIndex self.new }
+    {
+        let at = party as usize;
+        let action = self.states[at].machine.running().action();
+        if let Action::Add(_) = action {
+            return self.step_call(party, steps);
+        }
+        self.states[at].burst(&mut self.memory, steps)
     }
 
     /// Makes an image word durable: its cached twin is copied to its durable one.

@@ -44,8 +44,8 @@ impl Core {
     /// state changes.
     ///
     /// It makes at least one step, which `steps` counts, as do the calls below. On an index whose ways are short a call
-    /// that needs no turn, and isn't answered that a node is worn, makes no more than `most_actions`: on any layout some
-    /// 14,100 for a get and 58,400 for a put, and ten or twenty more for each log line that is READY.
+    /// that needs no turn, and isn't answered that a node is worn, makes no more than `most_actions`: on any layout
+    /// some 14,100 for a get and 58,400 for a put, and ten or twenty more for each log line that is READY.
     pub fn run_alone<L: Ledger>(
         &mut self,
         caller: u64,
@@ -204,7 +204,7 @@ impl Core {
             unreachable!()
         };
         'steps: loop {
-            if let Some(answer) = self.step_call(caller, steps) {
+            if let Some(answer) = self.burst(caller, steps) {
                 return answer;
             }
         }

@@ -6,8 +6,9 @@ use crate::flight::Flight;
 use call_stages::{Once, Placed, View};
 use cat_key::Name;
 use node_ops::{Part, PartWords, Recheck, Same};
-use pm_words::{Again, Machine, NoMemory, Turn};
+use pm_words::{Again, Machine, Memory, NoMemory, Steps, Turn};
 use std::alloc::Global;
+use std::sync::ledger::Ledger;
 use updater::{MakeTurn, TurnReply, Turned};
 
 /// What a party calls.
@@ -166,6 +167,7 @@ impl PartyState {
     ghost use Rattle.node_ops.specs.Asked.{IsOf};
     ghost use Rattle.node_ops.specs.CallStages.{reply_of};
     ghost use Rattle.node_ops.specs.RunningSteps.{IsRunning, running_left, running_takes, running_turned};
+    ghost use Rattle.index_core.specs.Bursts.{BurstsSo, MayBurst};
     ghost use Rattle.index_core.specs.CoreCalls.{MayBegin, machine_of, op_of};
     ghost use Rattle.index_core.specs.PartyStates.{idle_state, is_busy, state_with, state_after, state_counted};
     ghost use Rattle.index_core.specs.PartyStates.{index_after};
@@ -242,6 +244,23 @@ impl PartyState {
             (λ machine. GoesBelow running_left (running_left machine) (running_turned machine got)) }
     {
         let answer = self.machine.advance(got);
+        if let Some(once) = answer {
+            self.index = self.index_after(once);
+        }
+        answer
+    }
+
+    /// Its call in flight does what it asks for, and goes on so as long as one part of it does, with nothing between.
+    pub(crate) fn burst<L: Ledger>(
+        &mut self,
+        memory: &mut Memory,
+        steps: &mut Steps<L>,
+    ) -> Option<Once<Placed>>
+        requires { IsSomeAnd self.old.machine (MayBurst memory.old) }
+        ensures { IfSome self.old.machine (λ machine. BurstsSo memory.old memory.new machine steps.old steps.new
+            (λ end. (self.new ≡ state_after self.old end) × (result ≡ reply_of end))) }
+    {
+        let answer = self.machine.burst(memory, steps);
         if let Some(once) = answer {
             self.index = self.index_after(once);
         }

@@ -6,6 +6,7 @@ use Rattle.index_core.specs.declared.party.CoreCall.TheVariants as call
 use Rattle.call_stages.specs.declared.once.Once.TheVariants as once
 use Rattle.node_ops.specs.PartSteps.{early_of, words_placed}
 use Rattle.index_core.specs.Costs.{ActsWithin}
+use Rattle.index_core.proofs.Bursting.{turns_on}
 use Rattle.index_core.proofs.Busy.{quiet_is_idle}
 use Rattle.index_core.proofs.Costs.{cost_begins, costs_end, early_unworn, part_acts, tries_within}
 use Rattle.index_core.proofs.Quiet.{quiet_is_still}
@@ -44,7 +45,7 @@ returns-then-has_listed g c =
       acts = omega (arith, t.tick, c.steps.invariant.1);
       events = part_acts c.args.self.now c.args.caller c.args.low c.args.count (once.Done (words_placed c.listing-words.result)) (once.Done c.listing-words.result) c.args.steps.now c.step_call.new.steps
           (tries_within c.args.self.now (call.Part c.args.low c.args.count) (once.Done (words_placed c.listing-words.result)) c.args.steps.now c.steps.steps c.step_call.new.steps (cost_at c.steps.self c.args.caller) c.steps.invariant.2 t.tick
-          (costs_end c.args.self.now c.steps.self c.step_call.new.self c.args.caller (call.Part c.args.low c.args.count) c.step_call.result c.steps.invariant.0 t.turned t.index t.spare.all (once.Done (words_placed c.listing-words.result))
+          (costs_end c.args.self.now c.steps.self c.step_call.new.self c.args.caller (call.Part c.args.low c.args.count) c.step_call.result c.steps.invariant.0 (turns_on t.turned t.index t.spare.all) (once.Done (words_placed c.listing-words.result))
           (part_last c.args.self.now c.steps.self c.step_call.new.self c.args.caller c.args.low c.args.count c.step_call.result c.steps.invariant.0 t.turned t.index t.spare.all c.listing-words.result c.listing-words.ensures)))
           (λ _. tt);
       index = t.index;
@@ -74,7 +75,7 @@ returns-in-Some g c =
       events = subst (λ (r : Once PartWords). ActsWithin c.args.self.now c.args.caller (call.Part c.args.low c.args.count) (part_whole r) c.args.steps.now c.step_call-in-steps.new.steps) (sym c.early.ensures)
           (part_acts c.args.self.now c.args.caller c.args.low c.args.count c.in-Some.answer (early_of c.in-Some.answer) c.args.steps.now c.step_call-in-steps.new.steps
           (tries_within c.args.self.now (call.Part c.args.low c.args.count) c.in-Some.answer c.args.steps.now c.steps.steps c.step_call-in-steps.new.steps (cost_at c.steps.self c.args.caller) c.steps.invariant.2 t.tick
-          (costs_end c.args.self.now c.steps.self c.step_call-in-steps.new.self c.args.caller (call.Part c.args.low c.args.count) c.step_call-in-steps.result c.steps.invariant.0 t.turned t.index t.spare.all c.in-Some.answer c.in-Some.is))
+          (costs_end c.args.self.now c.steps.self c.step_call-in-steps.new.self c.args.caller (call.Part c.args.low c.args.count) c.step_call-in-steps.result c.steps.invariant.0 (turns_on t.turned t.index t.spare.all) c.in-Some.answer c.in-Some.is))
           (early_unworn c.in-Some.answer));
       index = t.index;
     }
@@ -83,14 +84,14 @@ returns-in-Some g c =
 gone : (g : _) (c : In_default-step_call g) → Lone c.args.self.now c.step_call-in-steps.new.self c.args.caller (call.Part c.args.low c.args.count) × (suc (left_at c.step_call-in-steps.new.self c.args.caller) ≤ left_at c.steps.self c.args.caller)
 gone g c =
     let t = c.step_call-in-steps.ensures in
-    lone_goes c.args.self.now c.steps.self c.step_call-in-steps.new.self c.args.caller (call.Part c.args.low c.args.count) c.step_call-in-steps.result c.steps.invariant.0 t.turned t.index t.spare.all c.in_default-step_call.is
+    lone_goes c.args.self.now c.steps.self c.step_call-in-steps.new.self c.args.caller (call.Part c.args.low c.args.count) c.step_call-in-steps.result c.steps.invariant.0 (turns_on t.turned t.index t.spare.all) c.in_default-step_call.is
 
 pub steps-preserved : goal.steps-preserved
 steps-preserved g c = (
   (gone g c).0,
   omega (arith, c.step_call-in-steps.ensures.tick, c.steps.invariant.1),
   (let t = c.step_call-in-steps.ensures in
-      let costs = lone_costs c.args.self.now c.steps.self c.step_call-in-steps.new.self c.args.caller (call.Part c.args.low c.args.count) c.step_call-in-steps.result c.steps.invariant.0 t.turned t.index t.spare.all c.in_default-step_call.is in
+      let costs = lone_costs c.args.self.now c.steps.self c.step_call-in-steps.new.self c.args.caller (call.Part c.args.low c.args.count) c.step_call-in-steps.result c.steps.invariant.0 (turns_on t.turned t.index t.spare.all) c.in_default-step_call.is in
       omega (arith, costs, t.tick, c.steps.invariant.2)),
 )
 

@@ -5,6 +5,7 @@ use Rattle.call_stages.specs.declared.once.Once.TheVariants as once
 use Rattle.node_ops.specs.declared.part.PartWords.{PartWords}
 use Rattle.index_core.specs.Lone.{RunsAlone, part_whole}
 use Rattle.index_core.specs.declared.party.CoreCall.TheVariants as call
+use Rattle.index_core.proofs.Bursting.{turns_on}
 use Rattle.index_core.proofs.Busy.{still_is_idle}
 use Rattle.index_core.proofs.PartTries.{part_ends, part_is_early, part_is_not_full, part_stops}
 use Rattle.index_core.proofs.Costs.{cost_begins}
@@ -82,13 +83,13 @@ returns-in-Some-clause-in_time g c = λ short none.
 pub steps-preserved : goal.steps-preserved
 steps-preserved g c =
     let t = c.step_call-in-steps.ensures in (
-      (lone_goes c.args.self.now c.steps.self c.step_call-in-steps.new.self c.args.caller (call.Part c.args.low c.args.count) c.step_call-in-steps.result c.steps.invariant.0 t.turned t.index t.spare.all c.in_default-step_call.is).0,
+      (lone_goes c.args.self.now c.steps.self c.step_call-in-steps.new.self c.args.caller (call.Part c.args.low c.args.count) c.step_call-in-steps.result c.steps.invariant.0 (turns_on t.turned t.index t.spare.all) c.in_default-step_call.is).0,
       omega (arith, t.tick, c.steps.invariant.1, c.if-budget-eq0.false),
-      (let costs = lone_costs c.args.self.now c.steps.self c.step_call-in-steps.new.self c.args.caller (call.Part c.args.low c.args.count) c.step_call-in-steps.result c.steps.invariant.0 t.turned t.index t.spare.all c.in_default-step_call.is in
+      (let costs = lone_costs c.args.self.now c.steps.self c.step_call-in-steps.new.self c.args.caller (call.Part c.args.low c.args.count) c.step_call-in-steps.result c.steps.invariant.0 (turns_on t.turned t.index t.spare.all) c.in_default-step_call.is in
           omega (arith, costs, t.tick, c.steps.invariant.2)),
     )
 
 pub steps-smaller : goal.steps-smaller
 steps-smaller g c =
     let t = c.step_call-in-steps.ensures in
-    (lone_goes c.args.self.now c.steps.self c.step_call-in-steps.new.self c.args.caller (call.Part c.args.low c.args.count) c.step_call-in-steps.result c.steps.invariant.0 t.turned t.index t.spare.all c.in_default-step_call.is).1
+    (lone_goes c.args.self.now c.steps.self c.step_call-in-steps.new.self c.args.caller (call.Part c.args.low c.args.count) c.step_call-in-steps.result c.steps.invariant.0 (turns_on t.turned t.index t.spare.all) c.in_default-step_call.is).1

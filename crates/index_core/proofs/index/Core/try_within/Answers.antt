@@ -1,4 +1,5 @@
 use Rattle.std.proofs.Common.{refl, arith}
+use Rattle.index_core.proofs.Bursting.{turns_on}
 use Rattle.index_core.proofs.Busy.{still_is_idle}
 use Rattle.call_stages.specs.declared.once.Once.{Once}
 use Rattle.call_stages.specs.declared.once.Placed.{Placed}
@@ -33,14 +34,14 @@ pub returns-in-Some-clause-tries : goal.returns-in-Some-clause-tries
 returns-in-Some-clause-tries g c =
     let o = c.steps.invariant.0 in
     let t = c.step_call.ensures in
-    let none = lone_none c.args.self.now c.steps.self c.step_call.new.self c.args.caller c.args.call.now c.step_call.result o t.turned t.index t.spare.all c.in-Some.answer c.in-Some.is in
+    let none = lone_none c.args.self.now c.steps.self c.step_call.new.self c.args.caller c.args.call.now c.step_call.result o (turns_on t.turned t.index t.spare.all) c.in-Some.answer c.in-Some.is in
     record {
-      tries = lone_tries c.args.self.now c.steps.self c.step_call.new.self c.args.caller c.args.call.now c.step_call.result o t.turned t.index t.spare.all c.in-Some.answer c.in-Some.is;
-      quiet = lone_quiet c.args.self.now c.steps.self c.step_call.new.self c.args.caller c.args.call.now c.step_call.result o t.turned t.index t.spare.all c.in-Some.answer c.in-Some.is;
-      still = lone_still c.args.self.now c.steps.self c.step_call.new.self c.args.caller c.args.call.now c.step_call.result o t.turned t.index t.spare.all c.in-Some.answer c.in-Some.is;
+      tries = lone_tries c.args.self.now c.steps.self c.step_call.new.self c.args.caller c.args.call.now c.step_call.result o (turns_on t.turned t.index t.spare.all) c.in-Some.answer c.in-Some.is;
+      quiet = lone_quiet c.args.self.now c.steps.self c.step_call.new.self c.args.caller c.args.call.now c.step_call.result o (turns_on t.turned t.index t.spare.all) c.in-Some.answer c.in-Some.is;
+      still = lone_still c.args.self.now c.steps.self c.step_call.new.self c.args.caller c.args.call.now c.step_call.result o (turns_on t.turned t.index t.spare.all) c.in-Some.answer c.in-Some.is;
       spare = spare_left c.args.self.now c.steps.self c.step_call.new.self c.args.caller c.args.call.now o t.spare.all none;
-      each_lock = lone_each c.args.self.now c.steps.self c.step_call.new.self c.args.caller c.args.call.now c.step_call.result o t.turned t.index t.spare.all c.in-Some.answer c.in-Some.is;
-      locks = lone_locks c.args.self.now c.steps.self c.step_call.new.self c.args.caller c.args.call.now c.step_call.result o t.turned t.index t.spare.all c.in-Some.answer c.in-Some.is;
+      each_lock = lone_each c.args.self.now c.steps.self c.step_call.new.self c.args.caller c.args.call.now c.step_call.result o (turns_on t.turned t.index t.spare.all) c.in-Some.answer c.in-Some.is;
+      locks = lone_locks c.args.self.now c.steps.self c.step_call.new.self c.args.caller c.args.call.now c.step_call.result o (turns_on t.turned t.index t.spare.all) c.in-Some.answer c.in-Some.is;
     }
 
 pub returns-in-Some-clause-in_time : goal.returns-in-Some-clause-in_time
@@ -49,12 +50,12 @@ returns-in-Some-clause-in_time g c =
 
 pub steps-smaller : goal.steps-smaller
 steps-smaller g c =
-    (lone_goes c.args.self.now c.steps.self c.step_call.new.self c.args.caller c.args.call.now c.step_call.result c.steps.invariant.0 c.step_call.ensures.turned c.step_call.ensures.index c.step_call.ensures.spare.all c.in_default-step_call.is).1
+    (lone_goes c.args.self.now c.steps.self c.step_call.new.self c.args.caller c.args.call.now c.step_call.result c.steps.invariant.0 (turns_on c.step_call.ensures.turned c.step_call.ensures.index c.step_call.ensures.spare.all) c.in_default-step_call.is).1
 
 pub steps-preserved : goal.steps-preserved
 steps-preserved g c = (
-  (lone_goes c.args.self.now c.steps.self c.step_call.new.self c.args.caller c.args.call.now c.step_call.result c.steps.invariant.0 c.step_call.ensures.turned c.step_call.ensures.index c.step_call.ensures.spare.all c.in_default-step_call.is).0,
+  (lone_goes c.args.self.now c.steps.self c.step_call.new.self c.args.caller c.args.call.now c.step_call.result c.steps.invariant.0 (turns_on c.step_call.ensures.turned c.step_call.ensures.index c.step_call.ensures.spare.all) c.in_default-step_call.is).0,
   omega (arith, c.step_call.ensures.tick, c.steps.invariant.1, c.if-budget-eq0.false),
-  (let costs = lone_costs c.args.self.now c.steps.self c.step_call.new.self c.args.caller c.args.call.now c.step_call.result c.steps.invariant.0 c.step_call.ensures.turned c.step_call.ensures.index c.step_call.ensures.spare.all c.in_default-step_call.is in
+  (let costs = lone_costs c.args.self.now c.steps.self c.step_call.new.self c.args.caller c.args.call.now c.step_call.result c.steps.invariant.0 (turns_on c.step_call.ensures.turned c.step_call.ensures.index c.step_call.ensures.spare.all) c.in_default-step_call.is in
       omega (arith, costs, c.step_call.ensures.tick, c.steps.invariant.2)),
 )
