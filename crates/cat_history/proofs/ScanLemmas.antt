@@ -56,15 +56,15 @@ below-chain a b c p q = no_false (is_below a c) (λ un. clash p (upto-chain b c 
 abbrev Entries : Type 0
 Entries = List (List ℕ × ℕ)
 
-is_true : (b : Bool) → T b → b ≡ true
+pub is_true : (b : Bool) → T b → b ≡ true
 is_true true t = refl
 is_true false t = absurd t
 
-first : (a b : Bool) → T (a && b) → T a
+pub first : (a b : Bool) → T (a && b) → T a
 first true b t = tt
 first false b t = t
 
-second : (a b : Bool) → T (a && b) → T b
+pub second : (a b : Bool) → T (a && b) → T b
 second true b t = t
 second false b t = absurd t
 

@@ -3,6 +3,7 @@
 //! Every crate above states its answers in the words of `specs/`. The code here is the data that those words speak of.
 #![tactic(auto)]
 
+mod growing;
 mod items;
 pub mod laws;
 mod op;
@@ -12,6 +13,7 @@ mod record;
 mod replaying;
 mod settling;
 
+pub use growing::{Names, change, change_all, names_of, pairs_in};
 pub use items::Items;
 pub use op::{CallerOp, Change, NameOp, Op, Write, Writes};
 pub use pairs::{number_in, position_of};

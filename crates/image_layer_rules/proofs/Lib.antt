@@ -15,3 +15,4 @@ pub mod LayerLaws
 pub mod FreshLaw
 pub mod FirstOfAll
 pub mod VisitLaw
+pub mod CellLemmas

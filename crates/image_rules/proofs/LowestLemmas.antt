@@ -42,3 +42,8 @@ pub lowest_from_range : (P : ℕ → Type 0) (count : ℕ) (result : Option ℕ)
     → MatchOption result ((k : ℕ) → 0 ≤ k → k < count → ¬ P k) (λ i. (0 ≤ i) × (i < count) × P i × ((k : ℕ) → 0 ≤ k → k < i → ¬ P k)) → IsLowest P result
 lowest_from_range P count None within none = λ number holds. none number (omega arith) (within number holds) holds
 lowest_from_range P count (Some i) within is = (is.2, λ lower below. is.3 lower (omega arith) below)
+
+-- the same for a search through the slots of a node
+pub lowest_slot : (P : ℕ → Type 0) (slots count : ℕ) (result : Option ℕ) → count ≡ slots → ((slot : ℕ) → P slot → slot < slots)
+    → MatchOption result ((k : ℕ) → 0 ≤ k → k < count → ¬ P k) (λ i. (0 ≤ i) × (i < count) × P i × ((k : ℕ) → 0 ≤ k → k < i → ¬ P k)) → IsLowest P result
+lowest_slot P slots count result same within found = lowest_from_range P count result (λ slot is. subst (λ n. slot < n) (sym same) (within slot is)) found

@@ -82,7 +82,7 @@ can_change l g f caller index since s a word (frees_right {right = right} here n
 can_change l g f caller index since s a word (frees {w = w} here next) fits knows room = let most = lock_fits w g knows.lock fits in omega arith
 
 -- the number that is told has 64 bits
-given_fits : (a : Action) (word : ℕ) → word < 2 ^ 64 → given a word < 2 ^ 64
+pub given_fits : (a : Action) (word : ℕ) → word < 2 ^ 64 → given a word < 2 ^ 64
 given_fits (Load place) word small = small
 given_fits (Store place value) word small = omega arith
 given_fits (Exchange place old new) word small = small

@@ -15,6 +15,7 @@ use Rattle.index_law.proofs.Joint.{fit_same}
 use Rattle.index_law.proofs.Noting.{beside_law, store_leaves}
 use Rattle.index_law.proofs.Rows.{facts-elsewhere}
 use Rattle.index_law.proofs.Twins.{nearer, store_closer}
+use Rattle.index_law.proofs.Places.{node_at, offset_at}
 
 stays : (l : Layout) (words words' : List ℕ) (p : Location) → words' ≡ words → at l words' p ≡ at l words p
 stays l words words' p same = ap (λ v. at l v p) same
@@ -38,14 +39,6 @@ nodes_leave_others l words s a p has beside (frees_met {right = right} here next
 nodes_leave_others l words s a p has beside (frees_right {right = right} here next) = at-set_other l words (Cached (Node right.node 0)) p _ (here, omega arith) has (beside.cached right.node 0)
 nodes_leave_others l words s a p has beside (frees {n = n} here next) = at-set_other l words (Cached (Node n 0)) p _ (here, omega arith) has (beside.cached n 0)
 
-abbrev offset_of : Location → ℕ
-offset_of (Volatile n o) = o
-offset_of _ = 0
-
-abbrev node_of : Location → ℕ
-node_of (Volatile n o) = n
-node_of _ = 0
-
 pub prevs_keep : PrevsKeep
 prevs_keep w n y lawful fit prevs here within =
     let l = w.layout in
@@ -56,7 +49,7 @@ prevs_keep w n y lawful fit prevs here within =
     let can : CanAct l w.words (Store (prev_address l n) y) = ((addresses_within l (Volatile n 1) has, outside_header l (Volatile n 1) has (λ k lt. (λ e. cc, λ e. cc))), omega arith) in
     record {
       kept = beside_law w words lawful (acted_row l w.words (Store (prev_address l n) y) lawful.row can)
-          (facts-elsewhere l w.words w.base w.history (Volatile n 1) y has (λ m o e. cc, λ m e. let no : 1 ≡ 0 = ap offset_of e in omega arith))
+          (facts-elsewhere l w.words w.base w.history (Volatile n 1) y has (λ m o e. cc, λ m e. let no : 1 ≡ 0 = ap offset_at e in omega arith))
           (nearer l w.words words (store_closer l w.words (Volatile n 1) y has (λ v e. cc)))
           (at-set_other l w.words (Volatile n 1) Clock y has tt (λ e. cc))
           (λ v there none. at-set_other l w.words (Volatile n 1) (Cached v) y has there (λ e. cc));
@@ -64,6 +57,6 @@ prevs_keep w n y lawful fit prevs here within =
       prevs = λ m low. ⊎_elim
           (λ (same : m ≡ n). subst (λ k. at l words (Volatile k 1) < l.nodes) (sym same)
           (subst (λ x. x < l.nodes) (sym (at-set_same l w.words (Volatile n 1) y lawful.row.whole has)) within))
-          (λ (other : m ≢ n). subst (λ x. x < l.nodes) (sym (at-set_other l w.words (Volatile n 1) (Volatile m 1) y has (low, omega arith) (λ e. other (ap node_of e)))) (prevs m low))
+          (λ (other : m ≢ n). subst (λ x. x < l.nodes) (sym (at-set_other l w.words (Volatile n 1) (Volatile m 1) y has (low, omega arith) (λ e. other (ap node_at e)))) (prevs m low))
           (cases_eq m n);
     }

@@ -37,6 +37,7 @@ use Rattle.index_law.proofs.Rows.{facts-elsewhere, spot_in-here}
 use Rattle.index_law.proofs.Parties.{at_set, set_here, set_else}
 use Rattle.index_law.proofs.Starts.{start_law, rest_law, idle_law, listed_within}
 use Rattle.index_law.proofs.Twins.{IsCloser, evict_closer, evict_cached}
+use Rattle.index_law.proofs.Places.{node_at, offset_at}
 
 -- a row in which the nodes, their prevs and the lines are the same, with such parties
 pub moved_footed : (z : Whole) (words : List ℕ) (parties : List Party) → IsFooted z → Lawful (record (z.world) { words = words; parties = parties }) → AreAlike z.world.parties parties
@@ -190,15 +191,6 @@ guarded_twice true true x is = is refl refl
 guarded_twice true false x is = refl
 guarded_twice false b x is = refl
 
--- which volatile word a location is
-abbrev offset_of : Location → ℕ
-offset_of (Volatile n o) = o
-offset_of _ = 0
-
-abbrev node_of : Location → ℕ
-node_of (Volatile n o) = n
-node_of _ = 0
-
 module _ (l : Layout) (layout : IsLayout l) where
   first_here : 0 < l.nodes
   first_here = let least = layout.nodes in omega arith
@@ -225,14 +217,14 @@ module _ (l : Layout) (layout : IsLayout l) where
   unfolding prev_in
   zero_prev n = guarded _ (at l (fresh_row l) (Volatile n 1)) (λ here.
       let has : HasLocation l (Volatile n 1) = (ltb-true n l.nodes here, omega arith) in
-      stays_zero (Volatile n 1) has (λ e. let no : 1 ≡ 0 = ap offset_of e in omega arith) (marked-at_volatile l (Volatile n 1) has (omega arith) (λ e. cc)))
+      stays_zero (Volatile n 1) has (λ e. let no : 1 ≡ 0 = ap offset_at e in omega arith) (marked-at_volatile l (Volatile n 1) has (omega arith) (λ e. cc)))
 
   -- the other nodes FREE,
   zero_status : (n : ℕ) → n ≢ 0 → status_in l (fresh_row l) n ≡ 0
   unfolding status_in
   zero_status n other = guarded _ (at l (fresh_row l) (Volatile n 0)) (λ here.
       let has : HasLocation l (Volatile n 0) = (ltb-true n l.nodes here, omega arith) in
-      stays_zero (Volatile n 0) has (λ e. other (ap node_of e)) (marked-at_volatile l (Volatile n 0) has (omega arith) (λ e. cc)))
+      stays_zero (Volatile n 0) has (λ e. other (ap node_at e)) (marked-at_volatile l (Volatile n 0) has (omega arith) (λ e. cc)))
 
   -- and no node leads to another
   zero_next : (n : ℕ) → n < l.nodes → spot_in l (fresh_row l) n next_offset ≡ 0
@@ -286,8 +278,8 @@ stamp_footed z n is here lawful =
     let has : HasLocation l (Volatile n 2) = (here, omega arith) in
     moved_footed z (set words (address_of l (Volatile n 2)) 1) z.world.parties is lawful
     (record { forth = λ i q there. (q, there, refl, refl); back = λ i q there. (q, there, refl, refl) })
-    (facts-elsewhere l words z.world.base z.world.history (Volatile n 2) 1 has (λ m o e. cc, λ m e. let no : 2 ≡ 0 = ap offset_of e in omega arith))
-    (store_prev l words (Volatile n 2) 1 has (λ k e. let no : 1 ≡ 2 = ap offset_of e in omega arith))
+    (facts-elsewhere l words z.world.base z.world.history (Volatile n 2) 1 has (λ m o e. cc, λ m e. let no : 2 ≡ 0 = ap offset_at e in omega arith))
+    (store_prev l words (Volatile n 2) 1 has (λ k e. let no : 1 ≡ 2 = ap offset_at e in omega arith))
     (store_leaves l words (Volatile n 2) 1 has (λ c j o. (λ e. cc, λ e. cc)))
 
 -- an index with no call in flight as its next round begins, with other idle parties

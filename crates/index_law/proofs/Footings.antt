@@ -33,6 +33,7 @@ use Rattle.index_law.proofs.Own.{allow_law, sure_within}
 use Rattle.index_law.proofs.Parties.{set_here, set_else}
 use Rattle.index_law.proofs.Prevs.{store_prev}
 use Rattle.index_law.proofs.Whole.{prev_leaves, whole_node, whole_line, whole_prev}
+use Rattle.index_law.proofs.Places as places
 
 pub foot_any : FootStepIsAny
 foot_any l g c f t a x r (foot.on_nodes minds kept k deals) = on_nodes k
@@ -42,14 +43,6 @@ foot_any l g c f t a x r (foot.on_layer none place) = beside none (loads_layer p
 foot_any l g c f t a x r (foot.on_permutation none on) = beside none (on_permutation on)
 
 -- a step on a line leaves the words of every other line
-abbrev caller_in : Location → ℕ
-caller_in (Cached (Line c j o)) = c
-caller_in _ = 0
-
-abbrev number_in : Location → ℕ
-number_in (Cached (Line c j o)) = j
-number_in _ = 0
-
 other_stays : (l : Layout) (words : List ℕ) (line : Option HeldLine) (a : Action) (x : ℕ) (after : Option HeldLine) → IfSome line (λ e. (e.caller < l.callers) × (e.number < 8))
     → Notes l line a x after → (c j offset : ℕ) → IfSome line (λ e. (c ≢ e.caller) ⊎ (j ≢ e.number)) → line_in l (acted l words a) c j offset ≡ line_in l words c j offset
 other_stays l words line a x after here (passes_line {c = d} {j = k} {offset = o} caller low small) c j offset other = ap (λ v. line_in l v c j offset) (set-get_or words (line_address l d k o) 0)
@@ -58,7 +51,7 @@ other_stays l words line a x after here (looks_up {offset = o} {e = e} small lea
 other_stays l words line a x after here (notes {y = y} {offset = o} {e = e} small fits marks soils told keeps) c j offset other =
     line-alike l words (slice_set words (line_address l e.caller e.number o) y) c j offset (λ there.
     at-set_other l words (Cached (Line e.caller e.number o)) (Cached (Line c j offset)) y (here.0, here.1, small) there
-    (λ same. ⊎_elim (λ n. n (ap caller_in same)) (λ n. n (ap number_in same)) other))
+    (λ same. ⊎_elim (λ n. n (ap places.caller_at same)) (λ n. n (ap places.number_at same)) other))
 other_stays l words line a x after here (keeps_safe {y = y} {offset = o} {e = e} small fits hand cleans) c j offset other =
     line-alike l words (acted l words a) c j offset (λ there.
     ap (λ q. at l (slice_set words q y) (Cached (Line c j offset))) (action_address-drain l (Line e.caller e.number o) y)

@@ -35,10 +35,10 @@ or_true true = refl
 or_true false = refl
 
 module _ (l : Layout) (g : ℕ) (f : Facts) (caller index since : ℕ) where
-  -- the call at the left node, with other words known, dirty or in hand
-  again : (n w : ℕ) (h : Held) (known : Known) (dirty : List (ℕ × ℕ)) (hand : Option (ℕ × ℕ)) → Knows h.name known (f.now n) → IfSome hand (λ k. cached_word f n k.0 ≡ k.1)
-      → SureHolds l g f caller index since n w h → SureHolds l g f caller index since n w (record h { known = known; dirty = dirty; hand = hand })
-  again n w h known dirty hand knows is sure = record {
+  -- the call at the node that it holds, with other words known, dirty or in hand
+  pub again : (n w : ℕ) (h : Held) (known : Known) (dirty : List (ℕ × ℕ)) (hand : Option (ℕ × ℕ)) (ready : Bool) → Knows h.name known (f.now n) → IfSome hand (λ k. cached_word f n k.0 ≡ k.1)
+      → SureHolds l g f caller index since n w h → SureHolds l g f caller index since n w (record h { known = known; dirty = dirty; hand = hand; ready = ready })
+  again n w h known dirty hand ready knows is sure = record {
     here = sure.here;
     stands = sure.stands;
     lock = sure.lock;
@@ -122,7 +122,7 @@ module _ (l : Layout) (g : ℕ) (f : Facts) (caller index since : ℕ) where
           },
         )
     merge_mine (knows_own {n = n} {w = w} {h = h} {right = right} {k = k} has positive learnt) e knows = (
-      again n w h k h.dirty h.hand (learnt (f.now n) knows.0.means.tidy knows.0.knows (sym e)) knows.0.hand knows.0,
+      again n w h k h.dirty h.hand h.ready (learnt (f.now n) knows.0.means.tidy knows.0.knows (sym e)) knows.0.hand knows.0,
       meets_again n h right k h.dirty h.hand knows.1,
     )
     merge_mine (knows_right {right = right} {seen = seen} has positive told) e knows = (
@@ -180,9 +180,9 @@ module _ (l : Layout) (g : ℕ) (f : Facts) (caller index since : ℕ) where
           },
         )
     merge_mine (takes_up {n = n} {w = w} {x = x} {offset = offset} {h = h} {right = right} has) e knows =
-        (again n w h h.known h.dirty (Some (offset, x)) knows.0.knows (sym e) knows.0, meets_again n h right h.known h.dirty (Some (offset, x)) knows.1)
+        (again n w h h.known h.dirty (Some (offset, x)) h.ready knows.0.knows (sym e) knows.0, meets_again n h right h.known h.dirty (Some (offset, x)) knows.1)
     merge_mine (puts_down {n = n} {w = w} {h = h} {right = right} {dirty = dirty} has small hand cleans) e knows =
-        (again n w h h.known dirty None knows.0.knows tt knows.0, meets_again n h right h.known dirty None knows.1)
+        (again n w h h.known dirty None h.ready knows.0.knows tt knows.0, meets_again n h right h.known dirty None knows.1)
     merge_mine (parts {n = n} {w = w} {freed = freed} {h = h} {right = right} next) e knows =
         holds_kept l g f (with_version f right.node freed) (later-version l f right.node freed) n (steady-version l f right.node freed n knows.1.apart) caller index since w h knows.0
     merge_mine (gathers {n = n} {w = w} {y = y} {h = h} {right = right} {seen = seen} {dirty = dirty} small durable soiled told gathered) e knows =

@@ -1,5 +1,6 @@
 pub mod Parties
 pub mod Maps
+pub mod Places
 pub mod Rows
 pub mod Switch
 pub mod Past

@@ -7,7 +7,7 @@ use Rattle.pm_words.specs.declared.layout.Layout.{Layout}
 use Rattle.cat_history.specs.Maps.{Map, at}
 use Rattle.cat_history.specs.Writes.{after, after_all, changed}
 use Rattle.shapes.specs.Anchors.{below, AnchorsRise, Anchors, AreAnchors, is_under, is_between, names_between, names_at, up_to, middle_of, past, target_of, next_of, IsFullPut, splits, put_anchors, merges, del_anchors}
-use Rattle.shapes.specs.Members.{members}
+use Rattle.shapes.specs.Members.{Member, members}
 use Rattle.shapes.specs.Laws.{CutsInHalf}
 use Rattle.shapes.specs.Weights.{IsShape}
 use Rattle.shapes.proofs.Orders.{clash, below-chain}
@@ -39,9 +39,10 @@ under-all : (after : Anchors) (x : List ℕ) → AnchorsRise after → is_under 
 under-all [] x rise is = tt
 under-all (a ∷ rest) x rise is = (is, all_by (λ b. below a b ≡ true) (λ b. below x b ≡ true) (λ b more. below-chain x a b is more) rest rise.0)
 
--- a text between the target of a name and the next anchor has this target too
-pub same-target : (m : Map) (anchors : Anchors) (name other : List ℕ) → AreAnchors anchors → is_between (target_of anchors name) (next_of anchors name) other ≡ true → target_of anchors other ≡ target_of anchors name
-same-target m anchors name other are inside =
+-- a text between the target of a name and the next anchor is of the same member
+same-member : (m : Map) (anchors : Anchors) (name other : List ℕ) (are : AreAnchors anchors) → is_between (target_of anchors name) (next_of anchors name) other ≡ true
+    → member_of m (part anchors name are).low (slice_get (part anchors name are).after 0) ≡ member_of m (part anchors other are).low (slice_get (part anchors other are).after 0)
+same-member m anchors name other are inside =
     let p = part anchors name are in
     let q = part anchors other are in
     let high : Option (List ℕ) = slice_get p.after 0 in
@@ -50,19 +51,16 @@ same-target m anchors name other are inside =
     let above = under-all p.after other (rise-second p.before (p.low ∷ p.after) (subst AnchorsRise p.is are.rise)).1 (and-second (not (below other p.low)) (is_under high other) here) in
     let same = one_target other (members m anchors) (members_before m p.before p.low) (member_of m p.low high) (members m p.after) (members_before m q.before q.low) (member_of m q.low (slice_get q.after 0)) (members m q.after)
     (record { place = ap (members m) p.is ∙ members-parts m p.before p.low p.after; at_most = from; last = members-above m other p.after above }) (is-target m anchors other q) in
-    target-is anchors other q ∙ sym (ap (λ (x : Parts). x.target.anchor) same) ∙ sym (target-is anchors name p)
+    ap (λ (x : Parts). x.target) same
+
+-- so it has this target, too, and as many names beside it
+pub same-target : (m : Map) (anchors : Anchors) (name other : List ℕ) → AreAnchors anchors → is_between (target_of anchors name) (next_of anchors name) other ≡ true → target_of anchors other ≡ target_of anchors name
+same-target m anchors name other are inside =
+    target-is anchors other (part anchors other are) ∙ sym (ap (λ (x : Member). x.anchor) (same-member m anchors name other are inside)) ∙ sym (target-is anchors name (part anchors name are))
 
 pub same-next : (m : Map) (anchors : Anchors) (name other : List ℕ) → AreAnchors anchors → is_between (target_of anchors name) (next_of anchors name) other ≡ true → names_at m anchors other ≡ names_at m anchors name
 same-next m anchors name other are inside =
-    let p = part anchors name are in
-    let q = part anchors other are in
-    let high : Option (List ℕ) = slice_get p.after 0 in
-    let here : is_between p.low high other ≡ true = subst (λ low. is_between low high other ≡ true) (target-is anchors name p) (subst (λ next. is_between (target_of anchors name) next other ≡ true) (next-is anchors name p) inside) in
-    let from : below other p.low ≡ false = not-is (below other p.low) (and-first (not (below other p.low)) (is_under high other) here) in
-    let above = under-all p.after other (rise-second p.before (p.low ∷ p.after) (subst AnchorsRise p.is are.rise)).1 (and-second (not (below other p.low)) (is_under high other) here) in
-    let same = one_target other (members m anchors) (members_before m p.before p.low) (member_of m p.low high) (members m p.after) (members_before m q.before q.low) (member_of m q.low (slice_get q.after 0)) (members m q.after)
-    (record { place = ap (members m) p.is ∙ members-parts m p.before p.low p.after; at_most = from; last = members-above m other p.after above }) (is-target m anchors other q) in
-    names_at-is m anchors other q ∙ sym (ap (λ (x : Parts). x.target.names) same) ∙ sym (names_at-is m anchors name p)
+    names_at-is m anchors other (part anchors other are) ∙ sym (ap (λ (x : Member). x.names) (same-member m anchors name other are inside)) ∙ sym (names_at-is m anchors name (part anchors name are))
 
 pub switch_is_put : SwitchIsPut
 switch_is_put l nodes f anchors name cut list shape slots even named inside lacks =

@@ -103,29 +103,24 @@ loose_gives l g f caller index since s (Some (once.Again (again.Epoch first seco
 
 -- ---- stages without a change of a name
 
+-- a stage that is out has placed nothing and merged nothing
+out_has_none : (s : Stage) → IsOut s → (placed_in s ≡ None) × (has_merged s ≡ false)
+out_has_none Idle out = (refl, refl)
+out_has_none (Saw n v w k) out = (refl, refl)
+out_has_none (Wears n v) out = (refl, refl)
+out_has_none (Reads n v sight told) out = (refl, refl)
+out_has_none (Holds n w h) out = absurd out
+out_has_none (Eyes n w h m v u free) out = absurd out
+out_has_none (Splits left fresh phase) out = (refl, refl)
+out_has_none (Leaves left) out = (refl, refl)
+out_has_none (Meets n w h right) out = absurd out
+out_has_none (Joins h left right pace) out = absurd out
+
 pub out_unplaced : (s : Stage) → IsOut s → placed_in s ≡ None
-out_unplaced Idle out = refl
-out_unplaced (Saw n v w k) out = refl
-out_unplaced (Wears n v) out = refl
-out_unplaced (Reads n v sight told) out = refl
-out_unplaced (Holds n w h) out = absurd out
-out_unplaced (Eyes n w h m v u free) out = absurd out
-out_unplaced (Splits left fresh phase) out = refl
-out_unplaced (Leaves left) out = refl
-out_unplaced (Meets n w h right) out = absurd out
-out_unplaced (Joins h left right pace) out = absurd out
+out_unplaced s out = (out_has_none s out).0
 
 pub out_unmerged : (s : Stage) → IsOut s → has_merged s ≡ false
-out_unmerged Idle out = refl
-out_unmerged (Saw n v w k) out = refl
-out_unmerged (Wears n v) out = refl
-out_unmerged (Reads n v sight told) out = refl
-out_unmerged (Holds n w h) out = absurd out
-out_unmerged (Eyes n w h m v u free) out = absurd out
-out_unmerged (Splits left fresh phase) out = refl
-out_unmerged (Leaves left) out = refl
-out_unmerged (Meets n w h right) out = absurd out
-out_unmerged (Joins h left right pace) out = absurd out
+out_unmerged s out = (out_has_none s out).1
 
 pub loose_out : (s : Stage) → IsLoose s → IsOut s
 loose_out Idle loose = tt

@@ -24,6 +24,7 @@ use Rattle.index_law.specs.Lines.{line_in, safe_line, AreFit, IsGiven, WaitsOrIs
 use Rattle.index_law.proofs.Backing.{known_mix, before_store, before_mix, after_mix, without_mix}
 use Rattle.index_law.proofs.Rows.{facts-elsewhere}
 use Rattle.index_law.proofs.Twins.{blank_word, aside_blank, IsCloser, IsNearer, IsAside, nearer, evict_closer, evict_cached, store_closer, closer_stage, closer_durable, closer_versions, closer_front}
+use Rattle.index_law.proofs.Places.{caller_at, number_at, offset_at}
 
 -- the words that belong to a line
 abbrev in_line : Layout → ℕ → ℕ → ℕ → Bool
@@ -170,21 +171,6 @@ abbrev durable_word : Location → Word
 durable_word (Durable v) = v
 durable_word _ = Header 0
 
-abbrev number_of : Location → ℕ
-number_of (Cached (Line c j o)) = j
-number_of (Durable (Line c j o)) = j
-number_of _ = 0
-
-abbrev caller_of : Location → ℕ
-caller_of (Cached (Line c j o)) = c
-caller_of (Durable (Line c j o)) = c
-caller_of _ = 0
-
-abbrev offset_of : Location → ℕ
-offset_of (Cached (Line c j o)) = o
-offset_of (Durable (Line c j o)) = o
-offset_of _ = 0
-
 pub same_spots : (s t : Spot) → ((offset : ℕ) → s offset ≡ t offset) → s ≡ t
 same_spots s t same = λ k offset. same offset k
 
@@ -206,7 +192,7 @@ module _ (w : World) (lawful : Lawful w) (fit : AreFit w.layout w.words) (e : He
     other_line : (d k o : ℕ) → (d ≢ e.caller) ⊎ ((k ≢ e.number) ⊎ (o ≢ offset)) → (line_in w.layout stored d k o ≡ line_in w.layout w.words d k o)
     other_line d k o other = line-alike w.layout w.words stored d k o (λ there.
         at-set_other w.layout w.words (Cached (Line e.caller e.number offset)) (Cached (Line d k o)) y has there
-        (λ same. ⊎_elim (λ n. n (ap caller_of same)) (λ rest. ⊎_elim (λ n. n (ap number_of same)) (λ n. n (ap offset_of same)) rest) other))
+        (λ same. ⊎_elim (λ n. n (ap caller_at same)) (λ rest. ⊎_elim (λ n. n (ap number_at same)) (λ n. n (ap offset_at same)) rest) other))
 
     own_line : (o : ℕ) → line_in w.layout stored e.caller e.number o ≡ updated now offset y o
     own_line o = ⊎_elim
@@ -339,7 +325,7 @@ module _ (w : World) (e : HeldLine) (lawful : Lawful w) (fit : AreFit w.layout w
 
   safe_other : (c j o : ℕ) → (c ≢ e.caller) ⊎ ((j ≢ e.number) ⊎ (o ≢ offset)) → safe_line w.layout drained c j o ≡ safe_line w.layout w.words c j o
   safe_other c j o other = safe-alike w.layout w.words drained c j o (λ there. drained_other (Durable (Line c j o)) there
-      (λ d. ⊎_elim (λ n. n (ap caller_of d)) (λ rest. ⊎_elim (λ n. n (ap number_of d)) (λ n. n (ap offset_of d)) rest) other))
+      (λ d. ⊎_elim (λ n. n (ap caller_at d)) (λ rest. ⊎_elim (λ n. n (ap number_at d)) (λ n. n (ap offset_at d)) rest) other))
 
   safe_own : safe_line w.layout drained e.caller e.number offset ≡ y
   safe_own = safe-here w.layout drained e.caller e.number offset has ∙ ap (λ z. at w.layout z (Durable (Line e.caller e.number offset))) at_durable

@@ -14,14 +14,14 @@ use Rattle.cat_history.specs.declared.op.Write.{Write}
 use Rattle.cat_key.specs.Names.{IsName}
 use Rattle.data_node.proofs.CountLemmas.{full_has_in}
 use Rattle.data_node.specs.Spots.{Spot, Means, updated}
-use Rattle.data_node.specs.Lists.{next_offset, StaysIn}
+use Rattle.data_node.specs.Lists.{next_offset, key_of, IsBetween, StaysIn}
 use Rattle.call_stages.specs.declared.once.Once.{Once}
 use Rattle.call_stages.specs.declared.once.Placed.{Placed}
-use Rattle.call_stages.specs.Stages.{Knows, KnowsDurable, IsAmong, Held, Stage, Idle, Saw, Wears, Reads, Holds, Eyes, Splits, Leaves, Meets, Joins, pended}
+use Rattle.call_stages.specs.Stages.{Knows, KnowsDurable, IsAmong, Held, Sight, Sees, just_held, Stage, Idle, Saw, Wears, Reads, Holds, Eyes, Splits, Leaves, Meets, Joins, pended}
 use Rattle.call_stages.specs.Kinds.{finds_live, watches, watches_next, turns_away, steps_back, wanders, fills, lights, switches, glances_left, glances_fresh, drains_left, drains_fresh, trims, meets, knows_own, knows_right, copies, takes_up, puts_down, parts, gathers, joins, glances_joined, drains_joined, retires, yields, merges, splits, peeks, peeks_status, eyes, eyes_free, passes, loses, claims, publishes, leaves}
 use Rattle.call_stages.specs.Kinds.{Look, turns_back, is_worn, wears, roams, roams_status, sees, misses, misses_read, times, learns, decides, glances, Answers, writes, reads, is_spent, has_no_room, refuses, Step, looks, locks, locks_read, stores, commits, drains, counts, unlocks}
 use Rattle.index_law.specs.Facts.{Facts, map_now, range_of}
-use Rattle.index_law.specs.Lawful.{IsList, AreLive, AreKnown, AreSettled, IsTime, HasWriteAt, IsPlaced, map_before, SureHolds, Sure}
+use Rattle.index_law.specs.Lawful.{IsList, AreLive, AreKnown, AreSettled, IsTime, HasWriteAt, IsPlaced, map_before, IsOwnLock, Stands, SureHolds, SureSaw, Sure}
 use Rattle.index_law.specs.Laws.{loads_clock, loads_word, loads_status, loads_prev, exchanges, exchanges_read, stores_word, stores_status, drains_word, adds, claims_node, frees_fresh, frees_left, frees_met, frees_right, frees, IsWithin, StepIsAllowed, IsLegalHeld, IsLegal}
 use Rattle.index_law.proofs.Maps.{after_all-push, after-longer, after-whole, slice_get-last, means_alike}
 use Rattle.index_law.proofs.Moves.{fact_after, Gave, Gives, content_positive}
@@ -29,12 +29,12 @@ use Rattle.index_law.proofs.Rows.{with_version, with_word}
 use Rattle.index_law.proofs.Switch.{between_inside, inside_listed}
 use Rattle.index_law.proofs.Bystanders.{grip_kept, later-version, steady-version}
 use Rattle.index_law.proofs.Versions.{own_lock, unfree}
-use Rattle.index_law.proofs.Reading.{read_allowed, read_mine, read_legal}
+use Rattle.index_law.proofs.Reading.{read_allowed, read_mine, read_legal, stands_live, stands_next, stands_word}
 use Rattle.call_stages.specs.Kinds.{reads_on}
 use Rattle.index_law.proofs.Loose.{loose_legal, loose_gives}
 use Rattle.index_law.proofs.Stays.{stays_stored, stays_changed}
 use Rattle.index_law.proofs.Splitting.{split_mine}
-use Rattle.index_law.proofs.Joining.{merge_mine}
+use Rattle.index_law.proofs.Joining.{again, merge_mine}
 
 -- a step is one of those that its party may do
 pub allow_law : StepIsAllowed
@@ -130,6 +130,20 @@ begun_below : (limit : Option ℕ) (since clock : ℕ) → since ≤ clock → I
 begun_below None since clock later below = tt
 begun_below (Some most) since clock later below = omega arith
 
+-- what a party saw of a node stands once it sees more
+saw_on : (l : Layout) (g : ℕ) (f : Facts) (n v w : ℕ) (k k' : Sight) → (k'.live ≡ true → f.now n next_offset < l.nodes) → (f.version n ≡ v → Stands f n k → Stands f n k')
+    → SureSaw l g f n v w k → SureSaw l g f n v w k'
+saw_on l g f n v w k k' leads more knows = record {
+  here = knows.here;
+  known = knows.known;
+  free = knows.free;
+  unworn = knows.unworn;
+  lock = knows.lock;
+  seen = knows.seen;
+  leads = leads;
+  stands = λ same. more same (knows.stands same);
+}
+
 module _ {l : Layout} {g : ℕ} (f : Facts) (caller index since : ℕ) where
   -- what is known of a call with nothing pending
   pub clean_means : (n w : ℕ) (h : Held) → SureHolds l g f caller index since n w h → h.pending ≡ None → Means l.slots (range_of l f n) (f.now n) (map_now f)
@@ -161,55 +175,13 @@ module _ {l : Layout} {g : ℕ} (f : Facts) (caller index since : ℕ) where
         leads = λ ne. absurd (ne refl);
       };
     }
-    look_mine (finds_live {n = n} {v = v} {x = x} here is) e knows = record {
-      here = knows.here;
-      known = knows.known;
-      free = knows.free;
-      unworn = knows.unworn;
-      lock = knows.lock;
-      seen = knows.seen;
-      leads = λ _. live_part.leads n here (sym e ∙ is);
-      stands = λ same.
-          let was = knows.stands same in
-          record {
-            listed = λ _. live_part.listed n here (sym e ∙ is) (subst (λ (u : ℕ). IsFree u g) (sym same) knows.free);
-            sees = record { seen = was.sees.seen; leads = was.sees.leads; beyond = was.sees.beyond };
-            leads = was.leads;
-          };
-    }
-    look_mine (watches {n = n} has positive live next learnt) e knows = record {
-      here = knows.here;
-      known = knows.known;
-      free = knows.free;
-      unworn = knows.unworn;
-      lock = knows.lock;
-      seen = knows.seen;
-      leads = λ is. knows.leads (sym live ∙ is);
-      stands = λ same.
-          let was = knows.stands same in
-          record {
-            listed = λ is. was.listed (sym live ∙ is);
-            sees = learnt (f.now n) (f.now (f.now n next_offset)) was.sees (sym e);
-            leads = λ ne. was.leads (λ z. ne (next ∙ z));
-          };
-    }
-    look_mine (watches_next {n = n} {m = m} {offset = offset} has low high ne live live' next leads learnt) e knows = record {
-      here = knows.here;
-      known = knows.known;
-      free = knows.free;
-      unworn = knows.unworn;
-      lock = knows.lock;
-      seen = knows.seen;
-      leads = λ _. knows.leads live;
-      stands = λ same.
-          let was = knows.stands same in
-          let to : f.now n next_offset ≡ m = leads (f.now n) (f.now (f.now n next_offset)) was.sees in
-          record {
-            listed = λ _. was.listed live;
-            sees = learnt (f.now n) (f.now (f.now n next_offset)) was.sees (ap (λ (k : ℕ). f.now k offset) to ∙ sym e);
-            leads = λ _. was.listed live;
-          };
-    }
+    look_mine (finds_live {n = n} {v = v} {w = w} {k = k} here is) e knows =
+        saw_on l g f n v w k (record k { live = true }) (λ _. live_part.leads n here (sym e ∙ is))
+        (λ same. stands_live f n k (live_part.listed n here (sym e ∙ is) (subst (λ (u : ℕ). IsFree u g) (sym same) knows.free))) knows
+    look_mine (watches {n = n} {v = v} {w = w} {x = x} {offset = offset} {k = k} {k' = k'} has positive live next learnt) e knows =
+        saw_on l g f n v w k k' (λ is. knows.leads (sym live ∙ is)) (λ same. stands_word f n offset x k k' live next learnt e) knows
+    look_mine (watches_next {n = n} {v = v} {w = w} {m = m} {x = x} {offset = offset} {k = k} {k' = k'} has low high ne live live' next leads learnt) e knows =
+        saw_on l g f n v w k k' (λ _. knows.leads live) (λ same. stands_next f n m offset x k k' live leads learnt e) knows
     look_mine (turns_away {s = s} loose here up) e knows = tt
     look_mine (steps_back {s = s} loose here up) e knows = tt
     look_mine (wanders {s = s} loose here up) e knows = tt
@@ -271,23 +243,8 @@ module _ {l : Layout} {g : ℕ} (f : Facts) (caller index since : ℕ) where
       old = knows.old;
       placed = knows.placed;
     }
-    look_mine (learns {n = n} has positive unready learnt) e knows = record {
-      here = knows.here;
-      stands = knows.stands;
-      lock = knows.lock;
-      named = knows.named;
-      inside = knows.inside;
-      knows = learnt (f.now n) knows.means.tidy knows.knows (sym e);
-      hand = knows.hand;
-      means = knows.means;
-      stays = knows.stays;
-      about = knows.about;
-      shown = knows.shown;
-      below = knows.below;
-      time = knows.time;
-      old = knows.old;
-      placed = knows.placed;
-    }
+    look_mine (learns {n = n} {w = w} {h = h} {k = k} has positive unready learnt) e knows =
+        again l g f caller index since n w h k h.dirty h.hand h.ready (learnt (f.now n) knows.means.tidy knows.knows (sym e)) knows.hand knows
     look_mine (decides {n = n} {w = w} {h = h} {old = old} {pending = pending} has positive clean durable about learnt decided) e knows =
         let means = clean_means n w h knows clean.pending in
         let found = decided (range_of l f n) (f.now n) (map_now f) knows.inside knows.knows (sym e) means in
@@ -309,61 +266,40 @@ module _ {l : Layout} {g : ℕ} (f : Facts) (caller index since : ℕ) where
           placed = knows.placed;
         }
     look_mine (reads_on k) e knows = read_mine f caller index since begun known list live_part settled k e knows
-    look_mine (glances has unready) e knows = record {
-      here = knows.here;
-      stands = knows.stands;
-      lock = knows.lock;
-      named = knows.named;
-      inside = knows.inside;
-      knows = knows.knows;
-      hand = sym e;
-      means = knows.means;
-      stays = knows.stays;
-      about = knows.about;
-      shown = knows.shown;
-      below = knows.below;
-      time = knows.time;
-      old = knows.old;
-      placed = knows.placed;
-    }
+    look_mine (glances {n = n} {w = w} {x = x} {offset = offset} {h = h} has unready) e knows =
+        again l g f caller index since n w h h.known h.dirty (Some (offset, x)) h.ready knows.knows (sym e) knows
+
+    -- what a party knows of a node that it has just locked
+    locked : (n v w : ℕ) (k : Sight) (name : List ℕ) → k.live ≡ true → ((s t : Spot) → Sees k s t → IsBetween s t (key_of name)) → Stands f n k → f.version n ≡ v → n < l.nodes → IsFree v g
+        → IsOwnLock g w → IsName name → SureHolds l g (with_version f n w) caller index since n w (just_held name)
+    locked n v w k name live between stands same here free lock named =
+        let listed = stands.listed live in
+        let now = settled n listed (subst (λ (u : ℕ). IsFree u g) (sym same) free) in
+        record {
+          here = here;
+          stands = ap (λ (b : Bool). cond b w (f.version n)) (eq-eqb n n refl);
+          lock = lock;
+          named = named;
+          inside = between_inside l f list n name listed (between (f.now n) (f.now (f.now n next_offset)) stands.sees);
+          knows = record { seen = tt; left = tt };
+          hand = tt;
+          means = now.means;
+          stays = now.stays;
+          about = tt;
+          shown = tt;
+          below = tt;
+          time = tt;
+          old = tt;
+          placed = tt;
+        }
 
     pub mine : {s : Stage} {a : Action} {x : ℕ} {t : Stage} {r : Option (Once Placed)} → (k : Step l g s a x t r) → Gives k f → Sure l g f caller index since s
         → Sure l g (fact_after k f caller index) caller index since t
     mine (looks look) e knows = look_mine look e knows
-    mine (locks {n = n} {v = v} {w = w} {name = name} same named live between) e knows = record {
-      here = knows.here;
-      stands = ap (λ (b : Bool). cond b w (f.version n)) (eq-eqb n n refl);
-      lock = own_lock v w g knows.known knows.unworn knows.lock;
-      named = named;
-      inside = between_inside l f list n name ((knows.stands (sym e ∙ same)).listed live) (between (f.now n) (f.now (f.now n next_offset)) (knows.stands (sym e ∙ same)).sees);
-      knows = record { seen = tt; left = tt };
-      hand = tt;
-      means = (settled n ((knows.stands (sym e ∙ same)).listed live) (subst (λ (u : ℕ). IsFree u g) (sym (sym e ∙ same)) knows.free)).means;
-      stays = (settled n ((knows.stands (sym e ∙ same)).listed live) (subst (λ (u : ℕ). IsFree u g) (sym (sym e ∙ same)) knows.free)).stays;
-      about = tt;
-      shown = tt;
-      below = tt;
-      time = tt;
-      old = tt;
-      placed = tt;
-    }
-    mine (locks_read {n = n} {v = v} {w = w} {name = name} same named live between unworn taken small) e knows = record {
-      here = knows.here;
-      stands = ap (λ (b : Bool). cond b w (f.version n)) (eq-eqb n n refl);
-      lock = own_lock v w g knows.known unworn taken;
-      named = named;
-      inside = between_inside l f list n name ((knows.stands (sym e ∙ same)).listed live) (between (f.now n) (f.now (f.now n next_offset)) (knows.stands (sym e ∙ same)).sees);
-      knows = record { seen = tt; left = tt };
-      hand = tt;
-      means = (settled n ((knows.stands (sym e ∙ same)).listed live) (subst (λ (u : ℕ). IsFree u g) (sym (sym e ∙ same)) knows.free)).means;
-      stays = (settled n ((knows.stands (sym e ∙ same)).listed live) (subst (λ (u : ℕ). IsFree u g) (sym (sym e ∙ same)) knows.free)).stays;
-      about = tt;
-      shown = tt;
-      below = tt;
-      time = tt;
-      old = tt;
-      placed = tt;
-    }
+    mine (locks {n = n} {v = v} {w = w} {k = k} {name = name} same named live between) e knows =
+        locked n v w k name live between (knows.stands (sym e ∙ same)) (sym e ∙ same) knows.here knows.free (own_lock v w g knows.known knows.unworn knows.lock) named
+    mine (locks_read {n = n} {v = v} {w = w} {k = k} {name = name} same named live between unworn taken small) e knows =
+        locked n v w k name live between (knows.stands (sym e ∙ same)) (sym e ∙ same) knows.here knows.free (own_lock v w g knows.known unworn taken) named
     mine (stores {n = n} {y = y} {offset = offset} {h = h} {k = k} has content small clean soils learnt means) e knows = record {
       here = knows.here;
       stands = knows.stands;
@@ -406,23 +342,7 @@ module _ {l : Layout} {g : ℕ} (f : Facts) (caller index since : ℕ) where
       old = knows.old;
       placed = knows.placed;
     }
-    mine (drains has small unready hand cleans) e knows = record {
-      here = knows.here;
-      stands = knows.stands;
-      lock = knows.lock;
-      named = knows.named;
-      inside = knows.inside;
-      knows = knows.knows;
-      hand = tt;
-      means = knows.means;
-      stays = knows.stays;
-      about = knows.about;
-      shown = knows.shown;
-      below = knows.below;
-      time = knows.time;
-      old = knows.old;
-      placed = knows.placed;
-    }
+    mine (drains {n = n} {w = w} {h = h} {dirty = dirty} {ready = ready} has small unready hand cleans) e knows = again l g f caller index since n w h h.known dirty None ready knows.knows tt knows
     mine (counts {n = n} {w = w} {x = x} {h = h} {c = c} durable ready pending unplaced) e knows =
         let write : Write = record { caller = caller; index = index; change = c } in
         let same : after f.base (f.history ++ write ∷ []) x ≡ map_now f = after-longer f.base f.history (write ∷ []) x (omega (arith, e)) ∙ after-whole f.base f.history x e in

@@ -6,16 +6,71 @@ use Rattle.pm_words.specs.declared.action.Action.{Action}
 use Rattle.version_lock.specs.Versions.{generation_of, IsFree}
 use Rattle.cat_history.specs.Maps.{Map, at}
 use Rattle.data_node.specs.Lists.{next_offset}
+use Rattle.data_node.specs.Spots.{Spot}
 use Rattle.call_stages.specs.declared.once.Once.{Once}
 use Rattle.call_stages.specs.declared.once.Placed.{Placed}
-use Rattle.call_stages.specs.Stages.{Stage}
+use Rattle.call_stages.specs.Stages.{Stage, Held, Known, Knows, Sight, Sees}
 use Rattle.call_stages.specs.Kinds.{Read, views, views_live, views_word, views_next, dates, notes, finds, confirms, wavers}
-use Rattle.index_law.specs.Facts.{Facts, map_now, range_of}
-use Rattle.index_law.specs.Lawful.{IsList, AreLive, AreKnown, AreSettled, IsTime, HasWriteAt, Sure}
+use Rattle.index_law.specs.Facts.{Facts, IsListed, map_now, range_of}
+use Rattle.index_law.specs.Lawful.{IsList, AreLive, AreKnown, AreSettled, IsTime, HasWriteAt, IsRead, Stands, Sure, SureReads}
 use Rattle.index_law.specs.Laws.{Allowed, loads_clock, loads_word, loads_status, IsLegal}
 use Rattle.index_law.proofs.Maps.{after-whole}
 use Rattle.index_law.proofs.Moves.{ReadGave}
 use Rattle.index_law.proofs.Switch.{between_inside}
+
+-- What was seen of a node stands once its status is seen, another word of it, or one of the node that it leads to.
+module _ (f : Facts) (n : ℕ) where
+  pub stands_live : (k : Sight) → IsListed f n → Stands f n k → Stands f n (record k { live = true })
+  stands_live k listed was = record {
+    listed = λ _. listed;
+    sees = record { seen = was.sees.seen; leads = was.sees.leads; beyond = was.sees.beyond };
+    leads = was.leads;
+  }
+
+  pub stands_word : (offset x : ℕ) (k k' : Sight) → k'.live ≡ k.live → k'.next ≡ k.next → ((s t : Spot) → Sees k s t → s offset ≡ x → Sees k' s t)
+      → x ≡ f.now n offset → Stands f n k → Stands f n k'
+  stands_word offset x k k' live next learnt e was = record {
+    listed = λ is. was.listed (sym live ∙ is);
+    sees = learnt (f.now n) (f.now (f.now n next_offset)) was.sees (sym e);
+    leads = λ ne. was.leads (λ z. ne (next ∙ z));
+  }
+
+  pub stands_next : (m offset x : ℕ) (k k' : Sight) → k.live ≡ true → ((s t : Spot) → Sees k s t → s next_offset ≡ m) → ((s t : Spot) → Sees k s t → t offset ≡ x → Sees k' s t)
+      → x ≡ f.now m offset → Stands f n k → Stands f n k'
+  stands_next m offset x k k' live leads learnt e was =
+      let to : f.now n next_offset ≡ m = leads (f.now n) (f.now (f.now n next_offset)) was.sees in
+      record {
+        listed = λ _. was.listed live;
+        sees = learnt (f.now n) (f.now (f.now n next_offset)) was.sees (ap (λ (j : ℕ). f.now j offset) to ∙ sym e);
+        leads = λ _. was.listed live;
+      }
+
+-- a reader that has read nothing yet sees more
+sees_on : (l : Layout) (g : ℕ) (f : Facts) (since n v : ℕ) (k k' : Sight) → (f.version n ≡ v → Stands f n k → Stands f n k') → SureReads l g f since n v k None → SureReads l g f since n v k' None
+sees_on l g f since n v k k' more knows = record {
+  here = knows.here;
+  known = knows.known;
+  free = knows.free;
+  seen = knows.seen;
+  reader = tt;
+  stands = λ same. more same (knows.stands same);
+  read = λ same. tt;
+}
+
+-- and one that has read some words reads more
+read_on : (l : Layout) (g : ℕ) (f : Facts) (since n v : ℕ) (k : Sight) (h : Held) (known : Known) (old : Option (Option ℕ)) → (IsRead l f since n h → Knows h.name known (f.now n))
+    → (IsRead l f since n h → IfSome old (λ was. at (map_now f) h.name ≡ was)) → SureReads l g f since n v k (Some h) → SureReads l g f since n v k (Some (record h { known = known; old = old }))
+read_on l g f since n v k h known old more has knows = record {
+  here = knows.here;
+  known = knows.known;
+  free = knows.free;
+  seen = knows.seen;
+  reader = record { named = knows.reader.named; unlimited = knows.reader.unlimited };
+  stands = knows.stands;
+  read = λ same.
+      let was = knows.read same in
+      record { listed = was.listed; named = was.named; inside = was.inside; settled = was.settled; knows = more was; time = was.time; old = has was };
+}
 
 module _ {l : Layout} {g : ℕ} where
   -- its action is one that a party may do
@@ -46,52 +101,12 @@ module _ {l : Layout} {g : ℕ} where
       };
       read = λ is. tt;
     }
-    read_mine begun known list lives settled (views_live {n = n} here is) e knows = record {
-      here = knows.here;
-      known = knows.known;
-      free = knows.free;
-      seen = knows.seen;
-      reader = tt;
-      stands = λ same.
-          let was = knows.stands same in
-          record {
-            listed = λ _. lives.listed n here (sym e ∙ is) (subst (λ (u : ℕ). IsFree u g) (sym same) knows.free);
-            sees = record { seen = was.sees.seen; leads = was.sees.leads; beyond = was.sees.beyond };
-            leads = was.leads;
-          };
-      read = λ same. tt;
-    }
-    read_mine begun known list lives settled (views_word {n = n} has positive live next learnt) e knows = record {
-      here = knows.here;
-      known = knows.known;
-      free = knows.free;
-      seen = knows.seen;
-      reader = tt;
-      stands = λ same.
-          let was = knows.stands same in
-          record {
-            listed = λ is. was.listed (sym live ∙ is);
-            sees = learnt (f.now n) (f.now (f.now n next_offset)) was.sees (sym e);
-            leads = λ ne. was.leads (λ z. ne (next ∙ z));
-          };
-      read = λ same. tt;
-    }
-    read_mine begun known list lives settled (views_next {n = n} {m = m} {offset = offset} has low high ne live live' next leads learnt) e knows = record {
-      here = knows.here;
-      known = knows.known;
-      free = knows.free;
-      seen = knows.seen;
-      reader = tt;
-      stands = λ same.
-          let was = knows.stands same in
-          let to : f.now n next_offset ≡ m = leads (f.now n) (f.now (f.now n next_offset)) was.sees in
-          record {
-            listed = λ _. was.listed live;
-            sees = learnt (f.now n) (f.now (f.now n next_offset)) was.sees (ap (λ (k : ℕ). f.now k offset) to ∙ sym e);
-            leads = λ _. was.listed live;
-          };
-      read = λ same. tt;
-    }
+    read_mine begun known list lives settled (views_live {n = n} {v = v} {k = k} here is) e knows =
+        sees_on l g f since n v k (record k { live = true }) (λ same. stands_live f n k (lives.listed n here (sym e ∙ is) (subst (λ (u : ℕ). IsFree u g) (sym same) knows.free))) knows
+    read_mine begun known list lives settled (views_word {n = n} {v = v} {x = x} {offset = offset} {k = k} {k' = k'} has positive live next learnt) e knows =
+        sees_on l g f since n v k k' (λ same. stands_word f n offset x k k' live next learnt e) knows
+    read_mine begun known list lives settled (views_next {n = n} {v = v} {m = m} {x = x} {offset = offset} {k = k} {k' = k'} has low high ne live live' next leads learnt) e knows =
+        sees_on l g f since n v k k' (λ same. stands_next f n m offset x k k' live leads learnt e) knows
     read_mine begun known list lives settled (dates {n = n} {x = x} {name = name} named live between kept) e knows = record {
       here = knows.here;
       known = knows.known;
@@ -122,44 +137,11 @@ module _ {l : Layout} {g : ℕ} where
             old = tt;
           };
     }
-    read_mine begun known list lives settled (notes {n = n} {h = h} has positive learnt) e knows = record {
-      here = knows.here;
-      known = knows.known;
-      free = knows.free;
-      seen = knows.seen;
-      reader = record { named = knows.reader.named; unlimited = knows.reader.unlimited };
-      stands = knows.stands;
-      read = λ same.
-          let was = knows.read same in
-          record {
-            listed = was.listed;
-            named = was.named;
-            inside = was.inside;
-            settled = was.settled;
-            knows = learnt (f.now n) was.settled.means.tidy was.knows (sym e);
-            time = was.time;
-            old = was.old;
-          };
-    }
-    read_mine begun known list lives settled (finds {n = n} {h = h} has positive learnt decided) e knows = record {
-      here = knows.here;
-      known = knows.known;
-      free = knows.free;
-      seen = knows.seen;
-      reader = record { named = knows.reader.named; unlimited = knows.reader.unlimited };
-      stands = knows.stands;
-      read = λ same.
-          let was = knows.read same in
-          record {
-            listed = was.listed;
-            named = was.named;
-            inside = was.inside;
-            settled = was.settled;
-            knows = learnt (f.now n) was.settled.means.tidy was.knows (sym e);
-            time = was.time;
-            old = decided (range_of l f n) (f.now n) (map_now f) was.inside was.knows (sym e) was.settled.means;
-          };
-    }
+    read_mine begun known list lives settled (notes {n = n} {v = v} {k = k} {h = h} {known = more} has positive learnt) e knows =
+        read_on l g f since n v k h more h.old (λ was. learnt (f.now n) was.settled.means.tidy was.knows (sym e)) (λ was. was.old) knows
+    read_mine begun known list lives settled (finds {n = n} {v = v} {k = k} {h = h} {known = more} {old = old} has positive learnt decided) e knows =
+        read_on l g f since n v k h more (Some old) (λ was. learnt (f.now n) was.settled.means.tidy was.knows (sym e))
+        (λ was. decided (range_of l f n) (f.now n) (map_now f) was.inside was.knows (sym e) was.settled.means) knows
     read_mine begun known list lives settled (confirms here same unplaced unlimited time old) e knows = tt
     read_mine begun known list lives settled (wavers here other) e knows = tt
 

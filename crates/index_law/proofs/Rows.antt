@@ -14,6 +14,7 @@ use Rattle.data_node.proofs.SpotLemmas.{updated-other}
 use Rattle.call_stages.specs.Kinds.{version_address, word_address, status_address, HasWordAt, IsContent}
 use Rattle.index_law.specs.Facts.{Facts, facts_of, version_in, status_in, spot_in, list_in, cached_word}
 use Rattle.data_node.proofs.ListLemmas.{members_alike}
+use Rattle.index_law.proofs.Places.{node_at, offset_at}
 
 -- the words that belong to a node's spot
 abbrev pub in_spot : Layout → ℕ → ℕ → Bool
@@ -169,15 +170,6 @@ links_else now n offset y m other = (
 )
 
 -- the offset of a place's word in its node
-abbrev offset_at : Location → ℕ
-offset_at (Cached (Node n offset)) = offset
-offset_at _ = 0
-
-abbrev node_at : Location → ℕ
-node_at (Cached (Node n offset)) = n
-node_at (Volatile n offset) = n
-node_at _ = 0
-
 -- a store at a node's version word
 pub facts-version : (l : Layout) (words : List ℕ) (base : Map) (history : List Write) (n w : ℕ) → length words ≡ row_words l → n < l.nodes
     → facts_of l (slice_set words (version_address l n) w) base history ≡ with_version (facts_of l words base history) n w
@@ -271,11 +263,12 @@ module _ (l : Layout) (words : List ℕ) (base : Map) (history : List Write) (n 
         history = history;
       })
 
--- a store by which a node leads to another one
-pub facts-next : (l : Layout) (words : List ℕ) (base : Map) (history : List Write) (n y : ℕ) → length words ≡ row_words l → HasWordAt l n next_offset
-    → members_from (word_set (spot_in l words) n next_offset y) l.nodes 0 ≡ with_member n (new_member (spot_in l words) y) 0 (list_in l words)
-    → facts_of l (slice_set words (word_address l n next_offset) y) base history ≡ with_next (facts_of l words base history) n y
-facts-next l words base history n y whole has list =
+-- a store by which a node leads elsewhere, with what it makes of the list
+facts-leads : (l : Layout) (words : List ℕ) (base : Map) (history : List Write) (n y : ℕ) (after : List ListNode) → length words ≡ row_words l → HasWordAt l n next_offset
+    → members_from (word_set (spot_in l words) n next_offset y) l.nodes 0 ≡ after
+    → facts_of l (slice_set words (word_address l n next_offset) y) base history
+    ≡ record { version = version_in l words; status = status_in l words; now = word_set (spot_in l words) n next_offset y; list = after; base = base; history = history }
+facts-leads l words base history n y after whole has list =
     (λ k. record {
       version = λ m. version-word l words base history n next_offset y whole has (omega arith) m k;
       status = λ m. status-word l words base history n next_offset y whole has (omega arith) m k;
@@ -292,23 +285,14 @@ facts-next l words base history n y whole has list =
       history = history;
     })
 
+-- a store by which a node leads to another one
+pub facts-next : (l : Layout) (words : List ℕ) (base : Map) (history : List Write) (n y : ℕ) → length words ≡ row_words l → HasWordAt l n next_offset
+    → members_from (word_set (spot_in l words) n next_offset y) l.nodes 0 ≡ with_member n (new_member (spot_in l words) y) 0 (list_in l words)
+    → facts_of l (slice_set words (word_address l n next_offset) y) base history ≡ with_next (facts_of l words base history) n y
+facts-next l words base history n y whole has list = facts-leads l words base history n y _ whole has list
+
 -- a store by which a node leads past another one
 pub facts-past : (l : Layout) (words : List ℕ) (base : Map) (history : List Write) (n y r : ℕ) → length words ≡ row_words l → HasWordAt l n next_offset
     → members_from (word_set (spot_in l words) n next_offset y) l.nodes 0 ≡ without_member r (list_in l words)
     → facts_of l (slice_set words (word_address l n next_offset) y) base history ≡ with_past (facts_of l words base history) n y r
-facts-past l words base history n y r whole has list =
-    (λ k. record {
-      version = λ m. version-word l words base history n next_offset y whole has (omega arith) m k;
-      status = λ m. status-word l words base history n next_offset y whole has (omega arith) m k;
-      now = λ m o. spot-word l words base history n next_offset y whole has (omega arith) m o k;
-      list = members_from (λ m o. spot-word l words base history n next_offset y whole has (omega arith) m o k) l.nodes 0;
-      base = base;
-      history = history;
-    }) ∙ (λ k. record {
-      version = version_in l words;
-      status = status_in l words;
-      now = word_set (spot_in l words) n next_offset y;
-      list = list k;
-      base = base;
-      history = history;
-    })
+facts-past l words base history n y r whole has list = facts-leads l words base history n y _ whole has list

@@ -8,24 +8,43 @@ use Rattle.data_node.specs.Weights.{names_in}
 use Rattle.call_stages.specs.declared.once.Once.{Once}
 use Rattle.call_stages.specs.declared.once.Placed.{Placed}
 use Rattle.call_stages.specs.Stages.{Stage}
-use Rattle.call_stages.specs.Kinds.{below_key, Split, fills, lights, switches, glances_left, glances_fresh, drains_left, drains_fresh, trims, Merge, meets, knows_own, knows_right, copies, takes_up, puts_down, parts, gathers, joins, glances_joined, drains_joined, retires, yields, merges, from_key, Step, looks, locks, locks_read, stores, commits, drains, counts, unlocks, splits, claims, publishes, leaves}
+use Rattle.call_stages.specs.Kinds.{below_key, IsCut, Split, fills, lights, switches, glances_left, glances_fresh, drains_left, drains_fresh, trims, Merge, meets, knows_own, knows_right, copies, takes_up, puts_down, parts, gathers, joins, glances_joined, drains_joined, retires, yields, merges, from_key, Step, looks, locks, locks_read, stores, commits, drains, counts, unlocks, splits, claims, publishes, leaves}
 use Rattle.index_law.specs.Facts.{Facts, map_now, range_of}
-use Rattle.index_law.specs.Lawful.{IsList, SureJoins, Sure}
+use Rattle.index_law.specs.Lawful.{IsList, SureJoins, SureSplits, Sure}
 use Rattle.index_law.proofs.Past.{range_right}
 use Rattle.index_law.proofs.Splitting.{range_below}
 use Rattle.index_law.proofs.Stays.{means_less}
 use Rattle.index_law.proofs.Totals.{names_parts}
 use Rattle.data_node.proofs.NameCounts.{same_names}
-use Rattle.call_stages.specs.Stages.{Held, Grip, Gathered}
+use Rattle.call_stages.specs.Stages.{Held, Grip, Filling, Gathered}
 use Rattle.index_law.specs.Shapes.{IsHalved, IsMerged, StepShapes}
 use Rattle.call_stages.specs.Prevs.{IsSwitch, IsJoin}
 use Rattle.index_law.specs.Worlds.{facts}
 use Rattle.index_law.proofs.Locks.{cut_now}
+use Rattle.index_law.proofs.Rows.{with_next}
 use Rattle.index_law.proofs.Moves.{fact_after, split_after, merge_after, facts_step}
 
 or_true : (b : Bool) → (b || true) ≡ true
 or_true true = refl
 or_true false = refl
+
+-- what the switch of a split makes of the list
+abbrev pub switch_halves : (l : Layout) (g : ℕ) (f : Facts) (left fresh : Grip) → SureSplits l g f left fresh (Filling true)
+    → IsCut l.slots (range_of l f left.node) (f.now left.node) (f.now fresh.node) (map_now f) → IsHalved l f (with_next f left.node fresh.node).list
+switch_halves l g f left fresh knows is = record {
+  node = left.node;
+  fresh = fresh.node;
+  listed = knows.at.listed;
+  unlisted = knows.at.unlisted;
+  anchor = is.anchor;
+  named = is.named;
+  inside = is.inside;
+  had = is.had;
+  full = is.full;
+  means = knows.at.settled.means;
+  half = ap (λ key. names_in l.slots (below_key (range_of l f left.node) key) (f.now left.node)) (sym is.anchored) ∙ is.half;
+  longer = λ i. with_member left.node (record { node = fresh.node; anchor = is.anchored i }) 0 f.list;
+}
 
 module _ {l : Layout} {g : ℕ} (f : Facts) (caller index since : ℕ) where
   split_shapes : {s : Stage} {a : Action} {x : ℕ} {t : Stage} → (k : Split l g s a x t) → Sure l g f caller index since s
@@ -33,23 +52,9 @@ module _ {l : Layout} {g : ℕ} (f : Facts) (caller index since : ℕ) where
   split_shapes (fills has positive small within soils told) knows = inl refl
   split_shapes (lights here leads) knows = inl refl
   split_shapes (switches {left = left} {fresh = fresh} {seen = seen} {dirty = dirty} here small durable soiled cut told means) knows =
-      let is = cut_now l g f left fresh knows cut in
       inr (
         record { left = left; fresh = fresh; after = record left { seen = seen; dirty = dirty; hand = None }; was = refl; is = refl },
-        record {
-          node = left.node;
-          fresh = fresh.node;
-          listed = knows.at.listed;
-          unlisted = knows.at.unlisted;
-          anchor = is.anchor;
-          named = is.named;
-          inside = is.inside;
-          had = is.had;
-          full = is.full;
-          means = knows.at.settled.means;
-          half = ap (λ key. names_in l.slots (below_key (range_of l f left.node) key) (f.now left.node)) (sym is.anchored) ∙ is.half;
-          longer = λ i. with_member left.node (record { node = fresh.node; anchor = is.anchored i }) 0 f.list;
-        },
+        switch_halves l g f left fresh knows (cut_now l g f left fresh knows cut),
         refl,
       )
   split_shapes (glances_left has learnt) knows = inl refl

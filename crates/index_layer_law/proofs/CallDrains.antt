@@ -18,9 +18,10 @@ use Rattle.updater_row_law.specs.Columns.{line_field, line_count, line_word, lin
 use Rattle.updater_row_law.proofs.RowColumns.{column-alike, column-same, column-set, column_fits}
 use Rattle.index_layer_law.proofs.FactTies.{rest_in, known, lines_same}
 use Rattle.index_layer_law.proofs.CallMoves.{Moved, now_known}
-use Rattle.index_layer_law.proofs.CallNotes.{caller_in, number_in, offset_in, number, number_within, same_number, own_place}
+use Rattle.index_layer_law.proofs.CallNotes.{number, number_within, same_number, own_place}
 use Rattle.search_layer.specs.Rows.{HasSameLayer}
 use Rattle.search_layer.proofs.RowLemmas.{layer_words_stay}
+use Rattle.index_law.proofs.Places.{caller_at, number_at, offset_at}
 
 -- one durable word of a line is another
 module _ (l : Layout) (words : List ℕ) (row : IsRow l words) (e : HeldLine) (sure : SureLine l words e) (offset y : ℕ) (small : offset < 8) where
@@ -38,12 +39,12 @@ module _ (l : Layout) (words : List ℕ) (row : IsRow l words) (e : HeldLine) (s
 
   field_else : (o j : ℕ) → o < 8 → (j ≢ mine) ⊎ (o ≢ offset) → line_field l drained Durable o j ≡ line_field l words Durable o j
   field_else o j within apart = column-alike l words drained (line_count l) (λ i. Durable (line_word o i)) j (λ there. at-set_other l words p (Durable (line_word o j)) y has (omega arith, omega arith, within)
-      (λ same. ⊎_elim (λ no. no (same_number l words row e sure offset y small j (ap caller_in same) (ap number_in same))) (λ no. no (ap offset_in same)) apart))
+      (λ same. ⊎_elim (λ no. no (same_number l words row e sure offset y small j (ap caller_at same) (ap number_at same))) (λ no. no (ap offset_at same)) apart))
 
   field_here : line_field l drained Durable offset mine ≡ y
   field_here =
       ap (λ (column : ℕ → ℕ). column mine) (column-set l words p y has (line_count l) (λ j. Durable (line_word offset j)) mine row.whole (number_within l words row e sure offset y small)
-      (own_place l words row e sure offset y small (λ w. Durable w)) (λ j there. (omega arith, omega arith, small)) (λ j there same. same_number l words row e sure offset y small j (ap caller_in same) (ap number_in same)))
+      (own_place l words row e sure offset y small (λ w. Durable w)) (λ j there. (omega arith, omega arith, small)) (λ j there same. same_number l words row e sure offset y small j (ap caller_at same) (ap number_at same)))
       ∙ here (line_field l words Durable offset) mine mine y refl
 
   line_same : (o : ℕ) → o < 8 → line_field l drained Cached o ≡ line_field l words Cached o

@@ -1,5 +1,5 @@
 -- What the parties hold beside a step of a call on nodes, and what is known as it is made.
-use Rattle.std.proofs.Common.{◌≡◌, ◌≢◌, ℕ, ◌<◌, ◌≤◌, inl, inr, ⊎_elim, not, true, false, List, Option, refl, sym, ap, ◌∙◌, subst, arith}
+use Rattle.std.proofs.Common.{◌≡◌, ◌≢◌, ℕ, ◌<◌, ◌≤◌, inl, inr, ⊎_elim, not, true, false, Option, refl, sym, ap, ◌∙◌, subst, arith}
 use Rattle.std.proofs.lemmas.Bool.{cases_eq, le-ltb, cases_lt}
 use mathlib.Core.Option.{some, some-injective}
 use lib.ListN.{get_elem?}
@@ -210,48 +210,36 @@ module _ (z : Layered) (i : ℕ) (p : Party) (is : IsLayered z) (there : get_ele
   abbrev w : World
   w = z.whole.world
 
-  abbrev l : Layout
-  l = z.whole.world.layout
-
-  abbrev g : ℕ
-  g = z.whole.world.generation
-
-  abbrev words : List ℕ
-  words = z.whole.world.words
-
-  abbrev f : Facts
-  f = facts z.whole.world
-
   abbrev lawful : Lawful z.whole.world
   lawful = is.whole.joint.lawful
 
   -- a node of the turn's facts that is held is one of the layout's
-  held_within : (n : ℕ) → not (is_free_word (f.version n) g) ≡ true → n < l.nodes
+  held_within : (n : ℕ) → not (is_free_word ((facts w).version n) w.generation) ≡ true → n < w.layout.nodes
   unfolding version_in
   held_within n held = ⊎_elim
-      (λ (small : n < l.nodes). small)
-      (λ (past : l.nodes ≤ n). absurd (
-      let none : version_in l words n ≡ 0 = rw (le-ltb n l.nodes past) refl in
-      let run : 1 ≤ g = lawful.run.least in
-      let free : is_free_word 0 g ≡ true = free_is 0 g (inl (omega arith)) in
-      let no : true ≡ false = sym held ∙ ap (λ v. not (is_free_word v g)) none ∙ ap not free in cc))
-      (cases_lt n l.nodes)
+      (λ (small : n < w.layout.nodes). small)
+      (λ (past : w.layout.nodes ≤ n). absurd (
+      let none : version_in w.layout w.words n ≡ 0 = rw (le-ltb n w.layout.nodes past) refl in
+      let run : 1 ≤ w.generation = lawful.run.least in
+      let free : is_free_word 0 w.generation ≡ true = free_is 0 w.generation (inl (omega arith)) in
+      let no : true ≡ false = sym held ∙ ap (λ v. not (is_free_word v w.generation)) none ∙ ap not free in cc))
+      (cases_lt n w.layout.nodes)
 
   -- READY lines of merges are of GONE nodes
-  pub merged : (j : ℕ) → (lines_in l words Cached).state j ≡ 2 → (lines_in l words Cached).kind j ≡ 2 → f.status ((lines_in l words Cached).node j) ≡ 2
+  pub merged : (j : ℕ) → (lines_in w.layout w.words Cached).state j ≡ 2 → (lines_in w.layout w.words Cached).kind j ≡ 2 → (facts w).status ((lines_in w.layout w.words Cached).node j) ≡ 2
   merged j ready kind =
       let active = is.active in
       let law = (is.rows active.0 active.1 active.2 active.3).law in
-      ap (λ (F : TurnFacts). F.status ((lines_in l words Cached).node j)) (sym (facts_tie w is.holder active.1)) ∙ (law.merges j ready kind).gone
+      ap (λ (F : TurnFacts). F.status ((lines_in w.layout w.words Cached).node j)) (sym (facts_tie w is.holder active.1)) ∙ (law.merges j ready kind).gone
 
-  pub context : Context l g words w.base w.history lawful.row p.caller p.index p.since i is.holder p.stage
+  pub context : Context w.layout w.generation w.words w.base w.history lawful.row p.caller p.index p.since i is.holder p.stage
   context = record {
     sure = lawful.sure i p there;
     list = lawful.list;
     live = lawful.live;
     holders = λ n held. is.holders i p n there held;
     own = λ n held mine. ⊎_elim
-        (λ free. absurd (let no : true ≡ false = sym held ∙ ap not (free_is (f.version n) g free) in cc))
+        (λ free. absurd (let no : true ≡ false = sym held ∙ ap not (free_is ((facts w).version n) w.generation free) in cc))
         (λ by.
         let number : by.number ≡ i = sym (is.holders by.number by.party n by.there by.holds) ∙ mine in
         let same : by.party ≡ p = some-injective _ _ (sym by.there ∙ ap (get_elem? w.parties) number ∙ there) in

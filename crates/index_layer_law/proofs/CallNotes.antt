@@ -24,22 +24,7 @@ use Rattle.index_layer_law.proofs.CallMoves.{Moved, now_known}
 use Rattle.index_layer_law.proofs.CallLines.{line_tie, safe_tie, anchor_line_tie, anchor_safe_tie}
 use Rattle.search_layer.specs.Rows.{HasSameLayer}
 use Rattle.search_layer.proofs.RowLemmas.{layer_words_stay}
-
--- the caller, the number and the offset that a location of a line's word names
-abbrev pub caller_in : Location → ℕ
-caller_in (Cached (Line c j o)) = c
-caller_in (Durable (Line c j o)) = c
-caller_in _ = 0
-
-abbrev pub number_in : Location → ℕ
-number_in (Cached (Line c j o)) = j
-number_in (Durable (Line c j o)) = j
-number_in _ = 0
-
-abbrev pub offset_in : Location → ℕ
-offset_in (Cached (Line c j o)) = o
-offset_in (Durable (Line c j o)) = o
-offset_in _ = 0
+use Rattle.index_law.proofs.Places.{caller_at, number_at, offset_at}
 
 -- one word of a line is another
 module _ (l : Layout) (words : List ℕ) (row : IsRow l words) (e : HeldLine) (sure : SureLine l words e) (offset y : ℕ) (small : offset < 8) where
@@ -70,14 +55,14 @@ module _ (l : Layout) (words : List ℕ) (row : IsRow l words) (e : HeldLine) (s
   stored = slice_set words (address_of l p) y
 
   pub field_else : (o : ℕ) → o < 8 → o ≢ offset → line_field l stored Cached o ≡ line_field l words Cached o
-  field_else o within apart = column-same l words stored (line_count l) (λ j. Cached (line_word o j)) (λ j there. at-set_other l words p (Cached (line_word o j)) y has (omega arith, omega arith, within) (λ same. apart (ap offset_in same)))
+  field_else o within apart = column-same l words stored (line_count l) (λ j. Cached (line_word o j)) (λ j there. at-set_other l words p (Cached (line_word o j)) y has (omega arith, omega arith, within) (λ same. apart (ap offset_at same)))
 
   pub field_other : (o j : ℕ) → o < 8 → j ≢ number → line_field l stored Cached o j ≡ line_field l words Cached o j
-  field_other o j within apart = column-alike l words stored (line_count l) (λ i. Cached (line_word o i)) j (λ there. at-set_other l words p (Cached (line_word o j)) y has (omega arith, omega arith, within) (λ same. apart (same_number j (ap caller_in same) (ap number_in same))))
+  field_other o j within apart = column-alike l words stored (line_count l) (λ i. Cached (line_word o i)) j (λ there. at-set_other l words p (Cached (line_word o j)) y has (omega arith, omega arith, within) (λ same. apart (same_number j (ap caller_at same) (ap number_at same))))
 
   field_here : line_field l stored Cached offset ≡ set_at (line_field l words Cached offset) number y
   field_here = column-set l words p y has (line_count l) (λ j. Cached (line_word offset j)) number row.whole number_within (own_place (λ w. Cached w)) (λ j there. (omega arith, omega arith, small))
-      (λ j there same. same_number j (ap caller_in same) (ap number_in same))
+      (λ j there same. same_number j (ap caller_at same) (ap number_at same))
 
   safe_same : (o : ℕ) → o < 8 → line_field l stored Durable o ≡ line_field l words Durable o
   safe_same o within = column-same l words stored (line_count l) (λ j. Durable (line_word o j)) (λ j there. at-set_other l words p (Durable (line_word o j)) y has (omega arith, omega arith, within) (λ same. cc))

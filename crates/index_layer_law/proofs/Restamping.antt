@@ -29,6 +29,7 @@ use Rattle.index_layer_law.specs.Beginnings.{restamped, StampKeepsLayer}
 use Rattle.index_layer_law.proofs.FactTies.{known, facts_tie, lines_same}
 use Rattle.index_layer_law.proofs.Retired.{retiring_lines}
 use Rattle.index_layer_law.proofs.Switched.{unready_by, cover_same}
+use Rattle.index_law.proofs.Places.{node_at, offset_at}
 
 -- for a turn that rests, stamps of which the same are 0
 with_stamps : (c : TurnTerms) (f : TurnFacts) (stamp : ℕ → ℕ) → ((n : ℕ) → f.stamp n ≡ 0 → stamp n ≡ 0) → ((n : ℕ) → stamp n ≡ 0 → f.stamp n ≡ 0) → TurnLawful c f turns.Resting → TurnLawful c (record f { stamp = stamp }) turns.Resting
@@ -48,14 +49,6 @@ with_stamps c f stamp forth back is = record {
   merges = λ j state kind. let merge = is.merges j state kind in record { gone = merge.gone; anchor = merge.anchor; stamp = elim merge.stamp [ inl none ↦ inl (forth (f.line.node j) none) | inr own ↦ inr own ]; alone = merge.alone };
   sure = tt;
 }
-
-abbrev offset_of : Location → ℕ
-offset_of (Volatile n o) = o
-offset_of _ = 0
-
-abbrev node_of : Location → ℕ
-node_of (Volatile n o) = n
-node_of _ = 0
 
 module _ (z : Layered) (n y : ℕ) (is : IsLayered z) (here : n < z.whole.world.layout.nodes) where
   abbrev w : World
@@ -77,7 +70,7 @@ module _ (z : Layered) (n y : ℕ) (is : IsLayered z) (here : n < z.whole.world.
   elsewhere p there other = at-set_other l w.words (Volatile n 2) p y has there other
 
   same_facts : facts w' ≡ facts w
-  same_facts = facts-elsewhere l w.words w.base w.history (Volatile n 2) y has (λ m o e. cc, λ m e. let no : 2 ≡ 0 = ap offset_of e in omega arith)
+  same_facts = facts-elsewhere l w.words w.base w.history (Volatile n 2) y has (λ m o e. cc, λ m e. let no : 2 ≡ 0 = ap offset_at e in omega arith)
 
   fields_same : (twin : Word → Location) → ((j o : ℕ) → j < columns.line_count l → o < 8 → at l words' (twin (line_word o j)) ≡ at l w.words (twin (line_word o j))) → columns.lines_in l words' twin ≡ columns.lines_in l w.words twin
   fields_same twin same = lines_same l w.words words' twin (λ o small. column-same l w.words words' (columns.line_count l) (λ j. twin (line_word o j)) (λ j there. same j o there small))
@@ -106,7 +99,7 @@ module _ (z : Layered) (n y : ℕ) (is : IsLayered z) (here : n < z.whole.world.
       ∙ sym (ap (λ (f : TurnFacts). record f { stamp = volatile_field l words' 2 }) (facts_tie w is.holder u))
 
   stamp_else : (m : ℕ) → m ≢ n → volatile_field l words' 2 m ≡ volatile_field l w.words 2 m
-  stamp_else m other = column-alike l w.words words' l.nodes (λ k. Volatile k 2) m (λ there. elsewhere (Volatile m 2) (there, omega arith) (λ e. other (ap node_of e)))
+  stamp_else m other = column-alike l w.words words' l.nodes (λ k. Volatile k 2) m (λ there. elsewhere (Volatile m 2) (there, omega arith) (λ e. other (ap node_at e)))
 
   module _ (has_some : at z.whole.world.layout z.whole.world.words (Volatile n 2) ≢ 0) (still : y ≢ 0) where
     forth : (m : ℕ) → volatile_field l w.words 2 m ≡ 0 → volatile_field l words' 2 m ≡ 0

@@ -19,6 +19,7 @@ use Rattle.index_law.proofs.Prevs.{store_prev}
 use Rattle.index_law.proofs.Rows.{facts-elsewhere}
 use Rattle.index_law.proofs.Twins.{IsAside, nearer, store_closer}
 use Rattle.index_law.proofs.Whole.{traced_same}
+use Rattle.index_law.proofs.Places.{caller_at, number_at, offset_at}
 
 -- what its party knows of a READY line stays once that is EMPTY
 module _ (l : Layout) (words after : List ℕ) (e : HeldLine) (sure : SureLine l words e) (two : line_in l words e.caller e.number 0 ≡ 2)
@@ -83,18 +84,6 @@ abbrev word_in : Location → Word
 word_in (Cached w) = w
 word_in _ = Header 0
 
-abbrev caller_in : Location → ℕ
-caller_in (Cached (Line c j o)) = c
-caller_in _ = 0
-
-abbrev number_in : Location → ℕ
-number_in (Cached (Line c j o)) = j
-number_in _ = 0
-
-abbrev offset_in : Location → ℕ
-offset_in (Cached (Line c j o)) = o
-offset_in _ = 0
-
 -- the row once a line is emptied
 module _ (z : Whole) (c j : ℕ) (here : c < z.world.layout.callers) (small : j < 8) where
   abbrev l : Layout
@@ -117,7 +106,7 @@ module _ (z : Whole) (c j : ℕ) (here : c < z.world.layout.callers) (small : j 
 
   line_else : (d k offset : ℕ) → (d ≢ c) ⊎ ((k ≢ j) ⊎ (offset ≢ 0)) → line_in l emptied d k offset ≡ line_in l words d k offset
   line_else d k offset other = line-alike l words emptied d k offset (λ there. at-set_other l words p (Cached (Line d k offset)) 0 has there
-      (λ e. ⊎_elim (λ n. n (ap caller_in e)) (λ rest. ⊎_elim (λ n. n (ap number_in e)) (λ n. n (ap offset_in e)) rest) other))
+      (λ e. ⊎_elim (λ n. n (ap caller_at e)) (λ rest. ⊎_elim (λ n. n (ap number_at e)) (λ n. n (ap offset_at e)) rest) other))
 
   module _ (row : IsRow z.world.layout z.world.words) where
     state_empty : line_in l emptied c j 0 ≡ 0

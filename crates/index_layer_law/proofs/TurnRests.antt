@@ -4,13 +4,13 @@ use Rattle.std.proofs.Common.{◌≡◌, ◌≢◌, ℕ, ⊎_elim, List, slice_s
 use Rattle.std.proofs.lemmas.Bool.{cases_eq}
 use mathlib.Core.Option.{some, some-injective}
 use lib.ListN.{get_elem?}
-use Rattle.pm_words.specs.declared.layout.Layout.{Layout}
 use Rattle.call_stages.specs.Stages.{Stage, Gone, Idle, Joins, HoldsNode, IsSwitched}
 use Rattle.call_stages.specs.Watches.{Nothing}
+use Rattle.updater_row_law.specs.Columns as columns
 use Rattle.updater_row_law.specs.Columns.{Ghosts}
-use Rattle.updater_row_law.specs.RowStages.{RowLine, RowTarget, Resting, HasTarget}
-use Rattle.updater_row_law.specs.RowLaw.{RowLawful}
-use Rattle.index_law.specs.Facts.{Facts}
+use Rattle.updater_row_law.specs.RowStages.{RowLine, RowTarget, RowStage, Resting, HasTarget, turn_stage}
+use Rattle.updater_law.specs.Lawful.{SureTurn}
+use Rattle.updater_row_law.specs.RowLaw.{SureRow, RowLawful}
 use Rattle.index_law.specs.Worlds.{World, facts}
 use Rattle.index_law.proofs.Parties.{at_set, set_here, set_else}
 use Rattle.updater_row_law.specs.Turnings.{Turning}
@@ -18,12 +18,13 @@ use Rattle.index_layer_law.specs.Turnings.{terms_of, AreRestingBut, ghosts_of, S
 use Rattle.index_layer_law.specs.Layers.{Layered, IsLayered}
 use Rattle.index_layer_law.specs.Laws.{TurnStartKeeps, RestIsLayered}
 
--- what holds where a turn rests holds for any other that rests
-pub rests_for : (w : World) (ghosts : Ghosts) (words : List ℕ) (t u : Turning) → u.stamp ≢ 0 → RowLawful (terms_of w t) ghosts words Resting → RowLawful (terms_of w u) ghosts words Resting
-rests_for w ghosts words t u stamp is = record {
+-- what holds of a turn at a stage holds of any other there, of which the same is sure
+pub other_for : (w : World) (ghosts : Ghosts) (words : List ℕ) (t u : Turning) (s : RowStage) → u.stamp ≢ 0 → SureRow (terms_of w u) ghosts words s
+    → SureTurn (columns.terms_of (terms_of w u)) (columns.facts_in (terms_of w u) ghosts words) (turn_stage s) → RowLawful (terms_of w t) ghosts words s → RowLawful (terms_of w u) ghosts words s
+other_for w ghosts words t u s stamp sure own is = record {
   order = is.order;
   rooted = is.rooted;
-  sure = is.sure;
+  sure = sure;
   law = record {
     stamped_by = stamp;
     durable = is.law.durable;
@@ -35,9 +36,13 @@ rests_for w ghosts words t u stamp is = record {
     owned = is.law.owned;
     ready = is.law.ready;
     merges = is.law.merges;
-    sure = tt;
+    sure = own;
   };
 }
+
+-- what holds where a turn rests holds for any other that rests
+pub rests_for : (w : World) (ghosts : Ghosts) (words : List ℕ) (t u : Turning) → u.stamp ≢ 0 → RowLawful (terms_of w t) ghosts words Resting → RowLawful (terms_of w u) ghosts words Resting
+rests_for w ghosts words t u stamp is = other_for w ghosts words t u Resting stamp is.sure tt is
 
 -- what holds of the turn that a party makes then, and of each other one, holds of each
 pub each : (turns : List Turning) (i : ℕ) (next : Turning) (P : ℕ → Turning → Type 0) → P i next → ((j : ℕ) (u : Turning) → j ≢ i → get_elem? turns j ≡ some u → P j u)
@@ -52,15 +57,6 @@ module _ (z : Layered) (i : ℕ) (t next : Turning) (is : IsLayered z) (there : 
   abbrev w : World
   w = z.whole.world
 
-  abbrev l : Layout
-  l = z.whole.world.layout
-
-  abbrev words : List ℕ
-  words = z.whole.world.words
-
-  abbrev f : Facts
-  f = facts z.whole.world
-
   abbrev turns : List Turning
   turns = slice_set z.turns i next
 
@@ -74,7 +70,7 @@ module _ (z : Layered) (i : ℕ) (t next : Turning) (is : IsLayered z) (there : 
   not_target : {A : Type 0} (e : RowLine) (target : RowTarget) → next.stage ≡ HasTarget e target → A
   not_target e target has = absurd (let no : Resting ≡ HasTarget e target = sym now ∙ has in cc)
 
-  pub rests_keep : next.stamp ≢ 0 → SureWatch l w.generation f next.watch → IsLayered (record { whole = z.whole; turns = slice_set z.turns i next })
+  pub rests_keep : next.stamp ≢ 0 → SureWatch w.layout w.generation (facts w) next.watch → IsLayered (record { whole = z.whole; turns = slice_set z.turns i next })
   rests_keep stamp watch = record {
     whole = is.whole;
     tended = is.tended;
@@ -101,15 +97,15 @@ module _ (z : Layered) (i : ℕ) (t next : Turning) (is : IsLayered z) (there : 
         (λ (same : k ≡ i). ap (λ (v : Turning). v.stage) (some-injective _ _ (sym at_u ∙ ap (get_elem? z.turns) same ∙ there)) ∙ was)
         (λ (apart : k ≢ i). rest k u (set_else z.turns i k next apart ∙ at_u))
         (cases_eq k i));
-    rows = λ j u at_u rests. each z.turns i next (λ k v. AreRestingBut turns k → RowLawful (terms_of w v) (ghosts_of w is.holder) words v.stage)
-        (λ still. subst (RowLawful (terms_of w next) (ghosts_of w is.holder) words) (sym now)
-        (rests_for w (ghosts_of w is.holder) words t next stamp
-        (subst (RowLawful (terms_of w t) (ghosts_of w is.holder) words) was (is.rows i t there (rested i still)))))
+    rows = λ j u at_u rests. each z.turns i next (λ k v. AreRestingBut turns k → RowLawful (terms_of w v) (ghosts_of w is.holder) w.words v.stage)
+        (λ still. subst (RowLawful (terms_of w next) (ghosts_of w is.holder) w.words) (sym now)
+        (rests_for w (ghosts_of w is.holder) w.words t next stamp
+        (subst (RowLawful (terms_of w t) (ghosts_of w is.holder) w.words) was (is.rows i t there (rested i still)))))
         (λ k v other at_v still. is.rows k v at_v (rested k still))
         j u at_u rests;
     stamps = each z.turns i next (λ j u. u.stamp ≢ 0) stamp (λ j u other at_u. is.stamps j u at_u);
-    watches = each z.turns i next (λ j u. SureWatch l w.generation f u.watch) watch (λ j u other at_u. is.watches j u at_u);
-    shown = λ j u e target at_u has. each z.turns i next (λ k v. v.stage ≡ HasTarget e target → IsShown l w.generation f e.anchor target)
+    watches = each z.turns i next (λ j u. SureWatch w.layout w.generation (facts w) u.watch) watch (λ j u other at_u. is.watches j u at_u);
+    shown = λ j u e target at_u has. each z.turns i next (λ k v. v.stage ≡ HasTarget e target → IsShown w.layout w.generation (facts w) e.anchor target)
         (not_target e target) (λ k v other at_v has_v. is.shown k v e target at_v has_v) j u at_u has;
     retiring = is.retiring;
     switched = is.switched;

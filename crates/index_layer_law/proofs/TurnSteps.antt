@@ -18,7 +18,7 @@ use Rattle.updater_row_law.specs.RowSteps.{lock_at, RowStep, takes_lock, finds_h
 use Rattle.updater_row_law.specs.RowLaw.{RowLawful}
 use Rattle.updater_row_law.proofs.RowActions.{row_step_can_act}
 use Rattle.updater_row_law.proofs.RowTurns.{row_step_keeps}
-use Rattle.index_law.specs.Facts.{Facts, status_in}
+use Rattle.index_law.specs.Facts.{status_in}
 use Rattle.index_law.specs.Worlds.{World, facts}
 use Rattle.index_law.proofs.Parties.{at_set, set_here, set_else}
 use Rattle.updater_row_law.specs.Turnings.{Turning, TurnFoot}
@@ -79,27 +79,18 @@ module _ (z : Layered) (i : ℕ) (t next : Turning) (a : Action) (x : ℕ) (is :
   abbrev w : World
   w = z.whole.world
 
-  abbrev l : Layout
-  l = z.whole.world.layout
-
-  abbrev words : List ℕ
-  words = z.whole.world.words
-
-  abbrev f : Facts
-  f = facts z.whole.world
-
   abbrev after : List ℕ
-  after = acted l words a
+  after = acted w.layout w.words a
 
   abbrev turns : List Turning
   turns = slice_set z.turns i next
 
-  watch_after : (watch : Watching) → Watch l w.generation t.watch a x watch → SureWatch l w.generation f watch
+  watch_after : (watch : Watching) → Watch w.layout w.generation t.watch a x watch → SureWatch w.layout w.generation (facts w) watch
   watch_after watch step =
       let lawful = is.whole.joint.lawful in
-      watch_keeps l w.generation words w.base w.history t.watch watch a x lawful.versions lawful.live step told (is.watches i t there)
+      watch_keeps w.layout w.generation w.words w.base w.history t.watch watch a x lawful.versions lawful.live step told (is.watches i t there)
 
-  shown_after : (e : RowLine) (target : RowTarget) → next.stage ≡ HasTarget e target → IsShown l w.generation f e.anchor target
+  shown_after : (e : RowLine) (target : RowTarget) → next.stage ≡ HasTarget e target → IsShown w.layout w.generation (facts w) e.anchor target
   shown_after e target has =
       let found = foot.found e target has in
       record { sight = found.sight; sure = watch_after (Watches target.node target.version found.sight) found.watch; seen = found.seen }
@@ -109,20 +100,20 @@ module _ (z : Layered) (i : ℕ) (t next : Turning) (a : Action) (x : ℕ) (is :
 
   -- where the others rest
   module _ (rest : AreRestingBut z.turns i) where
-    row : IsRow l words
+    row : IsRow w.layout w.words
     row = is.whole.joint.lawful.row
 
-    lawful_row : RowLawful (terms_of w t) (ghosts_of w is.holder) words t.stage
+    lawful_row : RowLawful (terms_of w t) (ghosts_of w is.holder) w.words t.stage
     lawful_row = is.rows i t there rest
 
-    can_act : CanAct l words a
-    can_act = row_step_can_act (terms_of w t) (ghosts_of w is.holder) words t.stage next.stage a x row small lawful_row foot.row
+    can_act : CanAct w.layout w.words a
+    can_act = row_step_can_act (terms_of w t) (ghosts_of w is.holder) w.words t.stage next.stage a x row small lawful_row foot.row
 
-    touch : Touched (terms_of w t) (ghosts_of w is.holder) words after next.stage
-    touch = touched (terms_of w t) (ghosts_of w is.holder) words row foot.row told lawful_row (λ free. is.lock free i t there)
+    touch : Touched (terms_of w t) (ghosts_of w is.holder) w.words after next.stage
+    touch = touched (terms_of w t) (ghosts_of w is.holder) w.words row foot.row told lawful_row (λ free. is.lock free i t there)
 
     keeps : Keeps z.whole is.holder after
-    keeps = touches_keep z.whole is.holder t is.whole is.tended after (acted_row l words a row can_act) touch.touches
+    keeps = touches_keep z.whole is.holder t is.whole is.tended after (acted_row w.layout w.words a row can_act) touch.touches
 
     abbrev later : World
     later = record (z.whole.world) { words = acted z.whole.world.layout z.whole.world.words a }
@@ -131,22 +122,22 @@ module _ (z : Layered) (i : ℕ) (t next : Turning) (a : Action) (x : ℕ) (is :
     row_after =
         let lawful = is.whole.joint.lawful in
         let terms : Path RowTerms (terms_of w t) (terms_of later next) =
-        λ k. record { layout = l; generation = w.generation; stamp = sym foot.stamp k; release = sym foot.release k } in
+        λ k. record { layout = w.layout; generation = w.generation; stamp = sym foot.stamp k; release = sym foot.release k } in
         let ghosts : Path Ghosts (ghosts_of w is.holder) (ghosts_of later is.holder) =
         λ k. record { listed = λ n. n == 0 || is_member (sym keeps.list k) n; holder = is.holder } in
         subst (λ (r : RowTerms). RowLawful r (ghosts_of later is.holder) after next.stage) terms
         (subst (λ (q : Ghosts). RowLawful (terms_of w t) q after next.stage) ghosts
-        (row_step_keeps (terms_of w t) (ghosts_of w is.holder) words t.stage next.stage a row lawful_row (subst (λ y. RowStep (terms_of w t) t.stage a y next.stage) told foot.row)
-        (λ e target has. found_target (terms_of w t) words w.base w.history is.holder lawful.list e.anchor target (shown_after e target has))))
+        (row_step_keeps (terms_of w t) (ghosts_of w is.holder) w.words t.stage next.stage a row lawful_row (subst (λ y. RowStep (terms_of w t) t.stage a y next.stage) told foot.row)
+        (λ e target has. found_target (terms_of w t) w.words w.base w.history is.holder lawful.list e.anchor target (shown_after e target has))))
 
     -- where it rests afterwards it has given the lock back
-    given_back : next.stage ≡ Resting → at l after Updater ≡ 0
+    given_back : next.stage ≡ Resting → at w.layout after Updater ≡ 0
     given_back now_rests = ⊎_elim
-        (λ (was : t.stage ≡ Resting). absurd (found_lock (terms_of w t) words (subst (λ s. RowStep (terms_of w t) s a x next.stage) was foot.row) told now_rests (is.unlocked (λ j u at_u. ⊎_elim
+        (λ (was : t.stage ≡ Resting). absurd (found_lock (terms_of w t) w.words (subst (λ s. RowStep (terms_of w t) s a x next.stage) was foot.row) told now_rests (is.unlocked (λ j u at_u. ⊎_elim
         (λ (same : j ≡ i). ap (λ (v : Turning). v.stage) (some-injective _ _ (sym at_u ∙ ap (get_elem? z.turns) same ∙ there)) ∙ was)
         (λ (other : j ≢ i). rest j u at_u other)
         (cases_eq j i)))))
-        (λ busy. gives_back (terms_of w t) words row foot.row busy now_rests)
+        (λ busy. gives_back (terms_of w t) w.words row foot.row busy now_rests)
         (rests_or_not t.stage)
 
     goes_keep : IsLayered (turned z i a next)
@@ -172,17 +163,17 @@ module _ (z : Layered) (i : ℕ) (t next : Turning) (a : Action) (x : ℕ) (is :
           (subst (RowLawful (terms_of later next) (ghosts_of later is.holder) after) (still i next (set_here z.turns i next t there) (λ e. other (sym e))) row_after)))
           j u at_u rests;
       stamps = each z.turns i next (λ j u. u.stamp ≢ 0) stamp_after (λ j u other at_u. is.stamps j u at_u);
-      watches = each z.turns i next (λ j u. SureWatch l w.generation (facts later) u.watch)
-          (watch_same l w.generation f (facts later) next.watch keeps.version keeps.now keeps.list (watch_after next.watch foot.watch))
-          (λ j u other at_u. watch_same l w.generation f (facts later) u.watch keeps.version keeps.now keeps.list (is.watches j u at_u));
-      shown = λ j u e target at_u has. shown_same l w.generation f (facts later) e.anchor target keeps.version keeps.now keeps.list
-          (each z.turns i next (λ k v. v.stage ≡ HasTarget e target → IsShown l w.generation f e.anchor target)
+      watches = each z.turns i next (λ j u. SureWatch w.layout w.generation (facts later) u.watch)
+          (watch_same w.layout w.generation (facts w) (facts later) next.watch keeps.version keeps.now keeps.list (watch_after next.watch foot.watch))
+          (λ j u other at_u. watch_same w.layout w.generation (facts w) (facts later) u.watch keeps.version keeps.now keeps.list (is.watches j u at_u));
+      shown = λ j u e target at_u has. shown_same w.layout w.generation (facts w) (facts later) e.anchor target keeps.version keeps.now keeps.list
+          (each z.turns i next (λ k v. v.stage ≡ HasTarget e target → IsShown w.layout w.generation (facts w) e.anchor target)
           (shown_after e target) (λ k v other at_v has_v. is.shown k v e target at_v has_v) j u at_u has);
       retiring = λ j p line u h left right at_p at_line stage. keeps.retiring j p line u h left right at_p at_line stage (is.retiring j p line u h left right at_p at_line stage);
       switched = λ j p n at_p is_switched. let covering = is.switched j p n at_p is_switched in (covering.0, covering.1, keeps.switched j p covering.0 n at_p covering.1 is_switched covering.2);
     }
 
-  step_keeps : CanAct l words a × IsLayered (turned z i a next)
+  step_keeps : CanAct w.layout w.words a × IsLayered (turned z i a next)
   step_keeps = ⊎_elim
       (λ (was : t.stage ≡ Resting). ⊎_elim
       (λ free. let rest : AreRestingBut z.turns i = (λ j u at_u other. is.lock free j u at_u) in (can_act rest, goes_keep rest))
@@ -191,7 +182,7 @@ module _ (z : Layered) (i : ℕ) (t next : Turning) (a : Action) (x : ℕ) (is :
         subst (λ (v : List ℕ). IsLayered (record { whole = record (z.whole) { world = record (z.whole.world) { words = v } }; turns = slice_set z.turns i next }))
             (sym misses.same) (rests_keep z i t next is there was misses.rests stamp_after (watch_after next.watch foot.watch)),
       ))
-      (resting_step (terms_of w t) words a x next.stage (subst (λ s. RowStep (terms_of w t) s a x next.stage) was foot.row) told))
+      (resting_step (terms_of w t) w.words a x next.stage (subst (λ s. RowStep (terms_of w t) s a x next.stage) was foot.row) told))
       (λ busy. let rest : AreRestingBut z.turns i = others_rest z i t is there busy in (can_act rest, goes_keep rest))
       (rests_or_not t.stage)
 
@@ -200,16 +191,16 @@ module _ (z : Layered) (i : ℕ) (t next : Turning) (a : Action) (x : ℕ) (is :
       (λ (was : t.stage ≡ Resting). ⊎_elim
       (λ free. left (keeps (λ j u at_u other. is.lock free j u at_u)))
       (λ misses. record {
-        nodes = (λ k. facts (record w { words = misses.same k })) ∙ (λ k. record f { status = status_in l (sym misses.same k) });
-        frees = λ n. inl (λ k. status_in l (misses.same k) n);
+        nodes = (λ k. facts (record w { words = misses.same k })) ∙ (λ k. record (facts w) { status = status_in w.layout (sym misses.same k) });
+        frees = λ n. inl (λ k. status_in w.layout (misses.same k) n);
       })
-      (resting_step (terms_of w t) words a x next.stage (subst (λ s. RowStep (terms_of w t) s a x next.stage) was foot.row) told))
+      (resting_step (terms_of w t) w.words a x next.stage (subst (λ s. RowStep (terms_of w t) s a x next.stage) was foot.row) told))
       (λ busy. left (keeps (others_rest z i t is there busy)))
       (rests_or_not t.stage)
     where
-      left : Keeps z.whole is.holder after → LeavesNodes f (facts (record w { words = after }))
+      left : Keeps z.whole is.holder after → LeavesNodes (facts w) (facts (record w { words = after }))
       left kept = record {
-        nodes = λ k. record { version = kept.version k; status = status_in l after; now = kept.now k; list = kept.list k; base = w.base; history = w.history };
+        nodes = λ k. record { version = kept.version k; status = status_in w.layout after; now = kept.now k; list = kept.list k; base = w.base; history = w.history };
         frees = kept.statuses;
       }
 

@@ -14,28 +14,11 @@ use Rattle.updater_row_law.specs.Turnings.{Turning}
 use Rattle.index_layer_law.specs.Turnings.{terms_of, AreRestingBut, ghosts_of, SureWatch, IsShown}
 use Rattle.index_layer_law.specs.Layers.{Layered, IsLayered}
 use Rattle.index_layer_law.specs.Laws.{TermsMayBegin}
-use Rattle.index_layer_law.proofs.TurnRests.{each}
+use Rattle.index_layer_law.proofs.TurnRests.{each, other_for}
 
 -- what holds where a turn comes to a line holds for any other that comes to it
 between_for : (w : World) (ghosts : Ghosts) (words : List ℕ) (t u : Turning) (j : ℕ) → u.stamp ≢ 0 → RowLawful (terms_of w t) ghosts words (Between j) → RowLawful (terms_of w u) ghosts words (Between j)
-between_for w ghosts words t u j stamp is = record {
-  order = is.order;
-  rooted = is.rooted;
-  sure = is.sure;
-  law = record {
-    stamped_by = stamp;
-    durable = is.law.durable;
-    led = is.law.led;
-    covered = is.law.covered;
-    apart = is.law.apart;
-    live = is.law.live;
-    marked = is.law.marked;
-    owned = is.law.owned;
-    ready = is.law.ready;
-    merges = is.law.merges;
-    sure = tt;
-  };
-}
+between_for w ghosts words t u j stamp is = other_for w ghosts words t u (Between j) stamp is.sure tt is
 
 module _ (z : Layered) (i line : ℕ) (t next : Turning) (is : IsLayered z) (there : get_elem? z.turns i ≡ some t) (was : t.stage ≡ Between line) (now : next.stage ≡ Between line) where
   abbrev w : World

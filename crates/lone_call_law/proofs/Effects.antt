@@ -12,8 +12,7 @@ use Rattle.call_stages.specs.declared.once.Placed.{Placed}
 use Rattle.call_stages.specs.Stages.{Held, Grip, Stage, Idle, Saw, Wears, Holds, Splits, Filling, Linked, Parted, Phase, IsLoose, counted, placed_in}
 use Rattle.call_stages.specs.Prevs.{IsJoin, IsRetire}
 use Rattle.call_stages.specs.Kinds.{below_key, from_key, Look, turns_back, is_worn, wears, roams, roams_status, sees, misses, misses_read, times, learns, decides, glances, finds_live, watches, watches_next, turns_away, steps_back, wanders, fills, lights, switches, glances_left, glances_fresh, drains_left, drains_fresh, trims, splits, meets, knows_own, knows_right, copies, takes_up, puts_down, parts, gathers, joins, glances_joined, drains_joined, retires, yields, merges, peeks, peeks_status, eyes, eyes_free, passes, loses, claims, publishes, leaves, Step, looks, locks, locks_read, stores, commits, drains, counts, unlocks, GivesUp, Answers, writes, reads, is_spent, has_no_room, refuses}
-use Rattle.data_node.specs.Lists.{ListNode, target_from, key_of, with_member, without_member}
-use Rattle.data_node.specs.Weights.{names_in}
+use Rattle.data_node.specs.Lists.{ListNode, target_from, key_of, without_member}
 use Rattle.cat_history.specs.Maps.{at}
 use Rattle.index_law.specs.Facts.{Facts, map_now, range_of}
 use Rattle.index_law.specs.Lawful.{Sure, IsList}
@@ -21,6 +20,7 @@ use Rattle.index_law.proofs.Switch.{range_left, range_fresh}
 use Rattle.index_law.specs.Shapes.{IsHalved}
 use Rattle.index_law.proofs.Locks.{cut_now}
 use Rattle.index_law.proofs.Moves.{fact_after}
+use Rattle.index_law.proofs.Shapes.{switch_halves}
 use Rattle.index_law.proofs.Loose.{loose_counted, loose_unplaced}
 use Rattle.index_law.specs.LoneShapes.{has_merged, IsOut}
 use Rattle.lone_call_law.proofs.Cuts.{loose_uncut}
@@ -159,20 +159,7 @@ module _ {l : Layout} {g : ℕ} (f : Facts) (list : IsList l f) (caller index si
         had = knows.at.asked.had;
         lower = range_left l f list left.node fresh.node knows.at.listed knows.at.unlisted knows.new.here (map_now f) is ∙ ap (below_key (range_of l f left.node)) is.anchored;
         upper = range_fresh l f list left.node fresh.node knows.at.listed knows.at.unlisted knows.new.here (map_now f) is ∙ ap (from_key (range_of l f left.node)) is.anchored;
-        halved = record {
-          node = left.node;
-          fresh = fresh.node;
-          listed = knows.at.listed;
-          unlisted = knows.at.unlisted;
-          anchor = is.anchor;
-          named = is.named;
-          inside = is.inside;
-          had = is.had;
-          full = is.full;
-          means = knows.at.settled.means;
-          half = ap (λ key. names_in l.slots (below_key (range_of l f left.node) key) (f.now left.node)) (sym is.anchored) ∙ is.half;
-          longer = λ i. with_member left.node (record { node = fresh.node; anchor = is.anchored i }) 0 f.list;
-        };
+        halved = switch_halves l g f left fresh knows is;
       })
   step_does (splits (glances_left {x = x} {offset = offset} {left = left} {fresh = fresh} {phase = phase} {seen = seen} has learnt)) knows = stays refl refl (same_phase left (record left { seen = seen; hand = Some (offset, x) }) fresh fresh phase) (inl tt) refl
   step_does (splits (glances_fresh {x = x} {offset = offset} {left = left} {fresh = fresh} {phase = phase} has)) knows = stays refl refl (same_phase left left fresh (record fresh { hand = Some (offset, x) }) phase) (inl tt) refl

@@ -42,7 +42,7 @@ use Rattle.index_law.proofs.Noting.{line-alike}
 use Rattle.index_law.proofs.Starts.{idle_law}
 use Rattle.index_law.proofs.Prevs.{idle_follow, prev_at}
 use Rattle.pm_words.proofs.Apart.{at-set_other}
-use Rattle.pm_words.specs.Locations.{Node, Line, Location, Volatile, Cached}
+use Rattle.pm_words.specs.Locations.{Node, Line, Volatile, Cached}
 use Rattle.pm_words.specs.declared.action.Action.TheVariants.{Load, Exchange}
 use Rattle.tree_floor.specs.declared.floor.Floor.{Floor}
 use Rattle.search_layer.specs.Rows.{LayerWords, layer_words}
@@ -54,6 +54,7 @@ use Rattle.lone_call_law.specs.There.{HasCome, nodes_in, CanWalk, StartsAt, Walk
 use Rattle.lone_call_law.specs.There.{RestIsStill, IdleIsQuiet}
 use Rattle.std.specs.Prelude.{IsSome, is_some}
 use Rattle.std.specs.Prelude.{Option, Some, None}
+use Rattle.index_law.proofs.Places.{node_at, offset_at}
 
 pub rest_is_still : RestIsStill
 rest_is_still w rest =
@@ -106,14 +107,6 @@ walk_loads l words n (walk_at.HighSecond version low next first) = set-get_or wo
 walk_loads l words n (walk_at.HighThird version low next first second) = set-get_or words (word_address l next 5) 0
 walk_loads l words n walk_at.Prev = set-get_or words (prev_address l n) 0
 
-abbrev node_of : Location → ℕ
-node_of (Cached (Node n offset)) = n
-node_of _ = 0
-
-abbrev offset_of : Location → ℕ
-offset_of (Cached (Node n offset)) = offset
-offset_of _ = 0
-
 -- a load leaves all words
 pub loaded_unmoved : (l : Layout) (words0 words : List ℕ) (n address : ℕ) → IsUnmoved l words0 words n → IsUnmoved l words0 (acted l words (Load address)) n
 loaded_unmoved l words0 words n address unmoved = subst (λ ws. IsUnmoved l words0 ws n) (sym (set-get_or words address 0)) unmoved
@@ -123,9 +116,9 @@ pub stored_unmoved : (l : Layout) (words0 words : List ℕ) (n word : ℕ) → n
 stored_unmoved l words0 words n word here unmoved =
     let stored : List ℕ = set words (version_address l n) word in
     record {
-      versions = λ m other. version_in-alike l words stored m (λ there. at-set_other l words (Cached (Node n 0)) (Cached (Node m 0)) word (here, omega arith) (there, omega arith) (λ e. other (ap node_of e))) ∙ unmoved.versions m other;
+      versions = λ m other. version_in-alike l words stored m (λ there. at-set_other l words (Cached (Node n 0)) (Cached (Node m 0)) word (here, omega arith) (there, omega arith) (λ e. other (ap node_at e))) ∙ unmoved.versions m other;
       statuses = λ m. status_in-alike l words stored m (λ there. at-set_other l words (Cached (Node n 0)) (Volatile m 0) word (here, omega arith) (there, omega arith) (λ e. cc)) ∙ unmoved.statuses m;
-      nexts = λ m. spot_in-alike l words stored m next_offset (λ there _. at-set_other l words (Cached (Node n 0)) (Cached (Node m next_offset)) word (here, omega arith) there (λ e. let no : 2 ≡ 0 = ap offset_of e in omega arith)) ∙ unmoved.nexts m;
+      nexts = λ m. spot_in-alike l words stored m next_offset (λ there _. at-set_other l words (Cached (Node n 0)) (Cached (Node m next_offset)) word (here, omega arith) there (λ e. let no : 2 ≡ 0 = ap offset_at e in omega arith)) ∙ unmoved.nexts m;
       lines = λ c j. line-alike l words stored c j 0 (λ there. at-set_other l words (Cached (Node n 0)) (Cached (Line c j 0)) word (here, omega arith) there (λ e. cc)) ∙ unmoved.lines c j;
     }
 
@@ -135,9 +128,9 @@ locked_unmoved l words0 words n old new here same =
     let word : ℕ = cond (get_or words (version_address l n) 0 == old) new (get_or words (version_address l n) 0) in
     let stored : List ℕ = set words (version_address l n) word in
     subst (λ ws. IsUnmoved l ws stored n) same (record {
-      versions = λ m other. version_in-alike l words stored m (λ there. at-set_other l words (Cached (Node n 0)) (Cached (Node m 0)) word (here, omega arith) (there, omega arith) (λ e. other (ap node_of e)));
+      versions = λ m other. version_in-alike l words stored m (λ there. at-set_other l words (Cached (Node n 0)) (Cached (Node m 0)) word (here, omega arith) (there, omega arith) (λ e. other (ap node_at e)));
       statuses = λ m. status_in-alike l words stored m (λ there. at-set_other l words (Cached (Node n 0)) (Volatile m 0) word (here, omega arith) (there, omega arith) (λ e. cc));
-      nexts = λ m. spot_in-alike l words stored m next_offset (λ there _. at-set_other l words (Cached (Node n 0)) (Cached (Node m next_offset)) word (here, omega arith) there (λ e. let no : 2 ≡ 0 = ap offset_of e in omega arith));
+      nexts = λ m. spot_in-alike l words stored m next_offset (λ there _. at-set_other l words (Cached (Node n 0)) (Cached (Node m next_offset)) word (here, omega arith) there (λ e. let no : 2 ≡ 0 = ap offset_at e in omega arith));
       lines = λ c j. line-alike l words stored c j 0 (λ there. at-set_other l words (Cached (Node n 0)) (Cached (Line c j 0)) word (here, omega arith) there (λ e. cc));
     })
 

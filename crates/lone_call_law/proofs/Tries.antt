@@ -145,18 +145,6 @@ place_within l g f f' caller index since (Leaves left) placed knows there legal 
 
 -- ---- stages
 
-out_unretired : (s : Stage) → IsOut s → has_retired s ≡ false
-out_unretired Idle out = refl
-out_unretired (Saw n v w k) out = refl
-out_unretired (Wears n v) out = refl
-out_unretired (Reads n v sight told) out = refl
-out_unretired (Holds n w h) out = absurd out
-out_unretired (Eyes n w h m v u free) out = absurd out
-out_unretired (Splits left fresh phase) out = refl
-out_unretired (Leaves left) out = refl
-out_unretired (Meets n w h right) out = absurd out
-out_unretired (Joins h left right pace) out = absurd out
-
 -- what has merged none has made none GONE
 unmerged_unretired : (s : Stage) → has_merged s ≡ false → has_retired s ≡ false
 unmerged_unretired Idle none = refl
@@ -171,6 +159,9 @@ unmerged_unretired (Meets n w h right) none = none
 unmerged_unretired (Joins h left right Gathered) none = refl
 unmerged_unretired (Joins h left right Joined) none = refl
 unmerged_unretired (Joins h left right Gone) none = none
+
+out_unretired : (s : Stage) → IsOut s → has_retired s ≡ false
+out_unretired s out = unmerged_unretired s (out_unmerged s out)
 
 -- what is answered that has merged has made one GONE
 done_retired : (l : Layout) (g : ℕ) (f : Facts) (caller index since : ℕ) (s : Stage) (placed : Placed) → IsLegal l g f caller index since s (Some (once.Done placed)) → has_retired s ≡ has_merged s

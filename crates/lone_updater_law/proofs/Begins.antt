@@ -4,7 +4,6 @@ use Rattle.std.specs.Prelude.{None}
 use Rattle.std.proofs.lemmas.List.{set-set}
 use mathlib.Core.Option.{some}
 use lib.ListN.{get_elem?}
-use Rattle.pm_words.specs.declared.layout.Layout.{Layout}
 use Rattle.pm_words.specs.declared.action.Action.{Action}
 use Rattle.pm_words.specs.declared.machine.Turn.TheVariants.{Done}
 use Rattle.pm_words.specs.Locations.{Updater, at}
@@ -36,12 +35,6 @@ module _ (z : Layered) (i : ℕ) (t : Turning) (stamp release : ℕ) (is : IsIdl
   abbrev w : World
   w = z.whole.world
 
-  abbrev l : Layout
-  l = z.whole.world.layout
-
-  abbrev words : List ℕ
-  words = z.whole.world.words
-
   abbrev asks : Action
   asks = taking_asks (taking_from z.whole.world.layout)
 
@@ -70,10 +63,10 @@ module _ (z : Layered) (i : ℕ) (t : Turning) (stamp release : ℕ) (is : IsIdl
   about_rests : AreRestingBut about.turns i
   about_rests j u at_u other = (is.turns j u (sym (set_else z.turns i j first other) ∙ at_u)).stage
 
-  unlocked : at l words Updater ≡ 0
+  unlocked : at w.layout w.words Updater ≡ 0
   unlocked = is.layered.unlocked (λ j u at_u. (is.turns j u at_u).stage)
 
-  told : 0 ≡ got l words asks
+  told : 0 ≡ got w.layout w.words asks
   told = sym unlocked
 
   foot : TurnFoot terms first asks 0 next
@@ -83,23 +76,23 @@ module _ (z : Layered) (i : ℕ) (t : Turning) (stamp release : ℕ) (is : IsIdl
   marks_same : marks_in (record (z.whole.world) { words = acted z.whole.world.layout z.whole.world.words (taking_asks (taking_from z.whole.world.layout)) }) ≡ marks_in w
   marks_same =
       let ghosts : Ghosts = record { listed = λ n. false; holder = λ n. 0 } in
-      let word : ℕ = at l words Updater in
-      let stored : row_marks l after ≡ row_marks l words =
-      ap (λ (f : TurnFacts). record { state = f.line.state; status = f.status; stamp = f.stamp }) (lock_stored terms ghosts words (cond (word == 0) 1 word)).facts in
+      let word : ℕ = at w.layout w.words Updater in
+      let stored : row_marks w.layout after ≡ row_marks w.layout w.words =
+      ap (λ (f : TurnFacts). record { state = f.line.state; status = f.status; stamp = f.stamp }) (lock_stored terms ghosts w.words (cond (word == 0) 1 word)).facts in
       marks_tie (record w { words = after }) ∙ stored ∙ sym (marks_tie w)
 
   begun : HasEmptied w stamp (marks_in w) 0
   begun = record { empty = λ k lt. absurd (omega arith); rest = λ k le. refl; statuses = λ n. refl; stamps = λ n. inl refl }
 
-  work_sound : IsWork (work_from l w.generation stamp release)
+  work_sound : IsWork (work_from w.layout w.generation stamp release)
   work_sound =
       let layout = is.layered.whole.joint.lawful.row.layout in
       record {
         terms = record { layout = layout; stamp = positive };
-        here = record { within = (let some : 1 ≤ l.callers = layout.callers.0 in omega arith); counted = omega arith; unfreed = refl };
+        here = record { within = (let some : 1 ≤ w.layout.callers = layout.callers.0 in omega arith); counted = omega arith; unfreed = refl };
       }
 
-  turning : LoneTurning z stamp release i (work_from l w.generation stamp release) (turned about i asks next)
+  turning : LoneTurning z stamp release i (work_from w.layout w.generation stamp release) (turned about i asks next)
   turning = record {
     began = is;
     layered = layered_after z about i first next asks 0 about_layered about_there about_rests small foot told;
@@ -118,7 +111,7 @@ module _ (z : Layered) (i : ℕ) (t : Turning) (stamp release : ℕ) (is : IsIdl
     };
   }
 
-  can_take : CanAct l words asks
+  can_take : CanAct w.layout w.words asks
   can_take = can_act z about i first next asks 0 about_layered about_there about_rests small foot told
 
 pub turns_begin : TurnsBegin

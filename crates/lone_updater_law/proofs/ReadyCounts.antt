@@ -9,7 +9,8 @@ use Rattle.updater.specs.Events.{how_many}
 use Rattle.lone_updater_law.specs.CallLogs.{EmptyAreCounted, ReadyAreCounted, is_own_empty}
 use Rattle.lone_updater_law.specs.LoneTurns.{line_state, is_ready}
 
-count_same : (test then : ℕ → Bool) (n : ℕ) → ((k : ℕ) → k < n → then k ≡ test k) → how_many then n ≡ how_many test n
+-- alike tests hold as often
+pub count_same : (test then : ℕ → Bool) (n : ℕ) → ((k : ℕ) → k < n → then k ≡ test k) → how_many then n ≡ how_many test n
 count_same test then zero same = refl
 count_same test then (suc n) same =
     let before : how_many then n ≡ how_many test n = count_same test then n (λ k small. same k (omega arith)) in

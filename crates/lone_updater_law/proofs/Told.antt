@@ -1,12 +1,12 @@
 -- What the actions of a turn give in an index: it may be told that, and of a READY line a node and an anchor.
-use Rattle.std.proofs.Common.{◌≡◌, ◌≢◌, ℕ, ◌/◌, ◌%◌, ◌^◌, ◌<◌, ◌≤◌, List, [], ◌∷◌, slice_index, inl, inr, refl, sym, subst, ap, ◌∙◌, arith, true, false}
+use Rattle.std.proofs.Common.{◌≡◌, ◌≢◌, ℕ, ◌/◌, ◌%◌, ◌<◌, ◌≤◌, List, [], ◌∷◌, slice_index, inl, inr, refl, sym, subst, ap, ◌∙◌, arith, true, false}
 use Rattle.std.proofs.lemmas.Bool.{cases_eq}
 use Rattle.std.proofs.lemmas.List.Elements.{All-head}
 use Rattle.pm_words.specs.declared.layout.Layout.{Layout}
 use Rattle.pm_words.specs.declared.action.Action.{Action}
-use Rattle.pm_words.specs.declared.action.Action.TheVariants.{Load, Store, Exchange, Add, Drain}
+use Rattle.pm_words.specs.declared.action.Action.TheVariants.{Load, Store, Drain}
 use Rattle.pm_words.specs.Locations.{Location, Line, Node, Volatile, Cached, HasLocation, address_of, at}
-use Rattle.pm_words.specs.Rows.{got, given, action_address}
+use Rattle.pm_words.specs.Rows.{got, action_address}
 use Rattle.pm_words.proofs.Apart.{addresses_apart}
 use Rattle.cat_key.specs.Names.{IsName, IsNameByte, words_of}
 use Rattle.std.specs.Int.{w64, to_be_bytes}
@@ -46,13 +46,8 @@ use Rattle.updater.specs.Works.{work_at_asks, IsTerms, IsWorkAt, ToldOfLine}
 use Rattle.updater.proofs.WalkLoads.{IsApart, LoadsApart, walk_place}
 use Rattle.updater.proofs.WatchLaw.{none_of_line}
 use Rattle.layer_map.specs.Places.{is_of_layer}
-
-given_fits : (a : Action) (word : ℕ) → word < 2 ^ 64 → given a word < 2 ^ 64
-given_fits (Load place) word small = small
-given_fits (Store place value) word small = omega arith
-given_fits (Exchange place old new) word small = small
-given_fits (Add place) word small = small
-given_fits (Drain place value) word small = omega arith
+use Rattle.index_law.proofs.Places.{caller_at, number_at, offset_at}
+use Rattle.index_law.proofs.Actions.{given_fits}
 
 -- an action of any kind gives what may be told
 pub told_any : (w : World) (a : Action) → Lawful w → Told w.layout w.generation a (got w.layout w.words a)
@@ -108,18 +103,6 @@ ready_entry l words line fit within ready =
       | inr entry ↦ entry
     ]
 
-abbrev caller_at : Location → ℕ
-caller_at (Cached (Line c j o)) = c
-caller_at _ = 0
-
-abbrev index_at : Location → ℕ
-index_at (Cached (Line c j o)) = j
-index_at _ = 0
-
-abbrev offset_at : Location → ℕ
-offset_at (Cached (Line c j o)) = o
-offset_at _ = 0
-
 abbrev place_of : Action → ℕ
 place_of (Load place) = place
 place_of _ = 0
@@ -144,7 +127,7 @@ module _ (l : Layout) (words : List ℕ) where
           let place : Cached (Line (caller_of line) (index_of line) offset) ≡ Cached (Line (caller_of other) (index_of other) o) =
           addresses_apart l (Cached (Line (caller_of line) (index_of line) offset)) (Cached (Line (caller_of other) (index_of other) o)) (omega arith, omega arith, small) (omega arith, omega arith, small') (ap place_of is) in
           let caller : line / 8 ≡ other / 8 = ap caller_at place in
-          let index : line % 8 ≡ other % 8 = ap index_at place in
+          let index : line % 8 ≡ other % 8 = ap number_at place in
           (omega arith, ap offset_at place)
 
       loaded : (o : ℕ) → offset ≡ o → o < 8 → got l words (Load (numbered_address l line offset)) ≡ line_in l words (line / 8) (line % 8) o

@@ -77,33 +77,27 @@ module _ (before z : Layered) (i : ℕ) (t next : Turning) (a : Action) (x : ℕ
   abbrev w : World
   w = z.whole.world
 
-  abbrev l : Layout
-  l = z.whole.world.layout
-
-  abbrev words : List ℕ
-  words = z.whole.world.words
-
   abbrev after : List ℕ
   after = acted z.whole.world.layout z.whole.world.words a
 
   abbrev later : Layered
   later = turned z i a next
 
-  pub can_act : CanAct l words a
+  pub can_act : CanAct w.layout w.words a
   can_act = (turn_step_keeps z i t next a x is there small foot told).0
 
   pub layered_after : IsLayered later
   layered_after = (turn_step_keeps z i t next a x is there small foot told).1
 
-  pub lawful_row : RowLawful (terms_of w t) (ghosts_of w is.holder) words t.stage
+  pub lawful_row : RowLawful (terms_of w t) (ghosts_of w is.holder) w.words t.stage
   lawful_row = is.rows i t there rest
 
-  row : IsRow l words
+  row : IsRow w.layout w.words
   row = is.whole.joint.lawful.row
 
   keeps : Keeps z.whole is.holder after
-  keeps = touches_keep z.whole is.holder t is.whole is.tended after (acted_row l words a row can_act)
-      (touched (terms_of w t) (ghosts_of w is.holder) words row foot.row told lawful_row (λ free. is.lock free i t there)).touches
+  keeps = touches_keep z.whole is.holder t is.whole is.tended after (acted_row w.layout w.words a row can_act)
+      (touched (terms_of w t) (ghosts_of w is.holder) w.words row foot.row told lawful_row (λ free. is.lock free i t there)).touches
 
   -- the nodes keep their words
   pub nodes_kept : KeepsNodes before z → KeepsNodes before later
@@ -118,7 +112,7 @@ module _ (before z : Layered) (i : ℕ) (t next : Turning) (a : Action) (x : ℕ
   -- and what the law of turns says of the row then
   pub law_after : TurnLawful (rows.terms_of (terms_of w t)) (facts_in (terms_of w t) (ghosts_of later.whole.world layered_after.holder) after) (turn_stage next.stage)
   law_after =
-      let terms : Path RowTerms (terms_of later.whole.world next) (terms_of w t) = λ k. record { layout = l; generation = w.generation; stamp = foot.stamp k; release = foot.release k } in
+      let terms : Path RowTerms (terms_of later.whole.world next) (terms_of w t) = λ k. record { layout = w.layout; generation = w.generation; stamp = foot.stamp k; release = foot.release k } in
       let still : AreRestingBut later.turns i = (λ j u at_u other. rest j u (sym (set_else z.turns i j next other) ∙ at_u) other) in
       (subst (λ (r : RowTerms). RowLawful r (ghosts_of later.whole.world layered_after.holder) after next.stage) terms
       (layered_after.rows i next (set_here z.turns i next t there) still)).law

@@ -5,7 +5,7 @@ use Rattle.std.specs.Prelude.{min}
 use Rattle.cat_history.specs.Maps.{map_of}
 use Rattle.pm_words.specs.declared.layout.Layout.{Layout}
 use Rattle.pm_words.specs.declared.action.Action.TheVariants.{Store}
-use Rattle.pm_words.specs.Locations.{Location, Volatile, Cached, Clock, HasLocation, address_of}
+use Rattle.pm_words.specs.Locations.{Volatile, Cached, Clock, HasLocation, address_of}
 use Rattle.pm_words.specs.Images.{Row}
 use Rattle.pm_words.specs.Rows.{IsRow, CanAct}
 use Rattle.pm_words.proofs.Apart.{at-set_same, at-set_other, addresses_within}
@@ -23,14 +23,7 @@ use Rattle.index_core.proofs.Permuting.{row_by_facts, words_permuted}
 use Rattle.index_core.specs.Lone.{IsQuiet}
 use Rattle.index_core.specs.Weights.{weight_of}
 use Rattle.pac_index.specs.Stamps.{stamp_in, with_words, SettlesTo}
-
-abbrev offset_of : Location → ℕ
-offset_of (Volatile n o) = o
-offset_of _ = 0
-
-abbrev node_of : Location → ℕ
-node_of (Volatile n o) = n
-node_of _ = 0
+use Rattle.index_law.proofs.Places.{node_at, offset_at}
 
 abbrev stamped : Layout → List ℕ → ℕ → List ℕ
 stamped l words n = set words (address_of l (Volatile n 2)) 1
@@ -42,7 +35,7 @@ can_stamp l words n here = ((addresses_within l (Volatile n 2) (here, omega arit
 keeps_index : (l : Layout) (words : List ℕ) (n : ℕ) → n < l.nodes → 1 < stamp_in l words n → (s : Index) → IsQuiet s → IsIndex (with_words s l words) → IsIndex (with_words s l (stamped l words n))
 keeps_index l words n here large s quiet is =
     let has : HasLocation l (Volatile n 2) = (here, omega arith) in
-    let same = facts-elsewhere l words (map_of s.base) s.history (Volatile n 2) 1 has (λ m o e. cc, λ m e. let no : 2 ≡ 0 = ap offset_of e in omega arith) in
+    let same = facts-elsewhere l words (map_of s.base) s.history (Volatile n 2) 1 has (λ m o e. cc, λ m e. let no : 2 ≡ 0 = ap offset_at e in omega arith) in
     let lawful = beside_law (world (with_words s l words)) (stamped l words n) is.lawful
     (acted_row l words (Store (address_of l (Volatile n 2)) 1) is.lawful.row (can_stamp l words n here))
     same
@@ -52,7 +45,7 @@ keeps_index l words n here large s quiet is =
     let footed = stamp_footed (footed (with_words s l words)) n (is.whole, is.tended) here lawful in
     let permuted = words_permuted (with_words s l words) (stamped l words n) (is.permuted, is.relying) lawful
     (row_by_facts l words (stamped l words n) (map_of s.base) s.history (ap (λ (f : Facts). f.version) same) (ap (λ (f : Facts). f.now) same) (ap (λ (f : Facts). f.list) same)
-    (λ m low. left_stored l words (Volatile n 2) 1 m has (λ o least e. let no : o ≡ 2 = ap offset_of e in omega arith))) in
+    (λ m low. left_stored l words (Volatile n 2) 1 m has (λ o least e. let no : o ≡ 2 = ap offset_at e in omega arith))) in
     record {
       lawful = lawful;
       whole = footed.0;
@@ -70,7 +63,7 @@ keeps_index l words n here large s quiet is =
 
 keeps_weight : (l : Layout) (words : List ℕ) (n : ℕ) → n < l.nodes → (s : Index) → weight_of (with_words s l (stamped l words n)) ≡ weight_of (with_words s l words)
 keeps_weight l words n here s =
-    ap (index_weight l) (facts-elsewhere l words (map_of s.base) s.history (Volatile n 2) 1 (here, omega arith) (λ m o e. cc, λ m e. let no : 2 ≡ 0 = ap offset_of e in omega arith))
+    ap (index_weight l) (facts-elsewhere l words (map_of s.base) s.history (Volatile n 2) 1 (here, omega arith) (λ m o e. cc, λ m e. let no : 2 ≡ 0 = ap offset_at e in omega arith))
 
 -- The stamps of the first so many nodes are settled.
 pub record Settling (l : Layout) (n : ℕ) (before words : List ℕ) : Type 0 where
@@ -110,7 +103,7 @@ stamp_settled l n before words here row large so = record {
 }
   where
     apart : (m : ℕ) → m ≢ n → m < l.nodes → stamp_in l (stamped l words n) m ≡ stamp_in l words m
-    apart m other low = at-set_other l words (Volatile n 2) (Volatile m 2) 1 (here, omega arith) (low, omega arith) (λ e. other (ap node_of e))
+    apart m other low = at-set_other l words (Volatile n 2) (Volatile m 2) 1 (here, omega arith) (low, omega arith) (λ e. other (ap node_at e))
 
 pub all_settled : (l : Layout) (n : ℕ) (before words : List ℕ) → l.nodes ≤ n → Settling l n before words → SettlesTo l before words
 all_settled l n before words all so = record { stamps = λ m less. so.first m (omega arith); keeps = so.keeps; weighs = so.weighs }

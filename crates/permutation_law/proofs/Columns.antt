@@ -17,6 +17,7 @@ use Rattle.permutation_law.specs.Laws.{IsSpared}
 use Rattle.index_law.specs.Beside.{IsBeside}
 use Rattle.index_law.specs.Laws.{Allowed}
 use Rattle.index_law.proofs.Beside.{nodes_leave_others}
+use Rattle.index_law.proofs.Places.{offset_at}
 
 -- what is read of a node of the layout, or 0
 guarded : (b : Bool) (x y : ℕ) → (b ≡ true → x ≡ y) → cond b x 0 ≡ cond b y 0
@@ -51,14 +52,6 @@ pub permutations_alike : (l : Layout) (words words' : List ℕ) (n : ℕ) → ((
 permutations_alike l words words' n same = λ i k. permutation_in-alike l words words' n k (same k) i
 
 -- which volatile word a location is
-abbrev pub offset_of : Location → ℕ
-offset_of (Volatile n o) = o
-offset_of _ = 0
-
-abbrev pub node_of : Location → ℕ
-node_of (Volatile n o) = n
-node_of _ = 0
-
 -- the permutation of a node stays, with its version
 pub record IsLeft (l : Layout) (words words' : List ℕ) (n : ℕ) : Type 0 where
   pub made : made_at l words' n ≡ made_at l words n
@@ -82,7 +75,7 @@ left_stored l words p y n has other = left_by l words (slice_set words (address_
 none_touched : (n offset : ℕ) → 2 < offset → IsBeside (Volatile n offset)
 none_touched n offset least = record {
   clock = λ e. cc;
-  status = λ m e. let no : offset ≡ 0 = ap offset_of e in omega arith;
+  status = λ m e. let no : offset ≡ 0 = ap offset_at e in omega arith;
   cached = λ m o e. cc;
   durable = λ m o e. cc;
 }
@@ -97,7 +90,7 @@ left_beside l words a n (stores_line {c = c} {j = j} {offset = offset} {y = y} h
 left_beside l words a n (drains_line {c = c} {j = j} {offset = offset} {y = y} has fits) spared =
     subst (λ (place : ℕ). IsLeft l words (slice_set words place y) n) (sym (action_address-drain l (Line c j offset) y)) (left_stored l words (Durable (Line c j offset)) y n has (λ o least e. cc))
 left_beside l words a n (stores_prev {n = m} {y = y} here fits) spared =
-    left_stored l words (Volatile m 1) y n (here, omega arith) (λ o least e. let no : o ≡ 1 = ap offset_of e in omega arith)
+    left_stored l words (Volatile m 1) y n (here, omega arith) (λ o least e. let no : o ≡ 1 = ap offset_at e in omega arith)
 left_beside l words a n (loads_layer {w = v} place) spared = left_same l words (acted l words a) n (set-get_or words (address_of l (Cached v)) 0)
 left_beside l words a n (on_permutation (loads {n = m} {offset = offset} here of)) spared = left_same l words (acted l words a) n (set-get_or words (volatile_address l m offset) 0)
 left_beside l words a n (on_permutation (stores here of fits)) spared = absurd spared

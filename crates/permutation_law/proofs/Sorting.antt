@@ -21,13 +21,14 @@ use Rattle.index_law.specs.Worlds.{Party, World, facts}
 use Rattle.index_law.specs.Lawful.{Lawful, IsOwnLock, SureHolds, Sure}
 use Rattle.permutation_law.specs.Permuted.{made_at, permutation_in, IsInOrder, Permuted, IsStored, SureSorting, IsPermuted}
 use Rattle.permutation_law.specs.Laws.{SortLaw, SortsPermute}
-use Rattle.permutation_law.proofs.Columns.{IsLeft, left_stored, made_at-here, made_at-alike, permutation_in-here, permutation_in-alike, permutations_alike, offset_of, node_of}
+use Rattle.permutation_law.proofs.Columns.{IsLeft, left_stored, made_at-here, made_at-alike, permutation_in-here, permutation_in-alike, permutations_alike}
 use Rattle.permutation_law.proofs.Steps.{holds_node, order_same}
 use Rattle.index_law.proofs.Noting.{beside_law}
 use Rattle.index_law.proofs.Parties.{at_set, set_here, set_else}
 use Rattle.index_law.proofs.Rows.{facts-elsewhere}
 use Rattle.index_law.proofs.Twins.{nearer, store_closer}
 use Rattle.index_law.proofs.Versions.{unfree}
+use Rattle.index_law.proofs.Places.{node_at, offset_at}
 
 -- a store of a volatile word past the stamp
 module _ (w : World) (lawful : Lawful w) (n offset y : ℕ) (here : n < w.layout.nodes) (least : 2 < offset) (most : offset < 16) (fits : y < 2 ^ 64) where
@@ -41,7 +42,7 @@ module _ (w : World) (lawful : Lawful w) (n offset y : ℕ) (here : n < w.layout
   store_can = ((addresses_within w.layout (Volatile n offset) has, outside_header w.layout (Volatile n offset) has (λ k lt. (λ e. cc, λ e. cc))), fits)
 
   pub store_facts : facts (record w { words = stored }) ≡ facts w
-  store_facts = facts-elsewhere w.layout w.words w.base w.history (Volatile n offset) y has (λ m o e. cc, λ m e. let no : offset ≡ 0 = ap offset_of e in omega arith)
+  store_facts = facts-elsewhere w.layout w.words w.base w.history (Volatile n offset) y has (λ m o e. cc, λ m e. let no : offset ≡ 0 = ap offset_at e in omega arith)
 
   pub store_lawful : Lawful (record w { words = stored })
   store_lawful = beside_law w stored lawful
@@ -53,7 +54,7 @@ module _ (w : World) (lawful : Lawful w) (n offset y : ℕ) (here : n < w.layout
 
 -- those of the other nodes stay
 pub else_left : (l : Layout) (words : List ℕ) (n offset y m : ℕ) → n < l.nodes → offset < 16 → m ≢ n → IsLeft l words (slice_set words (address_of l (Volatile n offset)) y) m
-else_left l words n offset y m here most other = left_stored l words (Volatile n offset) y m (here, most) (λ o least e. other (ap node_of e))
+else_left l words n offset y m here most other = left_stored l words (Volatile n offset) y m (here, most) (λ o least e. other (ap node_at e))
 
 -- the permutation has that word then
 words_stored : (l : Layout) (words : List ℕ) (n k y : ℕ) → length words ≡ row_words l → n < l.nodes → k < 8
@@ -77,7 +78,7 @@ words_stored l words n k y whole here low = λ i j. at_word j i
         (λ (other : j ≢ k).
         permutation_in-alike l words (slice_set words (address_of l (Volatile n (8 + k))) y) n j
         (λ _ small. at-set_other l words (Volatile n (8 + k)) (Volatile n (8 + j)) y (here, omega arith) (here, omega arith)
-        (λ e. let no : 8 + j ≡ 8 + k = ap offset_of e in other (omega arith)))
+        (λ e. let no : 8 + j ≡ 8 + k = ap offset_at e in other (omega arith)))
         ∙ sym (updated-other (permutation_in l words n) k y j other))
         (cases_eq j k)
 
@@ -213,7 +214,7 @@ word_law z i p sorting n lock k y h seen is there at stage unstored here low fit
     let l = z.world.layout in
     let words = z.world.words in
     let words' : List ℕ = slice_set words (address_of l (Volatile n (8 + k))) y in
-    let made : made_at l words' n ≡ made_at l words n = made_at-alike l words words' n (λ _. at-set_other l words (Volatile n (8 + k)) (Volatile n 3) y (here, omega arith) (here, omega arith) (λ e. let no : 3 ≡ 8 + k = ap offset_of e in omega arith)) in
+    let made : made_at l words' n ≡ made_at l words n = made_at-alike l words words' n (λ _. at-set_other l words (Volatile n (8 + k)) (Volatile n 3) y (here, omega arith) (here, omega arith) (λ e. let no : 3 ≡ 8 + k = ap offset_at e in omega arith)) in
     record {
       can = store_can z.world is.lawful n (8 + k) y here (omega arith) (omega arith) fits;
       facts = store_facts z.world is.lawful n (8 + k) y here (omega arith) (omega arith) fits;
@@ -231,7 +232,7 @@ version_law z i p sorting n lock version h is there at stage here next fits orde
     let words = z.world.words in
     let words' : List ℕ = slice_set words (address_of l (Volatile n 3)) version in
     let made : made_at l words' n ≡ version = made_at-here l words' n here ∙ at-set_same l words (Volatile n 3) version is.lawful.row.whole (here, omega arith) in
-    let stays : permutation_in l words' n ≡ permutation_in l words n = permutations_alike l words words' n (λ k _ low. at-set_other l words (Volatile n 3) (Volatile n (8 + k)) version (here, omega arith) (here, omega arith) (λ e. let no : 8 + k ≡ 3 = ap offset_of e in omega arith)) in
+    let stays : permutation_in l words' n ≡ permutation_in l words n = permutations_alike l words words' n (λ k _ low. at-set_other l words (Volatile n 3) (Volatile n (8 + k)) version (here, omega arith) (here, omega arith) (λ e. let no : 8 + k ≡ 3 = ap offset_at e in omega arith)) in
     record {
       can = store_can z.world is.lawful n 3 version here (omega arith) (omega arith) fits;
       facts = store_facts z.world is.lawful n 3 version here (omega arith) (omega arith) fits;

@@ -2,14 +2,14 @@
 use Rattle.std.proofs.Common.{◌≡◌, ℕ, ◌<◌, ◌&&◌, true, false, inl, inr, cond, ltb, leb, refl, sym, ◌∙◌, arith, Bool, List, slice_set, ap}
 use Rattle.std.proofs.lemmas.Bool.{and_parts, ltb-true, leb-true, false≢true, lt-ltb}
 use Rattle.pm_words.specs.declared.layout.Layout.{Layout}
-use Rattle.pm_words.specs.Locations.{Word, Header, Root, Node, Line, Leaf, Cell, Location, Clock, Updater, Volatile, Mark, Cached, Durable, leaf_count, kind_words, at, word_at, HasLocation, address_of}
+use Rattle.pm_words.specs.Locations.{Word, Header, Root, Node, Line, Leaf, Cell, Location, Clock, Updater, Volatile, Mark, Cached, Durable, leaf_count, at, word_at, HasLocation, address_of}
 use Rattle.pm_words.proofs.Apart.{at-set_other}
 use Rattle.tree_law.specs.Words.{LayerWord, RootWord, LeafWord, CellWord, room_of, tree_of}
 use Rattle.tree_law.proofs.StageLaw.{same_words}
 use Rattle.tree_law.proofs.TreeLaw.{layer_leads_to_nodes}
 use Rattle.tree_row.specs.Rows.{image_word, HasLayerWord, has_layer_word, layer_word, image_layer_word, IsOutsideWord, IsOutsideLayer}
 use Rattle.tree_row.specs.RowMarks.{IsNoMark, has_mark}
-use Rattle.tree_row.proofs.RowLaw.{outside_leaves, eviction_mixes}
+use Rattle.tree_row.proofs.RowLaw.{has_from, outside_leaves, eviction_mixes}
 use Rattle.tree_row.proofs.MarkLaw.{store_leaves_marks, eviction_leaves_marks}
 use Rattle.layer_map.specs.Places.{is_layer_word, is_of_layer}
 use Rattle.search_layer.specs.Rows.{LayerWords, AreEven, IsLayerMix, root_words, LayerAlike, LayerWordsStay, RowsAlike, ImagesAlike, EvenAreSame, MixesAreEven, EvictionMixes}
@@ -60,15 +60,6 @@ layer_words_stay l words p word has e =
       marks = store_leaves_marks l words p word has (no_mark p e);
       root = root_alike l words (slice_set words (address_of l p) word) (λ o lt. at-set_other l words p (Cached (Root o)) word has lt (λ same. false≢true (sym e ∙ ap is_of_layer (sym same))));
     }
-
-pub has_from : (l : Layout) (p : LayerWord) → has_layer_word l p ≡ true → HasLayerWord l p
-has_from l RootWord e = let first : 0 < 8 = omega arith in first
-has_from l (LeafWord i o) e = let parts = and_parts (ltb i (leaf_count l)) (ltb o 8) e in (ltb-true _ _ parts.0, ltb-true _ _ parts.1)
-has_from l (CellWord kind n o) e =
-    let offset = and_parts (leb 2 kind && leb kind 5 && ltb n (leaf_count l)) (ltb o (kind_words kind)) e in
-    let number = and_parts (leb 2 kind && leb kind 5) (ltb n (leaf_count l)) offset.0 in
-    let kinds = and_parts (leb 2 kind) (leb kind 5) number.0 in
-    (leb-true _ _ kinds.0, leb-true _ _ kinds.1, ltb-true _ _ number.1, ltb-true _ _ offset.1)
 
 pub is_place : (p : LayerWord) → is_layer_word (image_word p) ≡ true
 is_place RootWord = refl

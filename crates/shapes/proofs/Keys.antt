@@ -1,5 +1,5 @@
 -- The names of a map: they rise, a put adds its name, a delete takes its name away.
-use Rattle.std.proofs.Common.{◌≡◌, ℕ, Bool, true, false, not, cond, ◌&&◌, T, Less, Equal, Greater, is_some, is_eq, is_gt, ◌||◌, ⊎_elim, Option, None, List, [], ◌∷◌, ◌++◌, map, refl, sym, ap, subst, ◌∙◌}
+use Rattle.std.proofs.Common.{◌≡◌, ℕ, Bool, true, false, not, cond, T, Less, Equal, Greater, is_some, is_eq, is_gt, ◌||◌, ⊎_elim, Option, None, List, [], ◌∷◌, ◌++◌, map, refl, sym, ap, subst, ◌∙◌}
 use Rattle.std.proofs.lemmas.Map.Lookups.{exact_bytes}
 use Rattle.std.specs.FinMap.Entries.{put, by_order, below_all, is_sorted, where_key, find-where_key, is_sorted-where_key}
 use Rattle.std.specs.FinMap.{keys, insert, remove, get, entries, entries_sorted, entries-insert, from_sorted, entries-from_sorted, get-from_sorted, get-entries, get-remove, same_map, contains_key-keys}
@@ -12,18 +12,7 @@ use Rattle.shapes.specs.Anchors.{below, AnchorsRise, is_between, names_between}
 use Rattle.shapes.specs.Members.{is_among, with_name, without_name}
 use Rattle.shapes.proofs.Orders.{same, true_or_false, clash, not_back, same-is, same-itself, gt-is, below-chain, no_true}
 use Rattle.shapes.proofs.NameLists.{all_by, filter-keeps, filter-drops, filter-all, filter-none, filter-swapped, rise-filter, with_name-there, with_name-filter, with_name-outside}
-
-is_true : (b : Bool) → T b → b ≡ true
-is_true true t = refl
-is_true false t = absurd t
-
-first : (a b : Bool) → T (a && b) → T a
-first true b t = tt
-first false b t = t
-
-second : (a b : Bool) → T (a && b) → T b
-second true b t = t
-second false b t = absurd t
+use Rattle.cat_history.proofs.ScanLemmas.{is_true, first, second}
 
 abbrev Entries : Type 0
 Entries = List (List ℕ × ℕ)

@@ -108,6 +108,7 @@ module _ (s : MapState) (from : List ℕ) (count place : ℕ) (low : List ℕ) (
 
 -- ---- how many
 
+-- so many parts are to come at most
 abbrev pub to_come : Anchors → Option (List ℕ) → ℕ
 to_come anchors None = 0
 to_come anchors (Some low) = length (past anchors low) + 1

@@ -7,7 +7,6 @@ ghost use Rattle.cat_history.specs.CrashEnds.{after_changes};
 ghost use Rattle.cat_history.specs.CrashRounds.{is_shown, ReplySays};
 ghost use Rattle.cat_history.specs.Maps.{Map, map_of};
 ghost use Rattle.cat_history.specs.Records.{change_asked};
-ghost use Rattle.cat_history.specs.Replays.{pairs_of};
 ghost use Rattle.cat_history.specs.declared.op.Write.{Write};
 ghost use Rattle.cat_history.specs.declared.record.Record.{Record};
 ghost use Rattle.transcript.specs.Calls.{HaveKeysApart};
@@ -17,9 +16,8 @@ ghost use Rattle.transcript.specs.Rules.{EndsAsSaid};
 use crate::NoMemory;
 use crate::asking::RoundEnd;
 use crate::forms::{all_answered, all_have_form, all_keep_budgets, is_writer};
-use crate::names::{Names, change, change_all, names_of};
 use crate::stops::stop_once;
-use cat_history::{Change, CutMark, Items, Op, Pairs, Record, Reply, Write};
+use cat_history::{Change, CutMark, Names, Op, Record, Reply, Write, change, change_all, names_of};
 use cat_key::Pair;
 use std::alloc::Global;
 
@@ -132,15 +130,4 @@ pub(crate) fn ends_as_said(
         return Ok(false);
     }
     stop_once(alloc, told)
-}
-
-/// The map as pairs in rising order of names.
-pub(crate) fn pairs_in(alloc: Global, names: Names) -> Result<Pairs, NoMemory>
-    ensures { IfOk result (λ pairs. (m : Map) → names.entries ≡ entries m → pairs ≡ pairs_of m) }
-{
-    let mut pairs = Vec::with_capacity(alloc, names.len())?;
-    for (name, value) in names {
-        pairs.push(Pair { name, value })?;
-    }
-    Ok(Items::of(pairs))
 }

@@ -12,13 +12,13 @@ ghost use Rattle.transcript.specs.declared.asking.Judged.TheVariants as Judged;
 
 use crate::asking::{Asked, Judged, RoundEnd};
 use crate::calls::each_call_is_told;
-use crate::ends::{ends_as_said, names_at_end, pairs_in};
+use crate::ends::{ends_as_said, names_at_end};
 use crate::limit::limit_is_kept;
 use crate::looks::numbers_agree;
 use crate::order::callers_keep_order;
 use crate::places::writes_by_place;
 use crate::scans::scans_agree;
-use cat_history::{CallerOp, Pairs, Record, Records, Write};
+use cat_history::{CallerOp, Pairs, Record, Records, Write, pairs_in};
 use cat_key::Pair;
 use std::alloc::Global;
 

@@ -11,8 +11,8 @@ ghost use Rattle.transcript.specs.Rules.{TellsItsNumber};
 ghost use Rattle.transcript.specs.declared.looks.Look.{Look};
 
 use crate::NoMemory;
-use crate::names::{Names, grow, names_of};
-use cat_history::{Op, Record, Reply, Write};
+use crate::names::grow;
+use cat_history::{Names, Op, Record, Reply, Write, names_of};
 use cat_key::{Name, Pair};
 use std::alloc::Global;
 

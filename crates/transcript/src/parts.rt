@@ -11,8 +11,8 @@ ghost use Rattle.transcript.specs.Chains.{ListsFirst, parts_left, parts_of_reply
 ghost use Rattle.transcript.specs.declared.parts.PartLook.{PartLook};
 
 use crate::NoMemory;
-use crate::names::{Names, grow, names_of};
-use cat_history::{Op, Record, Reply, ScanPart, Write};
+use crate::names::grow;
+use cat_history::{Names, Op, Record, Reply, ScanPart, Write, names_of};
 use cat_key::{Name, Pair};
 use std::alloc::Global;
 use std::collections::btree_map::Range;

@@ -24,7 +24,7 @@ use Rattle.tree_change.proofs.FillingLaw.{fill_step_keeps, filling_drains, filli
 use Rattle.tree_change.proofs.ActsLaw.{finish_happens, leaf_happens, cell_happens}
 
 -- what an action gives has 64 bits
-got_fits : (l : Layout) (words : List ℕ) → IsRow l words → (a : Action) → rows.got l words a < 2 ^ 64
+pub got_fits : (l : Layout) (words : List ℕ) → IsRow l words → (a : Action) → rows.got l words a < 2 ^ 64
 got_fits l words row (Load address) = row.fits address
 got_fits l words row (Store address value) = omega arith
 got_fits l words row (Exchange address old new) = row.fits address

@@ -13,6 +13,25 @@ use Rattle.tree_law.proofs.PathLaw.{way_adds, way_pairs, comes_place}
 use Rattle.tree_law.proofs.Avoiding.{join}
 use Rattle.tree_law.proofs.WordLaw.{switch_makes}
 
+-- a cell with one entry more takes the place of the one at which the key's way ends
+pub way_grows : (count nodes : ℕ) (w : LayerWords) (place : Place) (key node x grown b leaf : ℕ) → IsLawful count nodes w → Comes (tree_of w) key place → reference_at (tree_of w) place ≡ Cell x
+    → Comes (tree_of w) key (Entry x b) → (tree_of w).child x b ≡ Nothing → IsFilledLeaf count nodes w key node leaf → IsFilledLarger count nodes w x grown b leaf
+    → Grows (room_of count nodes) (tree_of w) place x grown b leaf
+way_grows count nodes w place key node x grown b leaf lawful comes at_x comes_x none is is_grown =
+    let adds = way_adds (room_of count nodes) (tree_of w) key leaf x b lawful.tree comes_x none is.sound is.key_is in
+    record {
+      of_tree = comes_place (tree_of w) key place comes;
+      old = at_x;
+      sound = is.sound;
+      number = is_grown.number;
+      depth = is_grown.depth;
+      prefix = is_grown.prefix;
+      none = none;
+      has_leaf = is_grown.has_leaf;
+      others = is_grown.others;
+      under = adds.under;
+    }
+
 module _ (count nodes : ℕ) (w w' : LayerWords) (lawful : IsLawful count nodes w) where
   abbrev t : Tree
   t = tree_of w
@@ -60,19 +79,6 @@ module _ (count nodes : ℕ) (w w' : LayerWords) (lawful : IsLawful count nodes 
   grows : (place : Place) (key node x grown b leaf : ℕ) → Comes t key place → reference_at t place ≡ Cell x → Comes t key (Entry x b) → t.child x b ≡ Nothing → IsFilledLeaf count nodes w key node leaf → IsFilledLarger count nodes w x grown b leaf
       → reference_of grown ≡ Cell grown → IsSwitchStore w w' place grown → ChangesKey count nodes w w' key (Some node)
   grows place key node x grown b leaf comes at_x comes_x none is is_grown grown_is store =
-      let adds' : Adds room t x b leaf = way_adds room t key leaf x b lawful.tree comes_x none is.sound is.key_is in
-      let is_grows : Grows room t place x grown b leaf = record {
-        of_tree = comes_place t key place comes;
-        old = at_x;
-        sound = is.sound;
-        number = is_grown.number;
-        depth = is_grown.depth;
-        prefix = is_grown.prefix;
-        none = none;
-        has_leaf = is_grown.has_leaf;
-        others = is_grown.others;
-        under = adds'.under;
-      } in
       changes place grown key (Cell grown) (Some node) grown_is store
       (λ y way. elim (cell_goes t grown (Cell y) way) [
         | inl same ↦ subst (λ z. IsForm (kind_of z) (cell_in w z)) (let number : grown ≡ y = cc in number) is_grown.form
@@ -83,7 +89,8 @@ module _ (count nodes : ℕ) (w w' : LayerWords) (lawful : IsLawful count nodes 
               lawful.forms y (joined (comes_place t key (Entry x b) comes_x) (below (λ e. on.some_child (same ∙ e)) (subst (λ r. Reaches t r (Cell y)) same on.reach)))
         ]
       ])
-      (λ root child switched. to_key place key node leaf (rooted t root child) is (grow_makes room t root child place x grown b leaf lawful.tree is_grows switched))
+      (λ root child switched. to_key place key node leaf (rooted t root child) is (grow_makes room t root child place x grown b leaf lawful.tree
+      (way_grows count nodes w place key node x grown b leaf lawful comes at_x comes_x none is is_grown) switched))
     where
       joined : {r q s : Reference} → Reaches t r q → Reaches t q s → Reaches t r s
       joined one two = join t one two

@@ -2,14 +2,15 @@
 use Rattle.std.proofs.Common.{◌≡◌, ◌≢◌, ℕ, ◌&&◌, ◌⊎◌, leb, ltb, inl, inr, refl, sym, subst, ap, ◌∙◌}
 use Rattle.std.proofs.lemmas.Bool.{cases_eq, leb-true, and_parts}
 use Rattle.tree_law.specs.Trees.{Reference, Nothing, Leaf, Cell, Tree, Reaches, here, below, IsReached, byte_at, low}
-use Rattle.tree_law.specs.Switches.{Place, Entry, reference_at, IsSwitched, AreSameWhereReached, Grows}
+use Rattle.tree_law.specs.Switches.{Place, Entry, reference_at, IsSwitched, AreSameWhereReached}
 use Rattle.tree_law.specs.Reached.{Parts, NoPart, Only, Both, IsAmong, ReachesAfter}
 use Rattle.tree_law.specs.Words.{LayerWords, kind_of, number_of, reference_of, tree_of, room_of, IsLawful, IsSwitchStore}
 use Rattle.tree_law.specs.Stages.{Marks}
 use Rattle.tree_law.specs.Marking.{mark_of, MayHaveMark, MarksFollow, FillReaches, NodeWordReaches, SetAddReaches, SetPairReaches, SetGrowReaches, UnsetRemoveReaches, UnsetCollapseReaches, MarksTellAgain}
 use Rattle.tree_law.proofs.Avoiding.{join}
 use Rattle.tree_law.proofs.OtherLaw.{to_named, from_named}
-use Rattle.tree_law.proofs.PathLaw.{way_adds, way_pairs, comes_place}
+use Rattle.tree_law.proofs.ChangeLaw.{way_grows}
+use Rattle.tree_law.proofs.PathLaw.{way_adds, way_pairs}
 use Rattle.tree_law.proofs.WordLaw.{switching, node_named, part_alike, part_reached}
 use Rattle.tree_law.proofs.ReachedLaw.{add_reaches, pair_reaches, grow_reaches, remove_reaches, collapse_reaches}
 
@@ -71,21 +72,9 @@ pub set_grow_reaches : SetGrowReaches
 set_grow_reaches count nodes w w' place key node x grown b leaf lawful comes at_x comes_x none filled is_grown unreached is store =
     let room = room_of count nodes in
     let t = tree_of w in
-    let adds = way_adds room t key leaf x b lawful.tree comes_x none filled.sound filled.key_is in
-    let grows : Grows room t place x grown b leaf = record {
-      of_tree = comes_place t key place comes;
-      old = at_x;
-      sound = filled.sound;
-      number = is_grown.number;
-      depth = is_grown.depth;
-      prefix = is_grown.prefix;
-      none = none;
-      has_leaf = is_grown.has_leaf;
-      others = is_grown.others;
-      under = adds.under;
-    } in
     by_switch count nodes w w' place grown (Cell grown) _ _ lawful is store (λ switched.
-    grow_reaches room t (tree_of w').root (tree_of w').child place x grown b leaf lawful.tree grows unreached switched)
+    grow_reaches room t (tree_of w').root (tree_of w').child place x grown b leaf lawful.tree
+    (way_grows count nodes w place key node x grown b leaf lawful comes at_x comes_x none filled is_grown) unreached switched)
 
 pub unset_remove_reaches : UnsetRemoveReaches
 unset_remove_reaches count nodes w w' x b leaf lawful removes store =

@@ -1,8 +1,6 @@
 -- Whole runs of a change: at each moment, and at the end.
 use Rattle.std.proofs.Common.{◌≡◌, ◌≢◌, ℕ, ◌+◌, ◌-◌, ◌^◌, ◌<◌, ◌≤◌, ◌⊎◌, cond, inl, inr, List, length, Some, None, refl, sym, subst, ap, ◌∙◌, arith}
 use Rattle.pm_words.specs.declared.layout.Layout.{Layout}
-use Rattle.pm_words.specs.declared.action.Action.{Action}
-use Rattle.pm_words.specs.declared.action.Action.TheVariants.{Load, Store, Exchange, Add, Drain}
 use Rattle.pm_words.specs.declared.machine.Turn.TheVariants.{Go, Done}
 use Rattle.pm_words.specs.Locations.{Cached, Durable, leaf_count, image_words, row_words}
 use Rattle.pm_words.specs.Rows.{IsRow, CanAct, acted, evicted}
@@ -42,6 +40,7 @@ use Rattle.tree_update.specs.Kinds.{KeepsOthers}
 use Rattle.tree_update.specs.declared.set.Set.{Set}
 use Rattle.tree_update.specs.Sets.{set_starts}
 use Rattle.tree_update.specs.Alone.{IsChanged}
+use Rattle.tree_change.proofs.RowSteps.{got_fits}
 
 -- Whatever becomes durable by itself is a mix of both twins.
 
@@ -128,14 +127,6 @@ all_cached w s p = inl refl
 
 all_durable : (w s : LayerWords) → IsMix w s s
 all_durable w s p = inr refl
-
--- what an action gives has 64 bits
-got_fits : (l : Layout) (words : List ℕ) → IsRow l words → (a : Action) → rows.got l words a < 2 ^ 64
-got_fits l words row (Load address) = row.fits address
-got_fits l words row (Store address value) = omega arith
-got_fits l words row (Exchange address old new) = row.fits address
-got_fits l words row (Add address) = row.fits address
-got_fits l words row (Drain address value) = omega arith
 
 -- A change on its run.
 pub record OnRun (l : Layout) (before : Layer) (aim : Aim) (change : Change) (now : List ℕ) : Type 0 where

@@ -1,14 +1,10 @@
-use Rattle.std.proofs.Common.{◌≡◌, ◌≢◌, ◌+◌, ◌-◌, ◌<◌, ◌≤◌, inl, inr, refl, sym, subst, ap, ◌∙◌, arith}
+use Rattle.std.proofs.Common.{◌+◌, ◌-◌, ◌<◌, inl, inr, refl, sym, subst, ap, ◌∙◌, arith}
 use Rattle.std.proofs.lemmas.Bool.{cases_eq, false≢true}
-use Rattle.tree_law.specs.Trees.{Cell, depth_of}
 use Rattle.tree_law.specs.Words.{number_of, reference_of}
-use Rattle.tree_floor.proofs.FloorExact.{reference_some}
-use Rattle.image_layer_rules.specs.Faults.{image_tree, IsWrong}
-use Rattle.image_layer_rules.specs.Checks.{IsRead, IsWrongFrom}
+use Rattle.image_layer_rules.specs.Faults.{image_tree}
 use Rattle.image_layer_rules.specs.Covers.{IsStrayFrom}
-use Rattle.image_layer_rules.proofs.WrongLemmas.{child_is}
-use Rattle.image_layer_rules.proofs.WalkLemmas.{to_leaf, to_cell, wrong_here, wrong_below, depth_small}
-use Rattle.image_layer_rules.proofs.CountLemmas.{head_deeper}
+use Rattle.image_layer_rules.proofs.CellLemmas.{child_read, cell_right, cell_small, goes_on}
+use Rattle.image_layer_rules.proofs.WalkLemmas.{to_leaf, to_cell}
 use Rattle.image_layer_rules.proofs.StrayLemmas.{stray_here, stray_only, stray_below, none_stray_below}
 use Rattle.image_layer_rules.proofs.stray.+is_stray_from.Goals as goal
 
@@ -23,12 +19,7 @@ returns-then-reference-eq-LEAF t c =
 
 pub overflow_add-next : goal.overflow_add-next
 overflow_add-next t c =
-    let l = c.args.image.now.layout in
-    let image = c.args.image.now.words in
-    let x = c.args.reference in
-    let right : ¬ IsWrong l image (Cell x) = λ wrong. c.requires.right c.if-reference-eq0.false (wrong_here l image (Cell x) (reference_of x) (to_cell x c.if-reference-eq0.false c.if-reference-eq-LEAF.false) wrong) in
-    let small = depth_small l image x right in
-    let depth : c.cell_word-next.result ≡ (image_tree l image).depth x = c.cell_word-next.ensures in
+    let small = cell_small c.args.image.now.layout c.args.image.now.words c.args.reference c.if-reference-eq0.false c.if-reference-eq-LEAF.false c.requires.right c.cell_word-next.result c.cell_word-next.ensures in
     omega arith
 
 pub is_stray_from-requires : goal.is_stray_from-requires
@@ -36,52 +27,37 @@ is_stray_from-requires t c =
     let l = c.args.image.now.layout in
     let image = c.args.image.now.words in
     let x = c.args.reference in
-    let is = to_cell x c.if-reference-eq0.false c.if-reference-eq-LEAF.false in
-    let right : ¬ IsWrong l image (Cell x) = λ wrong. c.requires.right c.if-reference-eq0.false (wrong_here l image (Cell x) (reference_of x) is wrong) in
-    let small = depth_small l image x right in
-    let depth : c.cell_word-next.result ≡ (image_tree l image).depth x = c.cell_word-next.ensures in
-    let read : IsRead l image x c.read_cell-cell.result = record { kind = c.read_cell-cell.ensures.kind; words = c.read_cell-cell.ensures.words } in
-    let child = c.child_of-child.result in
-    let same = child_is l image x c.read_cell-cell.result read c.loop-byte.byte child c.child_of-child.ensures in
-    let deeper = head_deeper l image x right c.loop-byte.byte child same in
-    let least : c.args.least ≤ (image_tree l image).depth x = subst (λ r. c.args.least ≤ depth_of (image_tree l image) r) is c.requires.least in
+    let same = child_read l image x c.read_cell-cell.result c.read_cell-cell.ensures.kind c.read_cell-cell.ensures.words c.loop-byte.byte c.child_of-child.result c.child_of-child.ensures in
+    let on = goes_on c.args.image.now.layout c.args.image.now.words c.args.reference c.if-reference-eq0.false c.if-reference-eq-LEAF.false c.requires.right c.args.least c.cell_word-next.result c.cell_word-next.ensures c.requires.least c.loop-byte.byte c.child_of-child.result same in
+    let later = on.later in
     let measure = c.decreases in
     let less : 24 - (c.cell_word-next.result + 1) < t = omega arith in
-    let deep : c.cell_word-next.result + 1 ≤ depth_of (image_tree l image) (reference_of child) = omega arith in
-    let fine : child ≢ 0 → ¬ IsWrongFrom l image (reference_of child) = λ some_child wrong. c.requires.right c.if-reference-eq0.false (wrong_below l image x c.loop-byte.byte (reference_of x) (reference_of child) is same (reference_some child some_child) wrong) in
-    (less, (c.requires.listed, (deep, fine)))
+    (less, (c.requires.listed, (on.deep, on.fine)))
 
 pub returns-then-is_stray_from : goal.returns-then-is_stray_from
 returns-then-is_stray_from t c =
     let l = c.args.image.now.layout in
     let image = c.args.image.now.words in
     let x = c.args.reference in
+    let same = child_read l image x c.read_cell-cell.result c.read_cell-cell.ensures.kind c.read_cell-cell.ensures.words c.loop-byte.byte c.child_of-child.result c.child_of-child.ensures in
     let is = to_cell x c.if-reference-eq0.false c.if-reference-eq-LEAF.false in
-    let read : IsRead l image x c.read_cell-cell.result = record { kind = c.read_cell-cell.ensures.kind; words = c.read_cell-cell.ensures.words } in
-    let child = c.child_of-child.result in
-    let same = child_is l image x c.read_cell-cell.result read c.loop-byte.byte child c.child_of-child.ensures in
-    (λ _. stray_below l image x c.loop-byte.byte (reference_of x) (reference_of child) is same (c.is_stray_from.ensures.0 c.if-is_stray_from.true), λ _. refl)
+    (λ _. stray_below l image x c.loop-byte.byte (reference_of x) (reference_of c.child_of-child.result) is same (c.is_stray_from.ensures.0 c.if-is_stray_from.true), λ _. refl)
 
 pub loop-byte-preserved : goal.loop-byte-preserved
 loop-byte-preserved t c b lt stray =
     let l = c.args.image.now.layout in
     let image = c.args.image.now.words in
     let x = c.args.reference in
-    let read : IsRead l image x c.read_cell-cell.result = record { kind = c.read_cell-cell.ensures.kind; words = c.read_cell-cell.ensures.words } in
-    let child = c.child_of-child.result in
-    let same = child_is l image x c.read_cell-cell.result read c.loop-byte.byte child c.child_of-child.ensures in
+    let same = child_read l image x c.read_cell-cell.result c.read_cell-cell.ensures.kind c.read_cell-cell.ensures.words c.loop-byte.byte c.child_of-child.result c.child_of-child.ensures in
     elim (cases_eq b c.loop-byte.byte) [
       | inr apart ↦ c.loop-byte.invariant b (omega (arith, apart)) stray
       | inl here ↦ false≢true (sym c.if-is_stray_from.false ∙ c.is_stray_from.ensures.1 (subst (IsStrayFrom l image) (ap ((image_tree l image).child x) here ∙ same) stray))
     ]
 
 pub returns : goal.returns
-returns t c =
-    let l = c.args.image.now.layout in
-    let image = c.args.image.now.words in
-    let x = c.args.reference in
-    let is = to_cell x c.if-reference-eq0.false c.if-reference-eq-LEAF.false in
-    let right : ¬ IsWrong l image (Cell x) = λ wrong. c.requires.right c.if-reference-eq0.false (wrong_here l image (Cell x) (reference_of x) is wrong) in (
-      λ yes. absurd (false≢true yes),
-      λ stray. absurd (none_stray_below l image x right (reference_of x) is (λ b lt. c.loop-byte.invariant b (omega arith)) stray),
-    )
+returns t c = (
+  λ yes. absurd (false≢true yes),
+  λ stray. absurd (none_stray_below c.args.image.now.layout c.args.image.now.words c.args.reference
+      (cell_right c.args.image.now.layout c.args.image.now.words c.args.reference c.if-reference-eq0.false c.if-reference-eq-LEAF.false c.requires.right) (reference_of c.args.reference)
+      (to_cell c.args.reference c.if-reference-eq0.false c.if-reference-eq-LEAF.false) (λ b lt. c.loop-byte.invariant b (omega arith)) stray),
+)

@@ -4,8 +4,8 @@ use Rattle.tree_law.specs.Trees.{Nothing, Leaf, Cell, depth_of}
 use Rattle.tree_law.specs.Words.{number_of, reference_of}
 use Rattle.tree_floor.proofs.FloorExact.{reference_some}
 use Rattle.image_layer_rules.specs.Faults.{image_tree, IsWrong, leads_nowhere, has_no_cell}
-use Rattle.image_layer_rules.specs.Checks.{IsRead, IsWrongFrom}
-use Rattle.image_layer_rules.proofs.WrongLemmas.{child_is}
+use Rattle.image_layer_rules.specs.Checks.{IsWrongFrom}
+use Rattle.image_layer_rules.proofs.CellLemmas.{child_read}
 use Rattle.image_layer_rules.proofs.WalkLemmas.{to_nothing, to_leaf, to_cell, wrong_here, leaf_only, wrong_below, depth_small, child_deeper, none_wrong}
 use Rattle.image_layer_rules.proofs.walk.+is_wrong_from.Goals as goal
 use Rattle.image_layer_rules.proofs.walk.+is_wrong_from.Goals.{else-child-ne0-via-then-child-ne0+else-is_wrong_from, else-child-ne0-via-else-child-ne0}
@@ -57,8 +57,7 @@ is_wrong_from-requires t c =
     let right : ¬ IsWrong l image (Cell x) = λ wrong. false≢true (sym c.if-is_wrong_cell.false ∙ c.is_wrong_cell.ensures.1 wrong) in
     let small = depth_small l image x right in
     let depth : c.cell_word-next.result ≡ (image_tree l image).depth x = c.cell_word-next.ensures in
-    let read : IsRead l image x c.read_cell-cell.result = record { kind = c.read_cell-cell.ensures.kind; words = c.read_cell-cell.ensures.words } in
-    let same = child_is l image x c.read_cell-cell.result read c.loop-byte.byte c.child_of-child.result c.child_of-child.ensures in
+    let same = child_read l image x c.read_cell-cell.result c.read_cell-cell.ensures.kind c.read_cell-cell.ensures.words c.loop-byte.byte c.child_of-child.result c.child_of-child.ensures in
     let deeper = child_deeper l image x right c.loop-byte.byte (reference_of c.child_of-child.result) same (reference_some c.child_of-child.result c.if-child-ne0.true) in
     let least : c.args.least ≤ (image_tree l image).depth x = subst (λ r. c.args.least ≤ depth_of (image_tree l image) r) (to_cell x c.if-reference-eq0.false c.if-reference-eq-LEAF.false) c.requires in
     let measure = c.decreases in
@@ -71,8 +70,7 @@ returns-then-is_wrong_from t c =
     let image = c.args.image.now.words in
     let x = c.args.reference in
     let is = to_cell x c.if-reference-eq0.false c.if-reference-eq-LEAF.false in
-    let read : IsRead l image x c.read_cell-cell.result = record { kind = c.read_cell-cell.ensures.kind; words = c.read_cell-cell.ensures.words } in
-    let same = child_is l image x c.read_cell-cell.result read c.loop-byte.byte c.child_of-child.result c.child_of-child.ensures in (
+    let same = child_read l image x c.read_cell-cell.result c.read_cell-cell.ensures.kind c.read_cell-cell.ensures.words c.loop-byte.byte c.child_of-child.result c.child_of-child.ensures in (
       λ _. wrong_below l image x c.loop-byte.byte (reference_of x) (reference_of c.child_of-child.result) is same (reference_some c.child_of-child.result c.if-child-ne0.true) (c.is_wrong_from.ensures.0 c.if-is_wrong_from.true),
       λ _. refl,
     )
@@ -82,8 +80,7 @@ loop-byte-preserved t c b lt some_child wrong =
     let l = c.args.image.now.layout in
     let image = c.args.image.now.words in
     let x = c.args.reference in
-    let read : IsRead l image x c.read_cell-cell.result = record { kind = c.read_cell-cell.ensures.kind; words = c.read_cell-cell.ensures.words } in
-    let same = child_is l image x c.read_cell-cell.result read c.loop-byte.byte c.child_of-child.result c.child_of-child.ensures in
+    let same = child_read l image x c.read_cell-cell.result c.read_cell-cell.ensures.kind c.read_cell-cell.ensures.words c.loop-byte.byte c.child_of-child.result c.child_of-child.ensures in
     elim (cases_eq b c.loop-byte.byte) [
       | inr apart ↦ c.loop-byte.invariant b (omega (arith, apart)) some_child wrong
       | inl is ↦

@@ -1,14 +1,13 @@
-use Rattle.std.proofs.Common.{rules, ◌<◌, sym, subst}
+use Rattle.std.proofs.Common.{rules}
 use Rattle.std.proofs.lemmas.Iterator.{first_from_Range}
 use borrow.Author.Tests.{tests}
 use Rattle.image_rules.specs.Nodes.{image_spot}
 use Rattle.image_rules.specs.Rules.{IsNameless}
-use Rattle.image_rules.proofs.LowestLemmas.{lowest_from_range}
+use Rattle.image_rules.proofs.LowestLemmas.{lowest_slot}
 use Rattle.image_rules.proofs.node.nameless_slot.Goals as goal
 
 pub returns-clause-lowest : goal.returns-clause-lowest
 returns-clause-lowest c =
-    let slots = c.args.image.now.layout.slots in
     let s = image_spot c.args.image.now.layout c.args.image.now.words c.args.node in
-    lowest_from_range (IsNameless slots s) c.slot_count.result c.find.result (λ k is. subst (λ n. k < n) (sym c.slot_count.ensures.count) is.within)
-    (first_from_Range _ _ _ c.find.result (IsNameless slots s) (λ k. ¬ IsNameless slots s k) c.find.ensures.ran (λ x q k. search (rules, tests)) (λ x q k. search (rules, tests)))
+    lowest_slot (IsNameless c.args.image.now.layout.slots s) _ c.slot_count.result c.find.result c.slot_count.ensures.count (λ k is. is.within)
+    (first_from_Range _ _ _ c.find.result (IsNameless c.args.image.now.layout.slots s) (λ k. ¬ IsNameless c.args.image.now.layout.slots s k) c.find.ensures.ran (λ x q k. search (rules, tests)) (λ x q k. search (rules, tests)))

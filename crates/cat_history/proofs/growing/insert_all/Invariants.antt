@@ -1,7 +1,7 @@
 use Rattle.std.proofs.Common.{◌≡◌, drop, take, length}
 use Rattle.std.specs.FinMap.{entries}
 use Rattle.cat_history.specs.Maps.{map_of}
-use Rattle.transcript.proofs.names.insert_all.Given as goal
+use Rattle.cat_history.proofs.growing.insert_all.Given as goal
 
 -- the pairs behind those that are left are in the tree
 abbrev pub invariant-loop-pair : goal.invariant-loop-pair

@@ -1,6 +1,6 @@
 use Rattle.std.proofs.Common.{◌≡◌, map}
-use Rattle.transcript.specs.Chains.{pair_of}
-use Rattle.transcript.proofs.ends.pairs_in.Given as goal
+use Rattle.cat_history.proofs.ReplayLemmas.{pair_of}
+use Rattle.cat_history.proofs.growing.pairs_in.Given as goal
 
 -- the entries so far are pairs
 abbrev pub invariant-loop-name : goal.invariant-loop-name

@@ -5,7 +5,7 @@ use Rattle.std.specs.FinMap.{entries}
 use Rattle.cat_history.specs.Maps.{Map}
 use Rattle.cat_history.specs.Writes.{after_all, changed}
 use Rattle.cat_history.specs.declared.op.Write.{Write}
-use Rattle.cat_history.proofs.replaying.change_all.Goals as goal
+use Rattle.cat_history.proofs.growing.change_all.Goals as goal
 
 pub loop-write-init : goal.loop-write-init
 loop-write-init c = λ m same. same
@@ -13,7 +13,7 @@ loop-write-init c = λ m same. same
 pub loop-write-preserved : goal.loop-write-preserved
 loop-write-preserved c = λ m same.
     let i = c.loop-write.write-index in
-    let writes = c.args.history.now in
+    let writes = c.args.writes.now in
     let before : Map = after_all m (take i writes) in
     c.in_ok-change.ensures.ok before (c.loop-write.invariant m same)
     ∙ ap entries (sym (fold_more (λ (n : Map) (w : Write). changed n w.change) m writes i c.write-item.result c.loop-write-test.true
@@ -22,5 +22,5 @@ loop-write-preserved c = λ m same.
 pub returns : goal.returns
 returns c = record {
   ok = λ m same. c.loop-write.invariant m same
-      ∙ ap (λ (writes : _). entries (after_all m writes)) (take_all c.loop-write.write-index c.args.history.now c.loop-write-test.false);
+      ∙ ap (λ (writes : _). entries (after_all m writes)) (take_all c.loop-write.write-index c.args.writes.now c.loop-write-test.false);
 }

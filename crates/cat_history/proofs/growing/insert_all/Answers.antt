@@ -5,7 +5,7 @@ use Rattle.cat_key.specs.Names.{name_cmp}
 use Rattle.cat_key.specs.declared.Pair.{Pair}
 use Rattle.cat_history.specs.Maps.{map_of}
 use Rattle.cat_history.proofs.ReplayLemmas.{all_left, one_back, entries-none, entries-put}
-use Rattle.cat_history.proofs.replaying.insert_all.Goals as goal
+use Rattle.cat_history.proofs.growing.insert_all.Goals as goal
 
 pub loop-pair-init : goal.loop-pair-init
 loop-pair-init c =

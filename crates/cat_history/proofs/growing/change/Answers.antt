@@ -6,7 +6,7 @@ use Rattle.cat_key.specs.Names.{name_cmp}
 use Rattle.cat_history.specs.Writes.{changed}
 use Rattle.cat_history.specs.declared.op.Change.{Change}
 use Rattle.cat_history.proofs.ReplayLemmas.{entries-put, entries-removed}
-use Rattle.cat_history.proofs.replaying.change.Goals as goal
+use Rattle.cat_history.proofs.growing.change.Goals as goal
 
 pub returns-in_ok-insert-in-Put : goal.returns-in_ok-insert-in-Put
 returns-in_ok-insert-in-Put c = record {
