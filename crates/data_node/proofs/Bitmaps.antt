@@ -73,6 +73,16 @@ marks_past bitmap prints print found next marks none slot = (
   ],
 )
 
+-- none of the slots up to a later one has the fingerprint
+pub marks_skip : (bitmap : ℕ) (prints : List ℕ) (print found start end : ℕ) → start ≤ end → Marks bitmap prints print start found → ((slot : ℕ) → start ≤ slot → slot < end → print_of prints slot ≡ print → ⊥) → Marks bitmap prints print end found
+marks_skip bitmap prints print found start end order marks none slot = (
+  λ set. let was : IsCandidate bitmap prints print start slot = (marks slot).0 set in let h : slot < start = was.within in record { within = omega arith; live = was.live; same = was.same },
+  λ candidate. elim (cases_lt slot start) [
+    | inl before ↦ (marks slot).1 (record { within = before; live = candidate.live; same = candidate.same })
+    | inr behind ↦ absurd (none slot behind candidate.within candidate.same)
+  ],
+)
+
 -- to set a bit
 pub live-set : (bitmap slot : ℕ) → slot < 64 → (other : ℕ) → IsLive (bit_or bitmap (1 * 2 ^ slot % 2 ^ 64)) other ↔ ((other ≡ slot) ⊎ IsLive bitmap other)
 live-set bitmap slot within other =

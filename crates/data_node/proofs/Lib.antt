@@ -1,5 +1,6 @@
 pub mod Bitmaps
 pub mod BitLemmas
+pub mod ByteLemmas
 pub mod SpotLemmas
 pub mod StoreLemmas
 pub mod CountLemmas

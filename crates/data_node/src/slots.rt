@@ -1,7 +1,7 @@
 //! Bitmaps of live slots, and the words with the slots' fingerprints.
 
-ghost use Rattle.std.specs.Prelude.{◌≡◌, ◌≢◌, ◌⊎◌, ℕ, ◌%◌, ◌<◌, ◌≤◌, ◌↔◌, IsTrue, IsNone, Some, IfSome, slice_index};
-ghost use Rattle.std.specs.Prelude.{slice_set};
+ghost use Rattle.std.specs.Prelude.{◌≡◌, ◌≢◌, ◌⊎◌, ℕ, ◌%◌, ◌<◌, ◌≤◌, ◌↔◌, IsTrue, IsFalse, IsNone, Some, IfSome};
+ghost use Rattle.std.specs.Prelude.{slice_index, slice_set};
 ghost use Rattle.std.specs.Int.{bit_at};
 ghost use Rattle.data_node.specs.Bits.{lowest_clear, printed, candidate_bits, live_count};
 ghost use Rattle.data_node.specs.Slots.{AreAllLive, IsLive, IsLowestClear, IsCandidate, prints_of, print_of};
@@ -16,6 +16,12 @@ pub(crate) const PRINTS_PER_WORD: u64 = 8;
 
 /// How many words hold the fingerprints of all slots.
 pub const PRINT_WORDS: usize = 8;
+
+/// The lowest bit of each byte of a word.
+const LOWEST_BITS: u64 = 0x0101_0101_0101_0101;
+
+/// The highest bit of each byte of a word.
+const HIGHEST_BITS: u64 = 0x8080_8080_8080_8080;
 
 /// Whether the slot is live.
 pub fn is_live(bitmap: u64, slot: u64) -> bool
@@ -99,6 +105,39 @@ fn has_print(bitmap: u64, prints: &[u64; PRINT_WORDS], print: u8, slot: u64) -> 
     is_live(bitmap, slot) && print_in(prints, slot) == print
 }
 
+/// Whether one of the word's slots has this fingerprint.
+fn has_print_among(word: u64, print: u8) -> bool
+    ensures { IsFalse result → (slot : ℕ) → slice_index (prints_of word) (slot % 8) ≢ print }
+{
+    // A byte of this is zero where the fingerprint is `print`. The lowest such byte borrows when one is subtracted from
+    // each, and so its highest bit turns from clear to set.
+    let differing = word ^ (LOWEST_BITS * u64::from(print));
+    differing.wrapping_sub(LOWEST_BITS) & !differing & HIGHEST_BITS != 0
+}
+
+/// The candidates among the first `end` slots, where `found` are those among the first `start`.
+fn candidates_from(
+    bitmap: u64,
+    prints: &[u64; PRINT_WORDS],
+    print: u8,
+    found: u64,
+    start: u64,
+    end: u64,
+) -> u64
+    requires order { start ≤ end }
+    requires within { end ≤ MAX_SLOTS }
+    requires so_far { (slot : ℕ) → (bit_at found slot ≡ 1) ↔ IsCandidate bitmap prints.now print start slot }
+    ensures { (slot : ℕ) → (bit_at result slot ≡ 1) ↔ IsCandidate bitmap prints.now print end slot }
+{
+    let mut found = found;
+    for slot in start..end {
+        if has_print(bitmap, prints, print, slot) {
+            found |= 1 << slot;
+        }
+    }
+    found
+}
+
 /// The live slots, of the first `slots`, whose fingerprint is `print`, as bits. Only these can have
 /// a name with that fingerprint.
 pub fn candidates(bitmap: u64, prints: &[u64; PRINT_WORDS], print: u8, slots: u64) -> u64
@@ -107,9 +146,12 @@ pub fn candidates(bitmap: u64, prints: &[u64; PRINT_WORDS], print: u8, slots: u6
     ensures value { result ≡ candidate_bits bitmap prints.now print slots }
 {
     let mut found = 0;
-    for slot in 0..slots {
-        if has_print(bitmap, prints, print, slot) {
-            found |= 1 << slot;
+    for place in 0..slots.div_ceil(PRINTS_PER_WORD) {
+        // Most words have no such fingerprint, so that their slots needn't be looked at.
+        if has_print_among(prints[place as usize], print) {
+            let start = place * PRINTS_PER_WORD;
+            let end = slots.min(start + PRINTS_PER_WORD);
+            found = candidates_from(bitmap, prints, print, found, start, end);
         }
     }
     found

@@ -1,6 +1,7 @@
+use Rattle.std.proofs.Common.{◌*◌, min}
 use Rattle.data_node.proofs.Bitmaps.{Marks}
 use Rattle.data_node.proofs.slots.candidates.Given as goal
 
--- the bits set so far are the candidates among the slots that the loop has passed
-abbrev pub invariant-loop-slot : goal.invariant-loop-slot
-invariant-loop-slot l = Marks l.bitmap l.prints l.print l.slot l.found
+-- the bits set so far are the candidates among the slots of the words that the loop has passed
+abbrev pub invariant-loop-place : goal.invariant-loop-place
+invariant-loop-place l = Marks l.bitmap l.prints l.print (min l.slots (l.place * 8)) l.found
