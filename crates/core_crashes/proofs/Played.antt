@@ -7,6 +7,7 @@ use Rattle.pm_words.specs.declared.layout.Layout.{Layout}
 use Rattle.pm_words.specs.Images.{Row}
 use Rattle.pm_words.specs.Locations.{Clock, Volatile}
 use Rattle.pm_words.proofs.Apart.{at-set_other}
+use Rattle.pm_words.specs.Offsets.{stamp_offset}
 use Rattle.cat_history.specs.Maps.{Map, map_of}
 use Rattle.cat_history.specs.Writes.{after_all}
 use Rattle.cat_history.specs.CrashEnds.{IsCrashEnd}
@@ -91,8 +92,8 @@ module _ (core round mid : Index) (begins : BeginsRound core round) (kept : mid 
 
   -- stamps stand in words of their own
   same_stamps : stamp_in (world (round_index core 0)) ≡ stamp_in (world core)
-  same_stamps = column-same core.layout core.words (round_index core 0).words core.layout.nodes (λ n. Volatile n 2)
-      (λ n here. at-set_other core.layout core.words Clock (Volatile n 2) 0 tt (here, omega arith) (λ e. cc))
+  same_stamps = column-same core.layout core.words (round_index core 0).words core.layout.nodes (λ n. Volatile n stamp_offset)
+      (λ n here. at-set_other core.layout core.words Clock (Volatile n stamp_offset) 0 tt (here, omega arith) (λ e. cc))
 
   pub begun_stamps : HasLowStamps core → HasLowStamps mid
   begun_stamps low = subst HasLowStamps (sym round_path)

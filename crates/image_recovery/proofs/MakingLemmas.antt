@@ -7,6 +7,7 @@ use Rattle.pm_words.specs.Rows.{IsRow, CanAct, acted, got, evicted}
 use Rattle.pm_words.proofs.Kept.{evicted_row}
 use Rattle.version_lock.specs.Versions.{IsGeneration}
 use Rattle.data_node.specs.Lists.{ListNode}
+use Rattle.data_node.specs.Spots.{bitmap_offset}
 use Rattle.tree_update.specs.Changes.{change_starts}
 use Rattle.tree_update.specs.Stages.{Aim, aim_of}
 use Rattle.search_layer.specs.Kept.{layer_of}
@@ -86,8 +87,8 @@ module _ (l : Layout) (list : List ListNode) (o : Columns) (rest : List law.Move
           row = row;
           clear = clear;
           fits = fits;
-          sure = sure_stores (stores l (word_number l (Node n 1)) bits) (Trims (n ∷ left)) (Trimmed n left) (Trims left) refl
-              (record { place = Node n 1; value = bits; move = of_bits n bits left within is trims; word = refl; stored = refl; plan = plan }) sure;
+          sure = sure_stores (stores l (word_number l (Node n bitmap_offset)) bits) (Trims (n ∷ left)) (Trimmed n left) (Trims left) refl
+              (record { place = Node n bitmap_offset; value = bits; move = of_bits n bits left within is trims; word = refl; stored = refl; plan = plan }) sure;
         },
       )
 

@@ -6,6 +6,7 @@ use Rattle.pm_words.specs.declared.layout.Layout.{Layout}
 use Rattle.pm_words.specs.Locations.{Word, Location, Header, Root, Node, Cached, Durable, HasWord, part_of_word, node_words, word_at, at}
 use Rattle.pm_words.specs.Rows.{durable_row, row_of}
 use Rattle.pm_words.proofs.Made.{row_of-at, durable_row-at}
+use Rattle.pm_words.specs.Offsets.{version_offset}
 use Rattle.search_layer.specs.Rows.{LayerWords, layer_words, image_layer_words}
 use Rattle.search_layer.proofs.RowLemmas.{images_alike}
 use Rattle.updater_row_law.specs.Columns.{line_count, line_word}
@@ -61,7 +62,7 @@ spare_rest l k is =
       | inr high ↦ subst (IsRest l) (sym (spare_high k high)) (let small : k - 1 < 8 = omega arith in (small, omega arith, λ e. let none : k - 1 ≡ 0 = ap root_at e in omega arith))
     ]
 
-pub version_rest : (l : Layout) (n : ℕ) → nat_lt n l.nodes ≡ true → IsRest l (Node n 0)
+pub version_rest : (l : Layout) (n : ℕ) → nat_lt n l.nodes ≡ true → IsRest l (Node n version_offset)
 version_rest l n is = ((ltb-true n l.nodes is, omega arith), omega arith, λ e. cc)
 
 abbrev pub has_spot_word : Layout → ℕ → ℕ → Bool
@@ -101,8 +102,8 @@ module _ (l : Layout) (word word' : Word → ℕ) (Kept : Word → Type 0) (same
   pub spare_same : (k : ℕ) → Kept (spare_word k) → word_if (nat_lt k spare_count) (word' (spare_word k)) ≡ word_if (nat_lt k spare_count) (word (spare_word k))
   spare_same k kept = word_if-alike (nat_lt k spare_count) (word' (spare_word k)) (word (spare_word k)) (λ is. same (spare_word k) (spare_rest l k is) kept)
 
-  pub version_same : (n : ℕ) → Kept (Node n 0) → word_if (nat_lt n l.nodes) (word' (Node n 0)) ≡ word_if (nat_lt n l.nodes) (word (Node n 0))
-  version_same n kept = word_if-alike (nat_lt n l.nodes) (word' (Node n 0)) (word (Node n 0)) (λ is. same (Node n 0) (version_rest l n is) kept)
+  pub version_same : (n : ℕ) → Kept (Node n version_offset) → word_if (nat_lt n l.nodes) (word' (Node n version_offset)) ≡ word_if (nat_lt n l.nodes) (word (Node n version_offset))
+  version_same n kept = word_if-alike (nat_lt n l.nodes) (word' (Node n version_offset)) (word (Node n version_offset)) (λ is. same (Node n version_offset) (version_rest l n is) kept)
 
   pub spot_same : (n o : ℕ) → Kept (Node n o) → word_if (has_spot_word l n o) (word' (Node n o)) ≡ word_if (has_spot_word l n o) (word (Node n o))
   spot_same n o kept = word_if-alike (has_spot_word l n o) (word' (Node n o)) (word (Node n o)) (λ is. same (Node n o) (spot_rest l n o is) kept)

@@ -6,6 +6,7 @@ use Rattle.pm_words.specs.declared.action.Action.TheVariants.{Store}
 use Rattle.pm_words.specs.Locations.{Word, Header, Node, Cached, Durable, HasWord, row_words, image_words, address_of, at}
 use Rattle.pm_words.specs.Rows.{acted, evicted}
 use Rattle.data_node.specs.Lists.{ListNode}
+use Rattle.data_node.specs.Spots.{bitmap_offset}
 use Rattle.layer_map.specs.Layers.{Layer}
 use Rattle.layer_map.specs.Places.{is_layer_word}
 use Rattle.search_layer.specs.Rows.{LayerWords, Marks, layer_words, layer_marks}
@@ -56,9 +57,9 @@ move_stores l list o words s t u w value whole sound known (of_bits n bits left 
     let now : Columns = columns_in l words Cached in
     let safe : Columns = columns_in l words Durable in
     let serve = planned_bits_serve l list o now n bits sound known.sure.0.cached is fits in
-    stored l list o words (Store (address_of l (Cached (Node n 1))) bits) (with_bits now n bits) (Trimmed n left) (bits_store l words n bits whole within)
+    stored l list o words (Store (address_of l (Cached (Node n bitmap_offset))) bits) (with_bits now n bits) (Trimmed n left) (bits_store l words n bits whole within)
     (steps_keep l list o now safe (with_bits now n bits) safe (Trims (n ∷ left)) (Trimmed n left) sound known.sure (trims n left bits serve.trim serve.stays))
-    (tells_stored l words (Node n 1) bits (within, omega arith) refl known.marks)
+    (tells_stored l words (Node n bitmap_offset) bits (within, omega arith) refl known.marks)
 move_stores l list o words s t u w value whole sound known (of_empty j within) =
     let now : Columns = columns_in l words Cached in
     let safe : Columns = columns_in l words Durable in
@@ -75,7 +76,7 @@ move_ends l list o words s t u w value sound known (of_bits n bits left within i
     let inside = spot_here l n 1 within (omega arith) (omega arith) in
     record {
       sure = steps_keep l list o (columns_in l words Cached) (columns_in l words Durable) (columns_in l words Cached) (columns_in l words Durable) t u sound known.sure
-          (trimmed n left (word_if-here (has_spot_word l n 1) (at l words (Durable (Node n 1))) inside ∙ even ∙ sym (word_if-here (has_spot_word l n 1) (at l words (Cached (Node n 1))) inside)));
+          (trimmed n left (word_if-here (has_spot_word l n 1) (at l words (Durable (Node n bitmap_offset))) inside ∙ even ∙ sym (word_if-here (has_spot_word l n 1) (at l words (Cached (Node n bitmap_offset))) inside)));
       marks = known.marks;
     }
 move_ends l list o words s t u w value sound known (of_empty j within) even =

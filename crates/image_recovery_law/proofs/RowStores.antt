@@ -6,6 +6,8 @@ use Rattle.pm_words.specs.declared.layout.Layout.{Layout}
 use Rattle.pm_words.specs.Locations.{Word, Location, Header, Node, Line, Cached, Durable, HasWord, HasLocation, IsVolatile, part_of_address, part_of_word, row_words, image_words, cached_address, durable_address, address_of, at}
 use Rattle.pm_words.specs.Rows.{evicted}
 use Rattle.pm_words.proofs.Apart.{at-set_other, at-set_same}
+use Rattle.pm_words.specs.Offsets.{version_offset}
+use Rattle.data_node.specs.Spots.{bitmap_offset}
 use Rattle.layer_map.specs.Places.{is_layer_word}
 use Rattle.search_layer.specs.Rows.{layer_words}
 use Rattle.search_layer.proofs.RowLemmas.{row_eviction_mixes, layer_words_stay, rows_alike}
@@ -85,7 +87,7 @@ module _ (l : Layout) (words : List ℕ) (whole : length words ≡ row_words l) 
   spares_kept : ((k : ℕ) → spare_word k ≢ v) → (k : ℕ) → word_if (nat_lt k spare_count) (after (spare_word k)) ≡ word_if (nat_lt k spare_count) (before (spare_word k))
   spares_kept ne k = spare_same l before after Kept cached_same k (ne k)
 
-  versions_kept : ((n : ℕ) → Node n 0 ≢ v) → (n : ℕ) → word_if (nat_lt n l.nodes) (after (Node n 0)) ≡ word_if (nat_lt n l.nodes) (before (Node n 0))
+  versions_kept : ((n : ℕ) → Node n version_offset ≢ v) → (n : ℕ) → word_if (nat_lt n l.nodes) (after (Node n version_offset)) ≡ word_if (nat_lt n l.nodes) (before (Node n version_offset))
   versions_kept ne n = version_same l before after Kept cached_same n (ne n)
 
   spot_kept : (n o : ℕ) → Node n o ≢ v → word_if (has_spot_word l n o) (after (Node n o)) ≡ word_if (has_spot_word l n o) (before (Node n o))
@@ -111,12 +113,12 @@ generation_stores l words value whole =
 
 pub bits_store : BitsStore
 bits_store l words n value whole within =
-    let v : Word = Node n 1 in
-    let has : HasWord l (Node n 1) = (within, omega arith) in
+    let v : Word = Node n bitmap_offset in
+    let has : HasWord l (Node n bitmap_offset) = (within, omega arith) in
     let i : Columns = columns_in l words Cached in
-    let after : Word → ℕ = λ w. at l (slice_set words (address_of l (Cached (Node n 1))) value) (Cached w) in
+    let after : Word → ℕ = λ w. at l (slice_set words (address_of l (Cached (Node n bitmap_offset))) value) (Cached w) in
     record {
-      cached = columns_path (with_bits i n value) (columns_in l (slice_set words (address_of l (Cached (Node n 1))) value) Cached)
+      cached = columns_path (with_bits i n value) (columns_in l (slice_set words (address_of l (Cached (Node n bitmap_offset))) value) Cached)
           (generation_kept l words whole v has value refl (λ e. cc))
           (spares_kept l words whole v has value refl (λ k. spare_apart k v (omega arith)))
           (versions_kept l words whole v has value refl (λ m e. let same : 0 ≡ 1 = ap offset_at e in omega arith))
@@ -126,7 +128,7 @@ bits_store l words n value whole within =
               | inr ne ↦ spot_kept l words whole v has value refl m o (λ f. ne (ap offset_at f)) ∙ sym (bits_other i n value m o (λ f. ne))
               | inl f ↦ subst (λ x. word_if (has_spot_word l x o) (after (Node x o)) ≡ (with_bits i n value).spot x o) (sym e)
                   (subst (λ x. word_if (has_spot_word l n x) (after (Node n x)) ≡ (with_bits i n value).spot n x) (sym f)
-                  (word_if-here (has_spot_word l n 1) (after (Node n 1)) (spot_here l n 1 within (omega arith) (omega arith))
+                  (word_if-here (has_spot_word l n 1) (after (Node n bitmap_offset)) (spot_here l n 1 within (omega arith) (omega arith))
                   ∙ cached_here l words whole v has value refl ∙ sym (bits_word i n value)))
             ]
           ])
@@ -178,7 +180,7 @@ module _ (l : Layout) (words : List ℕ) (word : ℕ) (whole : length words ≡ 
         durable = record {
           generation = durable_either (Header 5) (generation_rest l);
           spare = λ k. word_if-either (nat_lt k spare_count) (mix (spare_word k)) (now (spare_word k)) (safe (spare_word k)) (λ is. durable_either (spare_word k) (spare_rest l k is));
-          version = λ n. word_if-either (nat_lt n l.nodes) (mix (Node n 0)) (now (Node n 0)) (safe (Node n 0)) (λ is. durable_either (Node n 0) (version_rest l n is));
+          version = λ n. word_if-either (nat_lt n l.nodes) (mix (Node n version_offset)) (now (Node n version_offset)) (safe (Node n version_offset)) (λ is. durable_either (Node n version_offset) (version_rest l n is));
           spot = λ n o. word_if-either (has_spot_word l n o) (mix (Node n o)) (now (Node n o)) (safe (Node n o)) (λ is. durable_either (Node n o) (spot_rest l n o is));
           line = λ j o. word_if-either (has_line_word l j o) (mix (line_word o j)) (now (line_word o j)) (safe (line_word o j)) (λ is. durable_either (line_word o j) (line_rest l j o is));
           layer = layer.durable;

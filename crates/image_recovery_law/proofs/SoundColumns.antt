@@ -9,6 +9,7 @@ use Rattle.version_lock.specs.Versions.{generation_of}
 use Rattle.data_node.specs.Spots.{Spot, IsTidy, Means}
 use Rattle.data_node.specs.Lines.{IsFitLine}
 use Rattle.data_node.specs.Lists.{MakeList}
+use Rattle.pm_words.specs.Offsets.{version_offset}
 use Rattle.image_rules.specs.Nodes.{image_spot, image_list, image_range}
 use Rattle.image_rules.specs.Rules.{IsSpare, line_spot}
 use Rattle.image_rules.specs.Laws.{KeepsRules}
@@ -53,8 +54,8 @@ module _ (l : Layout) (words : List ℕ) where
   spare_here : (k : ℕ) → k < spare_count → i.spare k ≡ word_at l words (spare_word k)
   spare_here k lt = word_if-here (nat_lt k spare_count) (word_at l words (spare_word k)) (lt-ltb k spare_count lt)
 
-  version_here : (n : ℕ) → n < l.nodes → i.version n ≡ word_at l words (Node n 0)
-  version_here n lt = word_if-here (nat_lt n l.nodes) (word_at l words (Node n 0)) (lt-ltb n l.nodes lt)
+  version_here : (n : ℕ) → n < l.nodes → i.version n ≡ word_at l words (Node n version_offset)
+  version_here n lt = word_if-here (nat_lt n l.nodes) (word_at l words (Node n version_offset)) (lt-ltb n l.nodes lt)
 
   line_word_here : (j o : ℕ) → j < line_count l → o < 8 → i.line j o ≡ line_spot l words j o
   line_word_here j o lt small = word_if-here (has_line_word l j o) (word_at l words (line_word o j)) (line_here l j o lt small)

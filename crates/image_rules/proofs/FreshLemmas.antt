@@ -14,6 +14,7 @@ use Rattle.version_lock.specs.Versions.{generation_of}
 use Rattle.data_node.specs.Lists.{ListNode, next_offset, IsIn, MakeList}
 use Rattle.data_node.proofs.ListLemmas.{chain_is}
 use Rattle.data_node.proofs.KeyLemmas.{anchor_zero}
+use Rattle.pm_words.specs.Offsets.{version_offset}
 use Rattle.image_rules.specs.Nodes.{image_spot, image_list, IsListedNode, image_range}
 use Rattle.image_rules.specs.Rules.{IsSpare, header_generation}
 use Rattle.version_lock.specs.Versions.{IsGeneration}
@@ -74,7 +75,7 @@ fresh_keeps l is =
     record {
       generation = subst IsGeneration (sym first) (record { least = omega arith; fits = omega arith });
       spare = fresh_spare l;
-      versions = λ n here. subst (λ (v : ℕ). generation_of v ≤ header_generation l (fresh_words l)) (sym (fresh_at l (Node n 0) (here, omega arith))) (omega arith);
+      versions = λ n here. subst (λ (v : ℕ). generation_of v ≤ header_generation l (fresh_words l)) (sym (fresh_at l (Node n version_offset) (here, omega arith))) (omega arith);
       list = subst (MakeList l.nodes (image_spot l (fresh_words l))) (sym (fresh_list l is)) (fresh_makes l is);
       tidy = λ n listed. (fresh_means l is n listed).tidy;
       lines = λ line here. inl (fresh_at l (Line (line / 8) (line % 8) 0) (omega arith, omega arith, omega arith));

@@ -4,6 +4,7 @@ use Rattle.std.proofs.lemmas.Bool.{cases_lt}
 use Rattle.std.proofs.lemmas.Nat.{mul-le}
 use Rattle.pm_words.specs.declared.layout.Layout.{Layout}
 use Rattle.pm_words.specs.Locations.{Header, Node, Line, image_parts, node_words, start_of, word_number}
+use Rattle.pm_words.specs.Offsets.{version_offset}
 use Rattle.image_rules.specs.Lowest.{IsLowest, IsNumberOf}
 use Rattle.image_rules.specs.Rules.{header_generation, BreaksHeader, IsLater, BreaksVersions, IsUnfit, BreaksLines}
 use Rattle.version_lock.specs.Versions.{IsGeneration}
@@ -44,20 +45,20 @@ generation_right l image (Some number) right lowest = (
 )
 
 -- the version words rise with their nodes
-versions_rise : (l : Layout) (n m : ℕ) → word_number l (Node n 0) < word_number l (Node m 0) → n < m
+versions_rise : (l : Layout) (n m : ℕ) → word_number l (Node n version_offset) < word_number l (Node m version_offset) → n < m
 versions_rise l n m below =
     elim (cases_lt n m) as (λ _. n < m) [
       | inl less ↦ less
       | inr more ↦
           let rest : m * node_words l ≤ n * node_words l = mul-le m (node_words l) n (node_words l) more (omega arith) in
-          let front : word_number l (Node n 0) ≡ 16 + (n * node_words l + 0) = refl in
-          let other : word_number l (Node m 0) ≡ 16 + (m * node_words l + 0) = refl in
+          let front : word_number l (Node n version_offset) ≡ 16 + (n * node_words l + 0) = refl in
+          let other : word_number l (Node m version_offset) ≡ 16 + (m * node_words l + 0) = refl in
           absurd (omega arith)
     ]
 
-pub versions_move : (l : Layout) (image : List ℕ) → Moves (IsLater l image) (IsNumberOf l (BreaksVersions l image)) (λ n. word_number l (Node n 0))
+pub versions_move : (l : Layout) (image : List ℕ) → Moves (IsLater l image) (IsNumberOf l (BreaksVersions l image)) (λ n. word_number l (Node n version_offset))
 versions_move l image = record {
-  to = λ n later. record { word = Node n 0; numbered = refl; holds = (n, refl, later) };
+  to = λ n later. record { word = Node n version_offset; numbered = refl; holds = (n, refl, later) };
   from = λ there is. (is.holds.0, is.holds.2, sym (ap (word_number l) is.holds.1) ∙ is.numbered);
   rises = versions_rise l;
 }

@@ -14,6 +14,7 @@ use Rattle.data_node.specs.Lists.{ListNode, next_offset, anchor_offset, anchor_i
 use Rattle.data_node.proofs.ListLemmas.{all_member}
 use Rattle.data_node.proofs.KeyLemmas.{anchor_named, named_anchor}
 use Rattle.data_node.proofs.PositionLemmas.{position_in, in_position, position_before, position_rise, chain_next, chain_member, StandOnce, once_few, all_positions, rise_positions, members_end}
+use Rattle.pm_words.specs.Offsets.{version_offset}
 use Rattle.image_rules.specs.Nodes.{image_spot, image_list, IsListedNode, IsListedAt, next_in}
 use Rattle.image_rules.specs.Rules.{header_generation, IsSpare, line_spot, LeadsOut, LeadsBack, BreaksAnchors, BreaksNames, BreaksPrints, BreaksApart, BreaksBy}
 use Rattle.image_rules.specs.declared.listed.NodeRule.{NodeRule}
@@ -122,10 +123,10 @@ spare_if l image sound w spare =
       | inr used ↦ absurd (sound 1 0 w (in_header (inr (spare, used))))
     ]
 
-versions_if : (l : Layout) (image : List ℕ) → IsSound l image → (n : ℕ) → n < l.nodes → generation_of (word_at l image (Node n 0)) ≤ header_generation l image
+versions_if : (l : Layout) (image : List ℕ) → IsSound l image → (n : ℕ) → n < l.nodes → generation_of (word_at l image (Node n version_offset)) ≤ header_generation l image
 versions_if l image sound n here =
-    elim (cases_lt (header_generation l image) (generation_of (word_at l image (Node n 0)))) as (λ _. generation_of (word_at l image (Node n 0)) ≤ header_generation l image) [
-      | inl later ↦ absurd (sound 2 0 (Node n 0) (in_versions (n, refl, record { here = here; later = later })))
+    elim (cases_lt (header_generation l image) (generation_of (word_at l image (Node n version_offset)))) as (λ _. generation_of (word_at l image (Node n version_offset)) ≤ header_generation l image) [
+      | inl later ↦ absurd (sound 2 0 (Node n version_offset) (in_versions (n, refl, record { here = here; later = later })))
       | inr known ↦ known
     ]
 

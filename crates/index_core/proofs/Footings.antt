@@ -11,6 +11,7 @@ use Rattle.pm_words.specs.Locations.{Line, Volatile, Cached}
 use Rattle.pm_words.specs.Rows.{MayName}
 use Rattle.pm_words.proofs.Apart.{addresses_within}
 use Rattle.pm_words.proofs.Kept.{outside_header, keeps_header, names_cached}
+use Rattle.pm_words.specs.Offsets.{prev_offset}
 use Rattle.call_stages.specs.AnySteps.{IsOfPermutation, IsOnPermutation, loads, stores, IsBeside, loads_line, stores_line, drains_line, stores_prev, loads_layer, on_permutation}
 use Rattle.index_law.specs.AnySteps.{MayDo}
 use Rattle.index_law.proofs.Actions.{may_name}
@@ -133,6 +134,6 @@ may_do_names l stage action (inr is) = beside is
     beside (loads_line {c = c} {j = j} {offset = offset} has) = addresses_within l (Cached (Line c j offset)) has
     beside (stores_line {c = c} {j = j} {offset = offset} has fits) = (addresses_within l (Cached (Line c j offset)) has, outside_header l (Cached (Line c j offset)) has (λ k lt. (λ e. cc, λ e. cc)))
     beside (drains_line {c = c} {j = j} {offset = offset} {y = y} has fits) = (names_cached l (Line c j offset) has, keeps_header l (Line c j offset) y has (λ k lt e. cc))
-    beside (stores_prev {n = n} here fits) = (addresses_within l (Volatile n 1) (here, omega arith), outside_header l (Volatile n 1) (here, omega arith) (λ k lt. (λ e. cc, λ e. cc)))
+    beside (stores_prev {n = n} here fits) = (addresses_within l (Volatile n prev_offset) (here, omega arith), outside_header l (Volatile n prev_offset) (here, omega arith) (λ k lt. (λ e. cc, λ e. cc)))
     beside (loads_layer {w = v} place) = addresses_within l (Cached v) place.there
     beside (on_permutation on) = permutation_names l on

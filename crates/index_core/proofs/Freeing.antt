@@ -10,6 +10,7 @@ use Rattle.pm_words.specs.declared.action.Action.TheVariants.{Load}
 use Rattle.pm_words.specs.Locations.{Location, Updater, Volatile, Cached, HasLocation, address_of, at}
 use Rattle.pm_words.specs.Rows.{IsRow, acted, got}
 use Rattle.pm_words.proofs.Apart.{at-set_other}
+use Rattle.pm_words.specs.Offsets.{stamp_offset, status_offset}
 use Rattle.call_stages.specs.declared.once.Once.{Once}
 use Rattle.call_stages.specs.declared.once.Placed.{Placed}
 use Rattle.call_stages.specs.Stages.{Stage}
@@ -102,16 +103,16 @@ module _ (r : RowTerms) (ghosts : Ghosts) (words : List ℕ) (row : IsRow r.layo
   loads : (address : ℕ) (s : RowStage) → Stays (Load address) s
   loads address s = inl (ap (λ (v : List ℕ). status_in l v m) (set-get_or words address 0))
 
-  apart : (p : Location) (y : ℕ) → HasLocation l p → (Volatile m 0 ≡ p → ⊥) → status_in l (slice_set words (address_of l p) y) m ≡ status_in l words m
-  apart p y has other = status_in-alike l words (slice_set words (address_of l p) y) m (λ there. at-set_other l words p (Volatile m 0) y has (there, omega arith) other)
+  apart : (p : Location) (y : ℕ) → HasLocation l p → (Volatile m status_offset ≡ p → ⊥) → status_in l (slice_set words (address_of l p) y) m ≡ status_in l words m
+  apart p y has other = status_in-alike l words (slice_set words (address_of l p) y) m (λ there. at-set_other l words p (Volatile m status_offset) y has (there, omega arith) other)
 
-  stamped : (n y : ℕ) → n < l.nodes → status_in l (slice_set words (volatile_at l n 2) y) m ≡ status_in l words m
-  stamped n y here = apart (Volatile n 2) y (here, omega arith) (λ e. let no : 0 ≡ 2 = ap volatile_offset e in omega arith)
+  stamped : (n y : ℕ) → n < l.nodes → status_in l (slice_set words (volatile_at l n stamp_offset) y) m ≡ status_in l words m
+  stamped n y here = apart (Volatile n stamp_offset) y (here, omega arith) (λ e. let no : 0 ≡ 2 = ap volatile_offset e in omega arith)
 
   leaves_statuses : (e : RowLine) (word : ℕ) (s t : Changing) (a : Action) → RowLawful r ghosts words (Changes e word s) → ChangeStep l (aim_of e word) s a (got l words a) t → status_in l (acted l words a) m ≡ status_in l words m
   leaves_statuses e word s t a is step =
       let keeps = change_kept r words e word s t a row is.sure step in
-      status_in-alike l words (acted l words a) m (λ there. keeps.others (Volatile m 0) (there, omega arith) refl)
+      status_in-alike l words (acted l words a) m (λ there. keeps.others (Volatile m status_offset) (there, omega arith) refl)
 
   pub only_frees : {s : RowStage} {a : Action} {x : ℕ} {t : RowStage} → RowStep r s a x t → x ≡ got l words a → (s ≢ Resting → RowLawful r ghosts words s) → Stays a s
   only_frees (takes_lock free) told is = let word : ℕ = at l words Updater in inl (apart Updater (cond (word == 0) 1 word) tt (λ e. cc))
@@ -131,18 +132,18 @@ module _ (r : RowTerms) (ghosts : Ghosts) (words : List ℕ) (row : IsRow r.layo
       inl (leaves_statuses e word c Changed a (is (λ e. cc)) (subst (λ (x : ℕ). ChangeStep l (aim_of e word) c a x Changed) told step))
   only_frees (stamps {e = e} here) told is = inl (stamped e.node r.stamp here)
   only_frees (empties {j = j} here) told is = inl (apart (Cached (line_word 0 j)) empty_state (omega arith, omega arith, omega arith) (λ e. cc))
-  only_frees {s = s} (passes_node {n = n} here other) told is = loads (volatile_at l n 0) s
-  only_frees {s = s} (sees_gone {n = n} here gone) told is = loads (volatile_at l n 0) s
-  only_frees {s = s} (passes_stamp {n = n} here why) told is = loads (volatile_at l n 2) s
-  only_frees {s = s} (sees_stamp {n = n} here some_stamp most) told is = loads (volatile_at l n 2) s
+  only_frees {s = s} (passes_node {n = n} here other) told is = loads (volatile_at l n status_offset) s
+  only_frees {s = s} (sees_gone {n = n} here gone) told is = loads (volatile_at l n status_offset) s
+  only_frees {s = s} (passes_stamp {n = n} here why) told is = loads (volatile_at l n stamp_offset) s
+  only_frees {s = s} (sees_stamp {n = n} here some_stamp most) told is = loads (volatile_at l n stamp_offset) s
   only_frees {s = s} (passes_worn {n = n} here worn) told is = loads (version_at l n) s
   only_frees {s = s} (sees_unworn {n = n} here unworn) told is = loads (version_at l n) s
   only_frees (unstamps {n = n} here) told is = inl (stamped n 0 here)
   only_frees (frees {n = n} here) told is = ⊎_elim
       (λ (e : m ≡ n). inr (ap Frees (sym e), subst (λ k. k < l.nodes) (sym e) here))
-      (λ (other : m ≢ n). inl (apart (Volatile n 0) free_status (here, omega arith) (λ e. other (ap volatile_node e))))
+      (λ (other : m ≢ n). inl (apart (Volatile n status_offset) free_status (here, omega arith) (λ e. other (ap volatile_node e))))
       (cases_eq m n)
-  only_frees {s = s} (counts {n = n} here) told is = loads (volatile_at l n 0) s
+  only_frees {s = s} (counts {n = n} here) told is = loads (volatile_at l n status_offset) s
   only_frees (leaves_lock done) told is = inl (apart Updater 0 tt (λ e. cc))
 
 past_line : (r : RowTerms) (j n : ℕ) → after_line r j ≡ Frees n → ⊥

@@ -8,6 +8,7 @@ use Rattle.pm_words.specs.Locations.{Volatile, image_words, address_of, at}
 use Rattle.pm_words.specs.declared.action.Action.{Action}
 use Rattle.pm_words.specs.declared.machine.Turn.{Turn}
 use Rattle.pm_words.specs.declared.machine.Turn.TheVariants.{Go, Done}
+use Rattle.pm_words.specs.Offsets.{stamp_offset}
 use Rattle.cat_history.specs.Maps.{map_of}
 use Rattle.cat_history.specs.declared.op.Write.{Write}
 use Rattle.cat_key.specs.declared.Pair.{Pair}
@@ -203,8 +204,8 @@ rest_layered s clock states base history is none idle resting_turns some_party f
 
 -- With another stamp of a node that has one.
 pub stamp_layered : (s : Index) (n stamp : ℕ) → IsLayered (layered s) → ((i : ℕ) (e : PartyState) → get_elem? s.states i ≡ some e → e.turn ≡ None) → n < s.layout.nodes
-    → at s.layout s.words (Volatile n 2) ≢ 0 → stamp ≢ 0 → IsFooted (footed (record s { words = slice_set s.words (address_of s.layout (Volatile n 2)) stamp }))
-    → IsLayered (layered (record s { words = slice_set s.words (address_of s.layout (Volatile n 2)) stamp }))
+    → at s.layout s.words (Volatile n stamp_offset) ≢ 0 → stamp ≢ 0 → IsFooted (footed (record s { words = slice_set s.words (address_of s.layout (Volatile n stamp_offset)) stamp }))
+    → IsLayered (layered (record s { words = slice_set s.words (address_of s.layout (Volatile n stamp_offset)) stamp }))
 stamp_layered s n stamp is none here has_one another footed_after =
     stamp_keeps_layer (layered s) n stamp is (λ i t at. ap (λ (u : Turning). u.stage) (rest_turns s.states none i t at)) here has_one another footed_after.0 footed_after.1
 

@@ -13,6 +13,7 @@ use Rattle.pm_words.specs.declared.layout.Layout.{Layout}
 use Rattle.pm_words.specs.Locations.{Header, Volatile, Cached, at}
 use Rattle.version_lock.specs.declared.TheConstants.{LAST_COUNT}
 use Rattle.data_node.specs.Lists.{ListNode}
+use Rattle.pm_words.specs.Offsets.{stamp_offset}
 use Rattle.index_law.specs.Anchors.{anchors_of, gone_nodes}
 use Rattle.index_law.specs.Facts.{Facts}
 use Rattle.index_law.specs.Footed.{AreFree}
@@ -117,7 +118,7 @@ module _ (l : Layout) (list : List ListNode) (o : Columns) (words : List ℕ) (b
   }
     where
       low : (k : ℕ) → k < l.nodes → stamp_in (world (opened_index (row_with l words) base [])) k ≤ 1
-      low k here = let none : stamp_in (world (opened_index (row_with l words) base [])) k ≡ 0 = column-here l words l.nodes (λ m. Volatile m 2) k here ∙ is.tells.stamps k here in omega arith
+      low k here = let none : stamp_in (world (opened_index (row_with l words) base [])) k ≡ 0 = column-here l words l.nodes (λ m. Volatile m stamp_offset) k here ∙ is.tells.stamps k here in omega arith
 
 pub opening_is_index : OpeningIsIndex
 opening_is_index l list o words base is = opening_index l list o words base is

@@ -10,6 +10,7 @@ use Rattle.pm_words.specs.Locations.{Location, Line, Volatile, Cached, Durable, 
 use Rattle.pm_words.specs.Rows.{acted}
 use Rattle.pm_words.proofs.Apart.{at-set_other}
 use Rattle.pm_words.proofs.Kept.{action_address-drain}
+use Rattle.pm_words.specs.Offsets.{prev_offset, stamp_offset}
 use Rattle.call_stages.specs.Stages.{Stage}
 use Rattle.call_stages.specs.AnySteps.{IsBeside, loads_line, stores_line, drains_line, stores_prev, loads_layer, on_permutation}
 use Rattle.call_stages.specs.Lines.{line_address}
@@ -36,26 +37,26 @@ offset_of (Volatile n offset) = offset
 offset_of _ = 0
 
 -- what a call does on log lines, prevs and permutations leaves a stamp
-beside_leaves_stamp : (l : Layout) (words : List ℕ) (n : ℕ) → n < l.nodes → {a : Action} → IsBeside l a → at l (acted l words a) (Volatile n 2) ≡ at l words (Volatile n 2)
-beside_leaves_stamp l words n here (loads_line {c = c} {j = j} {offset = o} has) = ap (λ (v : List ℕ). at l v (Volatile n 2)) (set-get_or words (line_address l c j o) 0)
-beside_leaves_stamp l words n here (stores_line {c = c} {j = j} {offset = o} {y = y} has small) = at-set_other l words (Cached (Line c j o)) (Volatile n 2) y has (here, omega arith) (λ e. cc)
+beside_leaves_stamp : (l : Layout) (words : List ℕ) (n : ℕ) → n < l.nodes → {a : Action} → IsBeside l a → at l (acted l words a) (Volatile n stamp_offset) ≡ at l words (Volatile n stamp_offset)
+beside_leaves_stamp l words n here (loads_line {c = c} {j = j} {offset = o} has) = ap (λ (v : List ℕ). at l v (Volatile n stamp_offset)) (set-get_or words (line_address l c j o) 0)
+beside_leaves_stamp l words n here (stores_line {c = c} {j = j} {offset = o} {y = y} has small) = at-set_other l words (Cached (Line c j o)) (Volatile n stamp_offset) y has (here, omega arith) (λ e. cc)
 beside_leaves_stamp l words n here (drains_line {c = c} {j = j} {offset = o} {y = y} has small) =
-    subst (λ (place : ℕ). at l (slice_set words place y) (Volatile n 2) ≡ at l words (Volatile n 2)) (sym (action_address-drain l (Line c j o) y))
-    (at-set_other l words (Durable (Line c j o)) (Volatile n 2) y has (here, omega arith) (λ e. cc))
+    subst (λ (place : ℕ). at l (slice_set words place y) (Volatile n stamp_offset) ≡ at l words (Volatile n stamp_offset)) (sym (action_address-drain l (Line c j o) y))
+    (at-set_other l words (Durable (Line c j o)) (Volatile n stamp_offset) y has (here, omega arith) (λ e. cc))
 beside_leaves_stamp l words n here (stores_prev {n = m} {y = y} within small) =
-    at-set_other l words (Volatile m 1) (Volatile n 2) y (within, omega arith) (here, omega arith) (λ e. let no : 2 ≡ 1 = ap offset_of e in omega arith)
-beside_leaves_stamp l words n here (loads_layer {w = v} place) = ap (λ (ws : List ℕ). at l ws (Volatile n 2)) (set-get_or words (address_of l (Cached v)) 0)
+    at-set_other l words (Volatile m prev_offset) (Volatile n stamp_offset) y (within, omega arith) (here, omega arith) (λ e. let no : 2 ≡ 1 = ap offset_of e in omega arith)
+beside_leaves_stamp l words n here (loads_layer {w = v} place) = ap (λ (ws : List ℕ). at l ws (Volatile n stamp_offset)) (set-get_or words (address_of l (Cached v)) 0)
 beside_leaves_stamp l words n here {a = a} (on_permutation on) =
     let at_word = stored_word l words a on in
     let least = at_word.least in
-    ap (λ (v : List ℕ). at l v (Volatile n 2)) at_word.is
-    ∙ at-set_other l words (Volatile at_word.node at_word.offset) (Volatile n 2) at_word.word (at_word.here, at_word.most) (here, omega arith) (λ e. let no : 2 ≡ at_word.offset = ap offset_of e in omega arith)
+    ap (λ (v : List ℕ). at l v (Volatile n stamp_offset)) at_word.is
+    ∙ at-set_other l words (Volatile at_word.node at_word.offset) (Volatile n stamp_offset) at_word.word (at_word.here, at_word.most) (here, omega arith) (λ e. let no : 2 ≡ at_word.offset = ap offset_of e in omega arith)
 
 -- so whatever a call may do leaves all of them
 may_leaves_stamps : (l : Layout) (words : List ℕ) (s : Stage) (a : Action) → MayDo l s a → volatile_field l (acted l words a) 2 ≡ volatile_field l words 2
-may_leaves_stamps l words s a may = column-same l words (acted l words a) l.nodes (λ n. Volatile n 2) (λ n here. elim may [
+may_leaves_stamps l words s a may = column-same l words (acted l words a) l.nodes (λ n. Volatile n stamp_offset) (λ n here. elim may [
   | inl allowed ↦
-      nodes_leave_others l words s a (Volatile n 2) (here, omega arith) (record { clock = λ e. cc; status = λ m e. let no : 2 ≡ 0 = ap offset_of e in omega arith; cached = λ m o e. cc; durable = λ m o e. cc }) allowed
+      nodes_leave_others l words s a (Volatile n stamp_offset) (here, omega arith) (record { clock = λ e. cc; status = λ m e. let no : 2 ≡ 0 = ap offset_of e in omega arith; cached = λ m o e. cc; durable = λ m o e. cc }) allowed
   | inr beside ↦ beside_leaves_stamp l words n here beside
 ])
 

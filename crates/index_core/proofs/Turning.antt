@@ -10,6 +10,7 @@ use Rattle.pm_words.specs.declared.machine.Turn.{Turn}
 use Rattle.pm_words.specs.declared.machine.Turn.TheVariants.{Go, Done}
 use Rattle.pm_words.specs.Rows.{CanAct, acted}
 use Rattle.pm_words.specs.Locations.{Volatile}
+use Rattle.pm_words.specs.Offsets.{status_offset}
 use Rattle.call_stages.specs.Stages.{Stage, Idle, Saw, Wears, Reads, Holds, Eyes, Splits, Leaves, Meets, Joins}
 use Rattle.cat_history.specs.Maps.{map_of}
 use Rattle.call_stages.specs.Watches.{Nothing}
@@ -235,7 +236,7 @@ module _ (s : Index) (i : ℕ) (state : PartyState) (making : MakeTurn) (is : Is
       subst (RowLawful (terms_of (world s) (making_turning making)) (ghosts_of (world s) layer.holder) s.words) is_at (row_is (λ rests. busy (sym is_at ∙ rests)))
 
   status_is : (n : ℕ) → n < s.layout.nodes → (facts (world s)).status n ≡ volatile_field s.layout s.words 0 n
-  status_is n here = status_in-here s.layout s.words n here ∙ sym (column-here s.layout s.words s.layout.nodes (λ k. Volatile k 0) n here)
+  status_is n here = status_in-here s.layout s.words n here ∙ sym (column-here s.layout s.words s.layout.nodes (λ k. Volatile k status_offset) n here)
 
   -- which node it makes FREE, and from when on it may
   frees_so : FreesReleased s making (turned_index s i state making)

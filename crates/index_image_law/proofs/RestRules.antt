@@ -8,6 +8,7 @@ use Rattle.version_lock.specs.Versions.{generation_of, IsGeneration}
 use Rattle.data_node.specs.Spots.{Spot, IsTidy, Means}
 use Rattle.data_node.specs.Lines.{IsFitLine}
 use Rattle.data_node.specs.Lists.{members_from, range_in, IsIn, MakeList}
+use Rattle.pm_words.specs.Offsets.{version_offset}
 use Rattle.image_rules.specs.Nodes.{image_spot}
 use Rattle.image_rules.specs.Laws.{KeepsRules}
 use Rattle.image_rules.specs.Rules.{IsSpare, line_spot}
@@ -69,8 +70,8 @@ rules w rest fit =
       generation = subst IsGeneration (sym generation) rest.run;
       spare = blank l words rest.front.blank;
       versions = λ n here.
-          let word : word_at l (cached_row l words) (Node n 0) ≡ (facts w).version n =
-          cached_row-at l words (Node n 0) (here, omega arith) ∙ sym (version_in-here l words n here) in
+          let word : word_at l (cached_row l words) (Node n version_offset) ≡ (facts w).version n =
+          cached_row-at l words (Node n version_offset) (here, omega arith) ∙ sym (version_in-here l words n here) in
           subst (λ (v : ℕ). generation_of v ≤ word_at l (cached_row l words) (Header 5)) (sym word) (let known = rest.versions n here in omega (arith, generation));
       list = in_image l words (λ now. MakeList l.nodes now (members_from now l.nodes 0)) rest.list;
       tidy = in_image l words (λ now. (n : ℕ) → IsIn (members_from now l.nodes 0) n → IsTidy l.slots (now n)) (λ n listed. (rest.settled n listed).means.tidy);

@@ -19,6 +19,7 @@ use Rattle.cat_history.specs.Maps.{Map}
 use Rattle.cat_history.specs.declared.op.Write.{Write}
 use Rattle.data_node.specs.Spots.{Spot}
 use Rattle.data_node.specs.Lists.{next_offset, anchor_in}
+use Rattle.pm_words.specs.Offsets.{prev_offset, status_offset, version_offset}
 use Rattle.call_stages.specs.Kinds.{Told, HasWordAt, clock_address, word_address, version_address, status_address, prev_address, LeadsWithin}
 use Rattle.index_law.specs.Facts.{Facts, IsListed, facts_of, version_in}
 use Rattle.index_law.specs.Worlds.{World, facts}
@@ -35,29 +36,29 @@ node_outside : (l : Layout) (n offset : ℕ) → HasWordAt l n offset → IsOuts
 node_outside l n offset has = outside_header l (Cached (Node n offset)) has (λ k lt. (λ e. cc, λ e. cc))
 
 pub status_outside : (l : Layout) (n : ℕ) → n < l.nodes → IsOutsideHeader l (status_address l n)
-status_outside l n here = outside_header l (Volatile n 0) (here, omega arith) (λ k lt. (λ e. cc, λ e. cc))
+status_outside l n here = outside_header l (Volatile n status_offset) (here, omega arith) (λ k lt. (λ e. cc, λ e. cc))
 
 pub may_name : AllowedMayName
 may_name l s a loads_clock = addresses_within l Clock tt
 may_name l s a (loads_word {n = n} {offset = offset} has) = addresses_within l (Cached (Node n offset)) has
-may_name l s a (loads_status {n = n} here) = addresses_within l (Volatile n 0) (here, omega arith)
-may_name l s a (loads_prev {n = n} here) = addresses_within l (Volatile n 1) (here, omega arith)
-may_name l s a (stores_status {n = n} holds here small) = (addresses_within l (Volatile n 0) (here, omega arith), status_outside l n here)
-may_name l s a (exchanges {n = n} here) = let has : HasWordAt l n 0 = (here, omega arith) in (addresses_within l (Cached (Node n 0)) has, node_outside l n 0 has)
-may_name l s a (exchanges_read {n = n} here small) = let has : HasWordAt l n 0 = (here, omega arith) in (addresses_within l (Cached (Node n 0)) has, node_outside l n 0 has)
+may_name l s a (loads_status {n = n} here) = addresses_within l (Volatile n status_offset) (here, omega arith)
+may_name l s a (loads_prev {n = n} here) = addresses_within l (Volatile n prev_offset) (here, omega arith)
+may_name l s a (stores_status {n = n} holds here small) = (addresses_within l (Volatile n status_offset) (here, omega arith), status_outside l n here)
+may_name l s a (exchanges {n = n} here) = let has : HasWordAt l n 0 = (here, omega arith) in (addresses_within l (Cached (Node n version_offset)) has, node_outside l n 0 has)
+may_name l s a (exchanges_read {n = n} here small) = let has : HasWordAt l n 0 = (here, omega arith) in (addresses_within l (Cached (Node n version_offset)) has, node_outside l n 0 has)
 may_name l s a (stores_word {n = n} {offset = offset} holds has positive small) = (addresses_within l (Cached (Node n offset)) has, node_outside l n offset has)
 may_name l s a (drains_word {n = n} {y = y} {offset = offset} holds has small) = (names_cached l (Node n offset) has, keeps_header l (Node n offset) y has (λ k lt e. cc))
 may_name l s a adds = (addresses_within l Clock tt, clock_outside l)
-may_name l s a (claims_node {m = m} here) = let has : HasWordAt l m 0 = (here, omega arith) in (addresses_within l (Cached (Node m 0)) has, node_outside l m 0 has)
+may_name l s a (claims_node {m = m} here) = let has : HasWordAt l m 0 = (here, omega arith) in (addresses_within l (Cached (Node m version_offset)) has, node_outside l m 0 has)
 may_name l s a (frees_fresh {fresh = fresh} here next) =
-    let has : HasWordAt l fresh.node 0 = (here, omega arith) in (addresses_within l (Cached (Node fresh.node 0)) has, node_outside l fresh.node 0 has)
+    let has : HasWordAt l fresh.node 0 = (here, omega arith) in (addresses_within l (Cached (Node fresh.node version_offset)) has, node_outside l fresh.node 0 has)
 may_name l s a (frees_left {left = left} here next) =
-    let has : HasWordAt l left.node 0 = (here, omega arith) in (addresses_within l (Cached (Node left.node 0)) has, node_outside l left.node 0 has)
+    let has : HasWordAt l left.node 0 = (here, omega arith) in (addresses_within l (Cached (Node left.node version_offset)) has, node_outside l left.node 0 has)
 may_name l s a (frees_met {right = right} here next) =
-    let has : HasWordAt l right.node 0 = (here, omega arith) in (addresses_within l (Cached (Node right.node 0)) has, node_outside l right.node 0 has)
+    let has : HasWordAt l right.node 0 = (here, omega arith) in (addresses_within l (Cached (Node right.node version_offset)) has, node_outside l right.node 0 has)
 may_name l s a (frees_right {right = right} here next) =
-    let has : HasWordAt l right.node 0 = (here, omega arith) in (addresses_within l (Cached (Node right.node 0)) has, node_outside l right.node 0 has)
-may_name l s a (frees {n = n} here next) = let has : HasWordAt l n 0 = (here, omega arith) in (addresses_within l (Cached (Node n 0)) has, node_outside l n 0 has)
+    let has : HasWordAt l right.node 0 = (here, omega arith) in (addresses_within l (Cached (Node right.node version_offset)) has, node_outside l right.node 0 has)
+may_name l s a (frees {n = n} here next) = let has : HasWordAt l n 0 = (here, omega arith) in (addresses_within l (Cached (Node n version_offset)) has, node_outside l n 0 has)
 
 -- the word that takes or gives back a lock has 64 bits
 can_change : (l : Layout) (g : ℕ) (f : Facts) (caller index since : ℕ) (s : Stage) (a : Action) (word : ℕ) → Allowed l s a → g < GENERATION_LIMIT

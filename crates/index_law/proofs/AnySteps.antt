@@ -11,6 +11,7 @@ use Rattle.pm_words.specs.Locations.{Word, Node, Line, Location, Volatile, Cache
 use Rattle.pm_words.specs.Rows.{IsRow, CanAct, acted, got}
 use Rattle.pm_words.proofs.Apart.{addresses_within, addresses_apart, at-set_other}
 use Rattle.pm_words.proofs.Kept.{action_address-drain, acted_row, outside_header, names_cached, keeps_header}
+use Rattle.pm_words.specs.Offsets.{prev_offset, status_offset}
 use Rattle.cat_history.specs.declared.op.Change.{Change}
 use Rattle.call_stages.specs.Stages.{Stage, HoldsNode, counted}
 use Rattle.call_stages.specs.Kinds.{HasWordAt, word_address, status_address, clock_address}
@@ -77,7 +78,7 @@ module _ (w : World) (lawful : Lawful w) where
   -- a store beside nodes: at a word of a line, in either row, or at a prev
   module _ (p : Location) (y : ℕ) (has : HasLocation l p) (clock : p ≢ Clock)
       (cached : (v : Word) → p ≡ Cached v → IsAside v) (durable : (v : Word) → p ≡ Durable v → IsAside v)
-      (status : (n : ℕ) → p ≢ Volatile n 0) where
+      (status : (n : ℕ) → p ≢ Volatile n status_offset) where
     abbrev words : List ℕ
     words = slice_set w.words (address_of l p) y
 
@@ -103,7 +104,7 @@ module _ (w : World) (lawful : Lawful w) where
   beside_can a (drains_line {c = c} {j = j} {offset = offset} {y = y} has fits) =
       ((names_cached l (Line c j offset) has, keeps_header l (Line c j offset) y has (λ k lt e. cc)), fits)
   beside_can a (stores_prev {n = n} here fits) =
-      ((addresses_within l (Volatile n 1) (here, omega arith), outside_header l (Volatile n 1) (here, omega arith) (λ k lt. (λ e. cc, λ e. cc))), fits)
+      ((addresses_within l (Volatile n prev_offset) (here, omega arith), outside_header l (Volatile n prev_offset) (here, omega arith) (λ k lt. (λ e. cc, λ e. cc))), fits)
   beside_can a (loads_layer {w = v} place) = (addresses_within l (Cached v) place.there, tt)
   beside_can a (on_permutation (loads {n = n} {offset = offset} here of)) = (addresses_within l (Volatile n offset) (here, (above offset of).1), tt)
   beside_can a (on_permutation (stores {n = n} {offset = offset} here of fits)) =
@@ -111,7 +112,7 @@ module _ (w : World) (lawful : Lawful w) where
       ((addresses_within l (Volatile n offset) has, outside_header l (Volatile n offset) has (λ k lt. (λ e. cc, λ e. cc))), fits)
 
   -- no permutation is a status
-  past_status : (n offset : ℕ) → 2 < offset → (m : ℕ) → Volatile n offset ≢ Volatile m 0
+  past_status : (n offset : ℕ) → 2 < offset → (m : ℕ) → Volatile n offset ≢ Volatile m status_offset
   past_status n offset least m same = let no : offset ≡ 0 = ap offset_in same in omega arith
 
   beside_lawful : (a : Action) → IsBeside l a → Lawful (record w { words = acted l w.words a })
@@ -124,7 +125,7 @@ module _ (w : World) (lawful : Lawful w) where
       subst (λ v. Lawful (record w { words = v })) (sym is)
       (stored (Durable (Line c j offset)) y has (λ e. cc) (λ v e. cc) (λ v e. subst IsAside (ap line_of e) tt) (λ n e. cc) a (beside_can a (drains_line has fits)) is)
   beside_lawful a (stores_prev {n = n} {y = y} here fits) =
-      stored (Volatile n 1) y (here, omega arith) (λ e. cc) (λ v e. cc) (λ v e. cc) (λ m e. let no : 1 ≡ 0 = ap offset_in e in omega arith) a (beside_can a (stores_prev here fits)) refl
+      stored (Volatile n prev_offset) y (here, omega arith) (λ e. cc) (λ v e. cc) (λ v e. cc) (λ m e. let no : 1 ≡ 0 = ap offset_in e in omega arith) a (beside_can a (stores_prev here fits)) refl
   beside_lawful a (loads_layer {w = v} place) = subst (λ ws. Lawful (record w { words = ws })) (sym (set-get_or w.words (address_of l (Cached v)) 0)) lawful
   beside_lawful a (on_permutation on) =
       let at_word = stored_word l w.words a on in
@@ -139,7 +140,7 @@ module _ (w : World) (lawful : Lawful w) where
       ap (λ v. facts (record w { words = v })) (ap (λ q. slice_set w.words q y) (action_address-drain l (Line c j offset) y))
       ∙ same_facts (Durable (Line c j offset)) y has (λ e. cc) (λ v e. cc) (λ v e. subst IsAside (ap line_of e) tt) (λ n e. cc)
   beside_facts a (stores_prev {n = n} {y = y} here fits) =
-      same_facts (Volatile n 1) y (here, omega arith) (λ e. cc) (λ v e. cc) (λ v e. cc) (λ m e. let no : 1 ≡ 0 = ap offset_in e in omega arith)
+      same_facts (Volatile n prev_offset) y (here, omega arith) (λ e. cc) (λ v e. cc) (λ v e. cc) (λ m e. let no : 1 ≡ 0 = ap offset_in e in omega arith)
   beside_facts a (loads_layer {w = v} place) = ap (λ ws. facts (record w { words = ws })) (set-get_or w.words (address_of l (Cached v)) 0)
   beside_facts a (on_permutation on) =
       let at_word = stored_word l w.words a on in
@@ -188,19 +189,19 @@ beside_loads l n offset a here (on_permutation (loads {n = m} {offset = o} low o
     absurd (cc)
 beside_loads l n offset a here (on_permutation (stores low of fits)) is = cc
 
-beside_status : (l : Layout) (n : ℕ) (a : Action) → HasLocation l (Volatile n 0) → IsBeside l a → a ≡ Load (status_address l n) → ⊥
+beside_status : (l : Layout) (n : ℕ) (a : Action) → HasLocation l (Volatile n status_offset) → IsBeside l a → a ≡ Load (status_address l n) → ⊥
 beside_status l n a here (loads_line {c = c} {j = j} {offset = o} has) is =
-    let same : Cached (Line c j o) ≡ Volatile n 0 = addresses_apart l (Cached (Line c j o)) (Volatile n 0) has here (ap loaded_from is) in
+    let same : Cached (Line c j o) ≡ Volatile n status_offset = addresses_apart l (Cached (Line c j o)) (Volatile n status_offset) has here (ap loaded_from is) in
     absurd (cc)
 beside_status l n a here (stores_line has fits) is = cc
 beside_status l n a here (drains_line has fits) is = cc
 beside_status l n a here (stores_prev low fits) is = cc
 beside_status l n a here (loads_layer {w = v} place) is =
-    let same : Cached v ≡ Volatile n 0 = addresses_apart l (Cached v) (Volatile n 0) place.there here (ap loaded_from is) in
+    let same : Cached v ≡ Volatile n status_offset = addresses_apart l (Cached v) (Volatile n status_offset) place.there here (ap loaded_from is) in
     absurd (cc)
 beside_status l n a here (on_permutation (loads {n = m} {offset = o} low of)) is =
     let both = above o of in
-    let same : Volatile m o ≡ Volatile n 0 = addresses_apart l (Volatile m o) (Volatile n 0) (low, both.1) here (ap loaded_from is) in
+    let same : Volatile m o ≡ Volatile n status_offset = addresses_apart l (Volatile m o) (Volatile n status_offset) (low, both.1) here (ap loaded_from is) in
     let no : o ≡ 0 = ap offset_in same in
     let least = both.0 in
     absurd (omega arith)

@@ -20,6 +20,7 @@ use Rattle.index_law.specs.Lawful.{Sure}
 use Rattle.data_node.specs.Spots.{bitmap_offset}
 use Rattle.data_node.specs.Lists.{next_offset}
 use Rattle.std.proofs.lemmas.List.{set-get_or}
+use Rattle.pm_words.specs.Offsets.{status_offset, version_offset}
 use Rattle.index_law.proofs.Backing.{Drained, SplitDrained, MergeDrained}
 use Rattle.index_law.proofs.Moves.{look_keeps}
 use Rattle.index_law.proofs.Rows.{in_spot, cached_word-here}
@@ -53,7 +54,7 @@ hand_is l words base history n offset y hand has is known =
 module _ {l : Layout} {g : ℕ} (words : List ℕ) (base : Map) (history : List Write) (caller index since : ℕ) (row : IsRow l words) where
   split_closer : {s : Stage} {a : Action} {x : ℕ} {t : Stage} → (k : Split l g s a x t) → Sure l g (facts_of l words base history) caller index since s → IsCloser l words (acted l words a)
   split_closer (fills {y = y} {offset = offset} {fresh = fresh} has positive small within soils told) knows = store_closer l words (Cached (Node fresh.node offset)) y has (λ w alike. cc)
-  split_closer (lights {fresh = fresh} here leads) knows = store_closer l words (Volatile fresh.node 0) live_status (here, omega arith) (λ w alike. cc)
+  split_closer (lights {fresh = fresh} here leads) knows = store_closer l words (Volatile fresh.node status_offset) live_status (here, omega arith) (λ w alike. cc)
   split_closer (switches {left = left} {fresh = fresh} here small durable soiled cut told means) knows =
       store_closer l words (Cached (Node left.node next_offset)) fresh.node (here, omega arith) (λ w alike. cc)
   split_closer (glances_left {offset = offset} {left = left} has learnt) knows = λ w has'. inl (ap (λ (v : List ℕ). at l v (Durable w)) (set-get_or words (word_address l left.node offset) 0))
@@ -68,7 +69,7 @@ module _ {l : Layout} {g : ℕ} (words : List ℕ) (base : Map) (history : List 
       store_closer l words (Cached (Node left.node bitmap_offset)) y (here, omega arith) (λ w alike. cc)
 
   merge_closer : {s : Stage} {a : Action} {x : ℕ} {t : Stage} → (k : Merge l g s a x t) → Sure l g (facts_of l words base history) caller index since s → IsCloser l words (acted l words a)
-  merge_closer (meets {m = m} here same untimed leads) knows = store_closer l words (Cached (Node m 0)) _ (here, omega arith) (λ w alike. cc)
+  merge_closer (meets {m = m} here same untimed leads) knows = store_closer l words (Cached (Node m version_offset)) _ (here, omega arith) (λ w alike. cc)
   merge_closer (knows_own {n = n} {offset = offset} has positive learnt) knows = λ w has'. inl (ap (λ (v : List ℕ). at l v (Durable w)) (set-get_or words (word_address l n offset) 0))
   merge_closer (knows_right {offset = offset} {right = right} has positive told) knows = λ w has'. inl (ap (λ (v : List ℕ). at l v (Durable w)) (set-get_or words (word_address l right.node offset) 0))
   merge_closer (copies {n = n} {y = y} {offset = offset} has content small soils learnt means) knows = store_closer l words (Cached (Node n offset)) y has (λ w alike. cc)
@@ -76,21 +77,21 @@ module _ {l : Layout} {g : ℕ} (words : List ℕ) (base : Map) (history : List 
   merge_closer (puts_down {n = n} {y = y} {offset = offset} {h = h} has small hand cleans) knows =
       let is = hand_is l words base history n offset y h.hand has hand knows.0.hand in
       subst (IsCloser l words) (sym (drain_evicts l words n offset y is)) (evict_closer l words (word_number l (Node n offset)) row.whole (words_within l (Node n offset) has))
-  merge_closer (parts {freed = freed} {right = right} next) knows = store_closer l words (Cached (Node right.node 0)) freed (knows.1.grip.here, omega arith) (λ w alike. cc)
+  merge_closer (parts {freed = freed} {right = right} next) knows = store_closer l words (Cached (Node right.node version_offset)) freed (knows.1.grip.here, omega arith) (λ w alike. cc)
   merge_closer (gathers {n = n} {y = y} small durable soiled told gathered) knows = store_closer l words (Cached (Node n bitmap_offset)) y (knows.0.here, omega arith) (λ w alike. cc)
   merge_closer (joins {y = y} {left = left} small durable soiled next told) knows = store_closer l words (Cached (Node left.node next_offset)) y (knows.one.here, omega arith) (λ w alike. cc)
   merge_closer (glances_joined {offset = offset} {left = left} has learnt) knows = λ w has'. inl (ap (λ (v : List ℕ). at l v (Durable w)) (set-get_or words (word_address l left.node offset) 0))
   merge_closer (drains_joined {y = y} {offset = offset} {left = left} has small hand cleans) knows =
       let is = hand_is l words base history left.node offset y left.hand has hand knows.one.hand in
       subst (IsCloser l words) (sym (drain_evicts l words left.node offset y is)) (evict_closer l words (word_number l (Node left.node offset)) row.whole (words_within l (Node left.node offset) has))
-  merge_closer (retires {right = right} durable) knows = store_closer l words (Volatile right.node 0) gone_status (knows.other.here, omega arith) (λ w alike. cc)
-  merge_closer (yields {freed = freed} {right = right} next durable) knows = store_closer l words (Cached (Node right.node 0)) freed (knows.other.here, omega arith) (λ w alike. cc)
+  merge_closer (retires {right = right} durable) knows = store_closer l words (Volatile right.node status_offset) gone_status (knows.other.here, omega arith) (λ w alike. cc)
+  merge_closer (yields {freed = freed} {right = right} next durable) knows = store_closer l words (Cached (Node right.node version_offset)) freed (knows.other.here, omega arith) (λ w alike. cc)
 
   pub step_closer : {s : Stage} {a : Action} {x : ℕ} {t : Stage} {r : Option (Once Placed)} → (k : Step l g s a x t r) → x ≡ got l words a
       → Sure l g (facts_of l words base history) caller index since s → IsCloser l words (acted l words a)
   step_closer (looks look) e knows = λ w has. inl (ap (λ (v : List ℕ). at l v (Durable w)) (look_keeps look words e))
-  step_closer (locks {n = n} same named live between) e knows = store_closer l words (Cached (Node n 0)) _ (knows.here, omega arith) (λ w alike. cc)
-  step_closer (locks_read {n = n} same named live between unworn taken small) e knows = store_closer l words (Cached (Node n 0)) _ (knows.here, omega arith) (λ w alike. cc)
+  step_closer (locks {n = n} same named live between) e knows = store_closer l words (Cached (Node n version_offset)) _ (knows.here, omega arith) (λ w alike. cc)
+  step_closer (locks_read {n = n} same named live between unworn taken small) e knows = store_closer l words (Cached (Node n version_offset)) _ (knows.here, omega arith) (λ w alike. cc)
   step_closer (stores {n = n} {y = y} {offset = offset} has content small clean soils learnt means) e knows = store_closer l words (Cached (Node n offset)) y has (λ w alike. cc)
   step_closer (commits {n = n} {y = y} {offset = offset} has content small clean durable soiled old about learnt means) e knows =
       store_closer l words (Cached (Node n offset)) y has (λ w alike. cc)
@@ -98,10 +99,10 @@ module _ {l : Layout} {g : ℕ} (words : List ℕ) (base : Map) (history : List 
       let is = hand_is l words base history n offset y h.hand has hand knows.hand in
       subst (IsCloser l words) (sym (drain_evicts l words n offset y is)) (evict_closer l words (word_number l (Node n offset)) row.whole (words_within l (Node n offset) has))
   step_closer (counts durable ready pending unplaced) e knows = store_closer l words Clock _ tt (λ w alike. cc)
-  step_closer (unlocks {n = n} {f = freed} next pending durable unready answers) e knows = store_closer l words (Cached (Node n 0)) freed (knows.here, omega arith) (λ w alike. cc)
-  step_closer (claims {m = m} unplaced here same) e knows = store_closer l words (Cached (Node m 0)) _ (here, omega arith) (λ w alike. cc)
-  step_closer (publishes {freed = freed} {fresh = fresh} next left fresh') e knows = store_closer l words (Cached (Node fresh.node 0)) freed (knows.new.here, omega arith) (λ w alike. cc)
-  step_closer (leaves {freed = freed} {left = left} next) e knows = store_closer l words (Cached (Node left.node 0)) freed (knows.grip.here, omega arith) (λ w alike. cc)
+  step_closer (unlocks {n = n} {f = freed} next pending durable unready answers) e knows = store_closer l words (Cached (Node n version_offset)) freed (knows.here, omega arith) (λ w alike. cc)
+  step_closer (claims {m = m} unplaced here same) e knows = store_closer l words (Cached (Node m version_offset)) _ (here, omega arith) (λ w alike. cc)
+  step_closer (publishes {freed = freed} {fresh = fresh} next left fresh') e knows = store_closer l words (Cached (Node fresh.node version_offset)) freed (knows.new.here, omega arith) (λ w alike. cc)
+  step_closer (leaves {freed = freed} {left = left} next) e knows = store_closer l words (Cached (Node left.node version_offset)) freed (knows.grip.here, omega arith) (λ w alike. cc)
   step_closer (splits k) e knows = split_closer k knows
   step_closer (merges k) e knows = merge_closer k knows
 
@@ -109,7 +110,7 @@ module _ {l : Layout} {g : ℕ} (words : List ℕ) (base : Map) (history : List 
       → (w : Word) → HasWord l w → ((n offset : ℕ) → w ≡ Node n offset → ⊥) → at l (acted l words a) (Cached w) ≡ at l words (Cached w)
   split_cached (fills {y = y} {offset = offset} {fresh = fresh} has_word positive small within soils told) knows w has other =
       at-set_other l words (Cached (Node fresh.node offset)) (Cached w) y has_word has (λ alike. other fresh.node offset (word_of alike))
-  split_cached (lights {fresh = fresh} here leads) knows w has other = at-set_other l words (Volatile fresh.node 0) (Cached w) live_status (here, omega arith) has (λ alike. cc)
+  split_cached (lights {fresh = fresh} here leads) knows w has other = at-set_other l words (Volatile fresh.node status_offset) (Cached w) live_status (here, omega arith) has (λ alike. cc)
   split_cached (switches {left = left} {fresh = fresh} here small durable soiled cut told means) knows w has other =
       at-set_other l words (Cached (Node left.node next_offset)) (Cached w) fresh.node (here, omega arith) has (λ alike. other left.node next_offset (word_of alike))
   split_cached (glances_left {offset = offset} {left = left} has_word learnt) knows w has other = ap (λ (v : List ℕ). at l v (Cached w)) (set-get_or words (word_address l left.node offset) 0)
@@ -125,7 +126,7 @@ module _ {l : Layout} {g : ℕ} (words : List ℕ) (base : Map) (history : List 
 
   merge_cached : {s : Stage} {a : Action} {x : ℕ} {t : Stage} → (k : Merge l g s a x t) → Sure l g (facts_of l words base history) caller index since s
       → (w : Word) → HasWord l w → ((n offset : ℕ) → w ≡ Node n offset → ⊥) → at l (acted l words a) (Cached w) ≡ at l words (Cached w)
-  merge_cached (meets {m = m} here same untimed leads) knows w has other = at-set_other l words (Cached (Node m 0)) (Cached w) _ (here, omega arith) has (λ alike. other m 0 (word_of alike))
+  merge_cached (meets {m = m} here same untimed leads) knows w has other = at-set_other l words (Cached (Node m version_offset)) (Cached w) _ (here, omega arith) has (λ alike. other m 0 (word_of alike))
   merge_cached (knows_own {n = n} {offset = offset} has_word positive learnt) knows w has other = ap (λ (v : List ℕ). at l v (Cached w)) (set-get_or words (word_address l n offset) 0)
   merge_cached (knows_right {offset = offset} {right = right} has_word positive told) knows w has other = ap (λ (v : List ℕ). at l v (Cached w)) (set-get_or words (word_address l right.node offset) 0)
   merge_cached (copies {n = n} {y = y} {offset = offset} has_word content small soils learnt means) knows w has other =
@@ -135,7 +136,7 @@ module _ {l : Layout} {g : ℕ} (words : List ℕ) (base : Map) (history : List 
       let is = hand_is l words base history n offset y h.hand has_word hand knows.0.hand in
       ap (λ (v : List ℕ). at l v (Cached w)) (drain_evicts l words n offset y is) ∙ evict_cached l words (word_number l (Node n offset)) w has
   merge_cached (parts {freed = freed} {right = right} next) knows w has other =
-      at-set_other l words (Cached (Node right.node 0)) (Cached w) freed (knows.1.grip.here, omega arith) has (λ alike. other right.node 0 (word_of alike))
+      at-set_other l words (Cached (Node right.node version_offset)) (Cached w) freed (knows.1.grip.here, omega arith) has (λ alike. other right.node 0 (word_of alike))
   merge_cached (gathers {n = n} {y = y} small durable soiled told gathered) knows w has other =
       at-set_other l words (Cached (Node n bitmap_offset)) (Cached w) y (knows.0.here, omega arith) has (λ alike. other n bitmap_offset (word_of alike))
   merge_cached (joins {y = y} {left = left} small durable soiled next told) knows w has other =
@@ -144,16 +145,16 @@ module _ {l : Layout} {g : ℕ} (words : List ℕ) (base : Map) (history : List 
   merge_cached (drains_joined {y = y} {offset = offset} {left = left} has_word small hand cleans) knows w has other =
       let is = hand_is l words base history left.node offset y left.hand has_word hand knows.one.hand in
       ap (λ (v : List ℕ). at l v (Cached w)) (drain_evicts l words left.node offset y is) ∙ evict_cached l words (word_number l (Node left.node offset)) w has
-  merge_cached (retires {right = right} durable) knows w has other = at-set_other l words (Volatile right.node 0) (Cached w) gone_status (knows.other.here, omega arith) has (λ alike. cc)
+  merge_cached (retires {right = right} durable) knows w has other = at-set_other l words (Volatile right.node status_offset) (Cached w) gone_status (knows.other.here, omega arith) has (λ alike. cc)
   merge_cached (yields {freed = freed} {right = right} next durable) knows w has other =
-      at-set_other l words (Cached (Node right.node 0)) (Cached w) freed (knows.other.here, omega arith) has (λ alike. other right.node 0 (word_of alike))
+      at-set_other l words (Cached (Node right.node version_offset)) (Cached w) freed (knows.other.here, omega arith) has (λ alike. other right.node 0 (word_of alike))
 
   -- the cached words that are no node's stay
   pub step_cached : {s : Stage} {a : Action} {x : ℕ} {t : Stage} {r : Option (Once Placed)} → (k : Step l g s a x t r) → x ≡ got l words a
       → Sure l g (facts_of l words base history) caller index since s → (w : Word) → HasWord l w → ((n offset : ℕ) → w ≡ Node n offset → ⊥) → at l (acted l words a) (Cached w) ≡ at l words (Cached w)
   step_cached (looks look) e knows w has other = ap (λ (v : List ℕ). at l v (Cached w)) (look_keeps look words e)
-  step_cached (locks {n = n} same named live between) e knows w has other = at-set_other l words (Cached (Node n 0)) (Cached w) _ (knows.here, omega arith) has (λ alike. other n 0 (word_of alike))
-  step_cached (locks_read {n = n} same named live between unworn taken small) e knows w has other = at-set_other l words (Cached (Node n 0)) (Cached w) _ (knows.here, omega arith) has (λ alike. other n 0 (word_of alike))
+  step_cached (locks {n = n} same named live between) e knows w has other = at-set_other l words (Cached (Node n version_offset)) (Cached w) _ (knows.here, omega arith) has (λ alike. other n 0 (word_of alike))
+  step_cached (locks_read {n = n} same named live between unworn taken small) e knows w has other = at-set_other l words (Cached (Node n version_offset)) (Cached w) _ (knows.here, omega arith) has (λ alike. other n 0 (word_of alike))
   step_cached (stores {n = n} {y = y} {offset = offset} has_word content small clean soils learnt means) e knows w has other =
       at-set_other l words (Cached (Node n offset)) (Cached w) y has_word has (λ alike. other n offset (word_of alike))
   step_cached (commits {n = n} {y = y} {offset = offset} has_word content small clean durable soiled old about learnt means) e knows w has other =
@@ -163,12 +164,12 @@ module _ {l : Layout} {g : ℕ} (words : List ℕ) (base : Map) (history : List 
       ap (λ (v : List ℕ). at l v (Cached w)) (drain_evicts l words n offset y is) ∙ evict_cached l words (word_number l (Node n offset)) w has
   step_cached (counts durable ready pending unplaced) e knows w has other = at-set_other l words Clock (Cached w) _ tt has (λ alike. cc)
   step_cached (unlocks {n = n} {f = freed} next pending durable unready answers) e knows w has other =
-      at-set_other l words (Cached (Node n 0)) (Cached w) freed (knows.here, omega arith) has (λ alike. other n 0 (word_of alike))
-  step_cached (claims {m = m} unplaced here same) e knows w has other = at-set_other l words (Cached (Node m 0)) (Cached w) _ (here, omega arith) has (λ alike. other m 0 (word_of alike))
+      at-set_other l words (Cached (Node n version_offset)) (Cached w) freed (knows.here, omega arith) has (λ alike. other n 0 (word_of alike))
+  step_cached (claims {m = m} unplaced here same) e knows w has other = at-set_other l words (Cached (Node m version_offset)) (Cached w) _ (here, omega arith) has (λ alike. other m 0 (word_of alike))
   step_cached (publishes {freed = freed} {fresh = fresh} next left fresh') e knows w has other =
-      at-set_other l words (Cached (Node fresh.node 0)) (Cached w) freed (knows.new.here, omega arith) has (λ alike. other fresh.node 0 (word_of alike))
+      at-set_other l words (Cached (Node fresh.node version_offset)) (Cached w) freed (knows.new.here, omega arith) has (λ alike. other fresh.node 0 (word_of alike))
   step_cached (leaves {freed = freed} {left = left} next) e knows w has other =
-      at-set_other l words (Cached (Node left.node 0)) (Cached w) freed (knows.grip.here, omega arith) has (λ alike. other left.node 0 (word_of alike))
+      at-set_other l words (Cached (Node left.node version_offset)) (Cached w) freed (knows.grip.here, omega arith) has (λ alike. other left.node 0 (word_of alike))
   step_cached (splits k) e knows w has other = split_cached k knows w has other
   step_cached (merges k) e knows w has other = merge_cached k knows w has other
 

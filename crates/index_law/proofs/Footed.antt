@@ -14,6 +14,7 @@ use Rattle.pm_words.proofs.Apart.{at-set_other}
 use Rattle.pm_words.proofs.Made.{fresh_at}
 use Rattle.data_node.specs.Spots.{Spot}
 use Rattle.data_node.specs.Lists.{next_offset}
+use Rattle.pm_words.specs.Offsets.{prev_offset, stamp_offset, status_offset}
 use Rattle.call_stages.specs.Stages.{Stage, Idle, HoldsNode, Tells}
 use Rattle.call_stages.specs.Kinds.{HasWordAt}
 use Rattle.call_stages.specs.Lines.{HeldLine}
@@ -215,23 +216,23 @@ module _ (l : Layout) (layout : IsLayout l) where
   -- the prevs 0,
   zero_prev : (n : ℕ) → prev_in l (fresh_row l) n ≡ 0
   unfolding prev_in
-  zero_prev n = guarded _ (at l (fresh_row l) (Volatile n 1)) (λ here.
-      let has : HasLocation l (Volatile n 1) = (ltb-true n l.nodes here, omega arith) in
-      stays_zero (Volatile n 1) has (λ e. let no : 1 ≡ 0 = ap offset_at e in omega arith) (marked-at_volatile l (Volatile n 1) has (omega arith) (λ e. cc)))
+  zero_prev n = guarded _ (at l (fresh_row l) (Volatile n prev_offset)) (λ here.
+      let has : HasLocation l (Volatile n prev_offset) = (ltb-true n l.nodes here, omega arith) in
+      stays_zero (Volatile n prev_offset) has (λ e. let no : 1 ≡ 0 = ap offset_at e in omega arith) (marked-at_volatile l (Volatile n prev_offset) has (omega arith) (λ e. cc)))
 
   -- the other nodes FREE,
   zero_status : (n : ℕ) → n ≢ 0 → status_in l (fresh_row l) n ≡ 0
   unfolding status_in
-  zero_status n other = guarded _ (at l (fresh_row l) (Volatile n 0)) (λ here.
-      let has : HasLocation l (Volatile n 0) = (ltb-true n l.nodes here, omega arith) in
-      stays_zero (Volatile n 0) has (λ e. other (ap node_at e)) (marked-at_volatile l (Volatile n 0) has (omega arith) (λ e. cc)))
+  zero_status n other = guarded _ (at l (fresh_row l) (Volatile n status_offset)) (λ here.
+      let has : HasLocation l (Volatile n status_offset) = (ltb-true n l.nodes here, omega arith) in
+      stays_zero (Volatile n status_offset) has (λ e. other (ap node_at e)) (marked-at_volatile l (Volatile n status_offset) has (omega arith) (λ e. cc)))
 
   -- and no node leads to another
   zero_next : (n : ℕ) → n < l.nodes → spot_in l (fresh_row l) n next_offset ≡ 0
   zero_next n here =
       let has : HasWordAt l n 2 = (here, omega arith) in
       spot_in-here l (fresh_row l) n 2 has (omega arith)
-      ∙ stays_zero (Cached (Node n 2)) has (λ e. cc) ((marked-at l (Node n 2) layout has).0 ∙ fresh_at l (Node n 2) has)
+      ∙ stays_zero (Cached (Node n next_offset)) has (λ e. cc) ((marked-at l (Node n next_offset) layout has).0 ∙ fresh_at l (Node n next_offset) has)
 
 pub fresh_footed : FreshIsFooted
 fresh_footed l parties lines debts layout free since =
@@ -274,13 +275,13 @@ pub stamp_footed : StampIsFooted
 stamp_footed z n is here lawful =
     let l = z.world.layout in
     let words = z.world.words in
-    let p : Location = Volatile n 2 in
-    let has : HasLocation l (Volatile n 2) = (here, omega arith) in
-    moved_footed z (set words (address_of l (Volatile n 2)) 1) z.world.parties is lawful
+    let p : Location = Volatile n stamp_offset in
+    let has : HasLocation l (Volatile n stamp_offset) = (here, omega arith) in
+    moved_footed z (set words (address_of l (Volatile n stamp_offset)) 1) z.world.parties is lawful
     (record { forth = λ i q there. (q, there, refl, refl); back = λ i q there. (q, there, refl, refl) })
-    (facts-elsewhere l words z.world.base z.world.history (Volatile n 2) 1 has (λ m o e. cc, λ m e. let no : 2 ≡ 0 = ap offset_at e in omega arith))
-    (store_prev l words (Volatile n 2) 1 has (λ k e. let no : 1 ≡ 2 = ap offset_at e in omega arith))
-    (store_leaves l words (Volatile n 2) 1 has (λ c j o. (λ e. cc, λ e. cc)))
+    (facts-elsewhere l words z.world.base z.world.history (Volatile n stamp_offset) 1 has (λ m o e. cc, λ m e. let no : 2 ≡ 0 = ap offset_at e in omega arith))
+    (store_prev l words (Volatile n stamp_offset) 1 has (λ k e. let no : 1 ≡ 2 = ap offset_at e in omega arith))
+    (store_leaves l words (Volatile n stamp_offset) 1 has (λ c j o. (λ e. cc, λ e. cc)))
 
 -- an index with no call in flight as its next round begins, with other idle parties
 pub round_footed : RoundIsFooted

@@ -24,6 +24,7 @@ use Rattle.index_law.specs.Worlds.{Party, facts}
 use Rattle.index_law.specs.Lawful.{IsList, AreLive, IsSettled, AreKnown}
 use Rattle.index_law.specs.Twins.{IsBlank, IsFront}
 use Rattle.data_node.proofs.ListLemmas.{chain_is}
+use Rattle.pm_words.specs.Offsets.{status_offset, version_offset}
 use Rattle.index_law.proofs.Actions.{status_outside}
 use Rattle.index_law.proofs.Twins.{IsNearer, nearer, store_closer, closer_spot, closer_versions, closer_front, cached_front}
 use Rattle.index_law.specs.Laws.{marked_row, fresh_row, FreshIsAtRest, fresh_world}
@@ -75,7 +76,7 @@ blank_zero l (Cell kind k o) is = absurd is
 
 -- each status is 0
 fresh_status : (l : Layout) (n : ℕ) → IsLayout l → n < l.nodes → status_in l (marked_row l) n ≡ 0
-fresh_status l n layout here = status_in-here l (marked_row l) n here ∙ marked-at_volatile l (Volatile n 0) (here, omega arith) (omega arith) (λ e. cc)
+fresh_status l n layout here = status_in-here l (marked_row l) n here ∙ marked-at_volatile l (Volatile n status_offset) (here, omega arith) (omega arith) (λ e. cc)
 
 module _ (l : Layout) (parties : List Party) (layout : IsLayout l) where
   abbrev row : List ℕ
@@ -182,7 +183,7 @@ fresh_law l parties layout idle begun =
           (closer_spot l row w.words near n offset)
           ∙ sym (ap (λ (f : Facts). f.now n offset) is);
       durable_versions = closer_versions l row w.words empty [] near 1 known
-          (λ n below. subst (λ (v : ℕ). generation_of v ≤ 1) (sym (fresh_durable l (Node n 0) layout (below, omega arith))) (omega arith));
+          (λ n below. subst (λ (v : ℕ). generation_of v ≤ 1) (sym (fresh_durable l (Node n version_offset) layout (below, omega arith))) (omega arith));
       front = cached_front l 1 row w.words (λ v has other. at-set_other l row (Volatile 0 0) (Cached v) live_status (here, omega arith) has (λ e. cc)) front;
       durable_front = closer_front l 1 row w.words near front (record {
         generation = fresh_durable l (Header 5) layout (omega arith);

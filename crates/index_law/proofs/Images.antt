@@ -10,6 +10,7 @@ use Rattle.data_node.specs.Spots.{Spot, IsTidy, Means}
 use Rattle.data_node.specs.Lines.{IsFitLine}
 use Rattle.data_node.specs.Lists.{members_from, range_in, IsIn, MakeList}
 use Rattle.data_node.specs.Weights.{list_weight}
+use Rattle.pm_words.specs.Offsets.{version_offset}
 use Rattle.image_rules.specs.Nodes.{image_spot}
 use Rattle.image_rules.specs.Sound.{image_map}
 use Rattle.image_rules.specs.Laws.{KeepsRules}
@@ -86,7 +87,7 @@ rules w lawful fit =
     record {
       generation = subst IsGeneration (sym generation) lawful.run;
       spare = λ v spare. durable_row-at l w.words v ∙ lawful.durable_front.blank v (spare_blank v spare);
-      versions = λ n here. subst (λ (v : ℕ). generation_of v ≤ word_at l image (Header 5)) (sym (durable_row-at l w.words (Node n 0)))
+      versions = λ n here. subst (λ (v : ℕ). generation_of v ≤ word_at l image (Header 5)) (sym (durable_row-at l w.words (Node n version_offset)))
           (let known = lawful.durable_versions n here in omega (arith, generation));
       list = in_image l w.words (λ now. MakeList l.nodes now (members_from now l.nodes 0)) durable.list;
       tidy = in_image l w.words (λ now. (n : ℕ) → IsIn (members_from now l.nodes 0) n → IsTidy l.slots (now n)) (λ n listed. (durable.means n listed).means.tidy);

@@ -23,6 +23,7 @@ use Rattle.index_law.specs.Facts.{Facts, facts_of, cached_word, spot_in, map_now
 use Rattle.index_law.specs.Worlds.{written}
 use Rattle.data_node.specs.Spots.{bitmap_offset}
 use Rattle.data_node.specs.Lists.{next_offset}
+use Rattle.pm_words.specs.Offsets.{status_offset, version_offset}
 use Rattle.call_stages.specs.Kinds.{status_address, prev_address, IsContent}
 use Rattle.index_law.specs.Facts.{IsListed}
 use Rattle.index_law.specs.Lawful.{IsList, Sure}
@@ -477,7 +478,7 @@ module _ {l : Layout} {g : ℕ} where
     split_clock : {s : Stage} {a : Action} {x : ℕ} {t : Stage} → (k : Split l g s a x t) → IsRow l ws → slice_index ws (clock_address l) ≡ length h → x ≡ got l ws a
         → slice_index (acted l ws a) (clock_address l) ≡ length h
     split_clock (fills {y = y} {offset = offset} {fresh = fresh} has positive small within soils told) row clock e = beside l ws (Cached (Node fresh.node offset)) y has (λ alike. cc) ∙ clock
-    split_clock (lights {fresh = fresh} here leads) row clock e = beside l ws (Volatile fresh.node 0) live_status (here, omega arith) (λ alike. cc) ∙ clock
+    split_clock (lights {fresh = fresh} here leads) row clock e = beside l ws (Volatile fresh.node status_offset) live_status (here, omega arith) (λ alike. cc) ∙ clock
     split_clock (switches {left = left} {fresh = fresh} here small durable soiled cut told means) row clock e =
         beside l ws (Cached (Node left.node next_offset)) fresh.node (here, omega arith) (λ alike. cc) ∙ clock
     split_clock (glances_left {offset = offset} {left = left} has learnt) row clock e = ap (λ (v : List ℕ). slice_index v (clock_address l)) (set-get_or ws (word_address l left.node offset) 0) ∙ clock
@@ -493,7 +494,7 @@ module _ {l : Layout} {g : ℕ} where
 
     merge_clock : {s : Stage} {a : Action} {x : ℕ} {t : Stage} → (k : Merge l g s a x t) → IsRow l ws → slice_index ws (clock_address l) ≡ length h → x ≡ got l ws a
         → Sure l g (facts_of l ws base h) caller index since s → slice_index (acted l ws a) (clock_address l) ≡ length h
-    merge_clock (meets {m = m} there same untimed leads) row clock e knows = beside l ws (Cached (Node m 0)) _ (there, omega arith) (λ alike. cc) ∙ clock
+    merge_clock (meets {m = m} there same untimed leads) row clock e knows = beside l ws (Cached (Node m version_offset)) _ (there, omega arith) (λ alike. cc) ∙ clock
     merge_clock (knows_own {n = n} {offset = offset} has positive learnt) row clock e knows = ap (λ (v : List ℕ). slice_index v (clock_address l)) (set-get_or ws (word_address l n offset) 0) ∙ clock
     merge_clock (knows_right {offset = offset} {right = right} has positive told) row clock e knows =
         ap (λ (v : List ℕ). slice_index v (clock_address l)) (set-get_or ws (word_address l right.node offset) 0) ∙ clock
@@ -501,7 +502,7 @@ module _ {l : Layout} {g : ℕ} where
     merge_clock (takes_up {n = n} {offset = offset} has) row clock e knows = ap (λ (v : List ℕ). slice_index v (clock_address l)) (set-get_or ws (word_address l n offset) 0) ∙ clock
     merge_clock (puts_down {n = n} {y = y} {offset = offset} has small hand cleans) row clock e knows =
         ap (λ (place : ℕ). slice_index (slice_set ws place y) (clock_address l)) (action_address-drain l (Node n offset) y) ∙ beside l ws (Durable (Node n offset)) y has (λ alike. cc) ∙ clock
-    merge_clock (parts {freed = freed} {right = right} next) row clock e knows = beside l ws (Cached (Node right.node 0)) freed (knows.1.grip.here, omega arith) (λ alike. cc) ∙ clock
+    merge_clock (parts {freed = freed} {right = right} next) row clock e knows = beside l ws (Cached (Node right.node version_offset)) freed (knows.1.grip.here, omega arith) (λ alike. cc) ∙ clock
     merge_clock (gathers {n = n} {y = y} small durable soiled told gathered) row clock e knows = beside l ws (Cached (Node n bitmap_offset)) y (knows.0.here, omega arith) (λ alike. cc) ∙ clock
     merge_clock (joins {y = y} {left = left} small durable soiled next told) row clock e knows =
         beside l ws (Cached (Node left.node next_offset)) y (knows.one.here, omega arith) (λ alike. cc) ∙ clock
@@ -510,8 +511,8 @@ module _ {l : Layout} {g : ℕ} where
     merge_clock (drains_joined {y = y} {offset = offset} {left = left} has small hand cleans) row clock e knows =
         ap (λ (place : ℕ). slice_index (slice_set ws place y) (clock_address l)) (action_address-drain l (Node left.node offset) y)
         ∙ beside l ws (Durable (Node left.node offset)) y has (λ alike. cc) ∙ clock
-    merge_clock (retires {right = right} durable) row clock e knows = beside l ws (Volatile right.node 0) gone_status (knows.other.here, omega arith) (λ alike. cc) ∙ clock
-    merge_clock (yields {freed = freed} {right = right} next durable) row clock e knows = beside l ws (Cached (Node right.node 0)) freed (knows.other.here, omega arith) (λ alike. cc) ∙ clock
+    merge_clock (retires {right = right} durable) row clock e knows = beside l ws (Volatile right.node status_offset) gone_status (knows.other.here, omega arith) (λ alike. cc) ∙ clock
+    merge_clock (yields {freed = freed} {right = right} next durable) row clock e knows = beside l ws (Cached (Node right.node version_offset)) freed (knows.other.here, omega arith) (λ alike. cc) ∙ clock
 
     -- the clock counts the history
     pub clock_step : {s : Stage} {a : Action} {x : ℕ} {t : Stage} {r : Option (Once Placed)} → (k : Step l g s a x t r) → IsRow l ws
@@ -519,8 +520,8 @@ module _ {l : Layout} {g : ℕ} where
         → slice_index (acted l ws a) (clock_address l) ≡ length (h ++ written caller index (counted s))
     clock_step (looks look) row clock e knows =
         ap (λ (v : List ℕ). slice_index v (clock_address l)) (look_keeps look ws e) ∙ clock ∙ lengths h _ (look_adds look caller index)
-    clock_step (locks {n = n} same named live between) row clock e knows = beside l ws (Cached (Node n 0)) _ (here knows, omega arith) (λ alike. cc) ∙ clock ∙ lengths h [] refl
-    clock_step (locks_read {n = n} same named live between unworn taken small) row clock e knows = beside l ws (Cached (Node n 0)) _ (knows.here, omega arith) (λ alike. cc) ∙ clock ∙ lengths h [] refl
+    clock_step (locks {n = n} same named live between) row clock e knows = beside l ws (Cached (Node n version_offset)) _ (here knows, omega arith) (λ alike. cc) ∙ clock ∙ lengths h [] refl
+    clock_step (locks_read {n = n} same named live between unworn taken small) row clock e knows = beside l ws (Cached (Node n version_offset)) _ (knows.here, omega arith) (λ alike. cc) ∙ clock ∙ lengths h [] refl
     clock_step (stores {n = n} {w = w} {y = y} {offset = offset} {h = held} has content small clean soils learnt means) row clock e knows =
         beside l ws (Cached (Node n offset)) y has (λ alike. cc) ∙ clock ∙ lengths h _ (unready_adds n w held caller index clean.ready)
     clock_step (commits {n = n} {w = w} {y = y} {offset = offset} {h = held} has content small clean durable soiled old about learnt means) row clock e knows =
@@ -534,11 +535,11 @@ module _ {l : Layout} {g : ℕ} where
         ∙ ap (λ (m : ℕ). m + 1) clock ∙ sym (length-append h (write ∷ []))
         ∙ ap (λ (u : List Write). length (h ++ u)) (sym (ready_adds n w held c caller index ready pending))
     clock_step (unlocks {n = n} {w = w} {f = freed} {h = held} next pending durable unready answers) row clock e knows =
-        beside l ws (Cached (Node n 0)) freed (knows.here, omega arith) (λ alike. cc) ∙ clock ∙ lengths h _ (unready_adds n w held caller index unready)
-    clock_step (claims {m = m} unplaced there same) row clock e knows = beside l ws (Cached (Node m 0)) _ (there, omega arith) (λ alike. cc) ∙ clock ∙ lengths h [] refl
+        beside l ws (Cached (Node n version_offset)) freed (knows.here, omega arith) (λ alike. cc) ∙ clock ∙ lengths h _ (unready_adds n w held caller index unready)
+    clock_step (claims {m = m} unplaced there same) row clock e knows = beside l ws (Cached (Node m version_offset)) _ (there, omega arith) (λ alike. cc) ∙ clock ∙ lengths h [] refl
     clock_step (publishes {freed = freed} {fresh = fresh} next left fresh') row clock e knows =
-        beside l ws (Cached (Node fresh.node 0)) freed (knows.new.here, omega arith) (λ alike. cc) ∙ clock ∙ lengths h [] refl
+        beside l ws (Cached (Node fresh.node version_offset)) freed (knows.new.here, omega arith) (λ alike. cc) ∙ clock ∙ lengths h [] refl
     clock_step (leaves {freed = freed} {left = left} next) row clock e knows =
-        beside l ws (Cached (Node left.node 0)) freed (knows.grip.here, omega arith) (λ alike. cc) ∙ clock ∙ lengths h [] refl
+        beside l ws (Cached (Node left.node version_offset)) freed (knows.grip.here, omega arith) (λ alike. cc) ∙ clock ∙ lengths h [] refl
     clock_step (splits k) row clock e knows = split_clock k row clock e ∙ lengths h _ (split_adds k caller index)
     clock_step (merges k) row clock e knows = merge_clock k row clock e knows ∙ lengths h _ (merge_adds k caller index)

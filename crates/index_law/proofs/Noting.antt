@@ -12,6 +12,7 @@ use Rattle.pm_words.proofs.Apart.{at-set_same, at-set_other, addresses_within}
 use Rattle.pm_words.proofs.Kept.{action_address-drain, acted_row, outside_header, names_cached, keeps_header}
 use Rattle.data_node.specs.Spots.{Spot, updated}
 use Rattle.data_node.proofs.SpotLemmas.{updated-same, updated-other}
+use Rattle.pm_words.specs.Offsets.{status_offset, version_offset}
 use Rattle.call_stages.specs.Stages.{IsAmong, Held, just_held, Tells}
 use Rattle.call_stages.specs.Kinds.{Cleans, word_address, status_address, prev_address, clock_address}
 use Rattle.call_stages.specs.Lines.{HeldLine, line_address, IsEntry, IsFitLine, Marks, fills, opens, readies, TellsDurably, looks_up, notes, keeps_safe}
@@ -83,21 +84,21 @@ nodes_leave_lines l words s a c j offset loads_clock = load_leaves l words (acte
 nodes_leave_lines l words s a c j offset (loads_word {n = n} {offset = o} has) = load_leaves l words (acted l words a) (set-get_or words (word_address l n o) 0) c j offset
 nodes_leave_lines l words s a c j offset (loads_status {n = n} here) = load_leaves l words (acted l words a) (set-get_or words (status_address l n) 0) c j offset
 nodes_leave_lines l words s a c j offset (loads_prev {n = n} here) = load_leaves l words (acted l words a) (set-get_or words (prev_address l n) 0) c j offset
-nodes_leave_lines l words s a c j offset (exchanges {n = n} here) = store_leaves l words (Cached (Node n 0)) _ (here, omega arith) (no_line_node n 0) c j offset
-nodes_leave_lines l words s a c j offset (exchanges_read {n = n} here small) = store_leaves l words (Cached (Node n 0)) _ (here, omega arith) (no_line_node n 0) c j offset
+nodes_leave_lines l words s a c j offset (exchanges {n = n} here) = store_leaves l words (Cached (Node n version_offset)) _ (here, omega arith) (no_line_node n 0) c j offset
+nodes_leave_lines l words s a c j offset (exchanges_read {n = n} here small) = store_leaves l words (Cached (Node n version_offset)) _ (here, omega arith) (no_line_node n 0) c j offset
 nodes_leave_lines l words s a c j offset (stores_word {n = n} {y = y} {offset = o} holds has positive small) = store_leaves l words (Cached (Node n o)) y has (no_line_node n o) c j offset
 nodes_leave_lines l words s a c j offset (stores_status {n = n} {y = y} holds here small) =
-    store_leaves l words (Volatile n 0) y (here, omega arith) (λ d k q. (λ e. cc, λ e. cc)) c j offset
+    store_leaves l words (Volatile n status_offset) y (here, omega arith) (λ d k q. (λ e. cc, λ e. cc)) c j offset
 nodes_leave_lines l words s a c j offset (drains_word {n = n} {y = y} {offset = o} holds has small) =
     subst (λ (address : ℕ). LinesStay l words (slice_set words address y) c j offset) (sym (action_address-drain l (Node n o) y))
     (store_leaves l words (Durable (Node n o)) y has (λ d k q. (λ e. cc, λ e. cc)) c j offset)
 nodes_leave_lines l words s a c j offset adds = store_leaves l words Clock _ tt (λ d k q. (λ e. cc, λ e. cc)) c j offset
-nodes_leave_lines l words s a c j offset (claims_node {m = m} here) = store_leaves l words (Cached (Node m 0)) _ (here, omega arith) (no_line_node m 0) c j offset
-nodes_leave_lines l words s a c j offset (frees_fresh {fresh = fresh} here next) = store_leaves l words (Cached (Node fresh.node 0)) _ (here, omega arith) (no_line_node fresh.node 0) c j offset
-nodes_leave_lines l words s a c j offset (frees_left {left = left} here next) = store_leaves l words (Cached (Node left.node 0)) _ (here, omega arith) (no_line_node left.node 0) c j offset
-nodes_leave_lines l words s a c j offset (frees_met {right = right} here next) = store_leaves l words (Cached (Node right.node 0)) _ (here, omega arith) (no_line_node right.node 0) c j offset
-nodes_leave_lines l words s a c j offset (frees_right {right = right} here next) = store_leaves l words (Cached (Node right.node 0)) _ (here, omega arith) (no_line_node right.node 0) c j offset
-nodes_leave_lines l words s a c j offset (frees {n = n} here next) = store_leaves l words (Cached (Node n 0)) _ (here, omega arith) (no_line_node n 0) c j offset
+nodes_leave_lines l words s a c j offset (claims_node {m = m} here) = store_leaves l words (Cached (Node m version_offset)) _ (here, omega arith) (no_line_node m 0) c j offset
+nodes_leave_lines l words s a c j offset (frees_fresh {fresh = fresh} here next) = store_leaves l words (Cached (Node fresh.node version_offset)) _ (here, omega arith) (no_line_node fresh.node 0) c j offset
+nodes_leave_lines l words s a c j offset (frees_left {left = left} here next) = store_leaves l words (Cached (Node left.node version_offset)) _ (here, omega arith) (no_line_node left.node 0) c j offset
+nodes_leave_lines l words s a c j offset (frees_met {right = right} here next) = store_leaves l words (Cached (Node right.node version_offset)) _ (here, omega arith) (no_line_node right.node 0) c j offset
+nodes_leave_lines l words s a c j offset (frees_right {right = right} here next) = store_leaves l words (Cached (Node right.node version_offset)) _ (here, omega arith) (no_line_node right.node 0) c j offset
+nodes_leave_lines l words s a c j offset (frees {n = n} here next) = store_leaves l words (Cached (Node n version_offset)) _ (here, omega arith) (no_line_node n 0) c j offset
 
 -- lines in order stay so in a closer row with the same cached words
 fits_closer : (l : Layout) (words words' : List ℕ) → ((c j offset : ℕ) → line_in l words' c j offset ≡ line_in l words c j offset)

@@ -37,6 +37,7 @@ use Rattle.call_stages.specs.Prevs.{Debt, no_debt, Leads, IsRetire, Deals, keeps
 use Rattle.index_law.proofs.Bystanders.{IsSteady}
 use Rattle.index_law.proofs.Law.{step_law}
 use Rattle.data_node.proofs.ListLemmas.{not_behind, rise_at}
+use Rattle.pm_words.specs.Offsets.{prev_offset, status_offset, version_offset}
 use Rattle.index_law.proofs.Locks.{steady_else, steadies}
 use Rattle.index_law.proofs.Moves.{fact_after, facts_step, gives}
 use Rattle.index_law.proofs.Noting.{beside_law}
@@ -50,11 +51,11 @@ use Rattle.index_law.proofs.Switch.{rise_from, leads_on}
 use Rattle.index_law.proofs.Twins.{nearer, store_closer}
 
 -- prev words are elsewhere than what a step on nodes stores into
-pub store_prev : (l : Layout) (words : List ℕ) (p : Location) (y : ℕ) → HasLocation l p → ((n : ℕ) → Volatile n 1 ≢ p) → (n : ℕ) → prev_in l (slice_set words (address_of l p) y) n ≡ prev_in l words n
+pub store_prev : (l : Layout) (words : List ℕ) (p : Location) (y : ℕ) → HasLocation l p → ((n : ℕ) → Volatile n prev_offset ≢ p) → (n : ℕ) → prev_in l (slice_set words (address_of l p) y) n ≡ prev_in l words n
 unfolding prev_in
 store_prev l words p y has other n =
-    elim (nat_lt n l.nodes) as (λ b. nat_lt n l.nodes ≡ b → cond b (at l (slice_set words (address_of l p) y) (Volatile n 1)) 0 ≡ cond b (at l words (Volatile n 1)) 0) [
-      | true ↦ λ is. at-set_other l words p (Volatile n 1) y has (ltb-true n l.nodes is, omega arith) (other n)
+    elim (nat_lt n l.nodes) as (λ b. nat_lt n l.nodes ≡ b → cond b (at l (slice_set words (address_of l p) y) (Volatile n prev_offset)) 0 ≡ cond b (at l words (Volatile n prev_offset)) 0) [
+      | true ↦ λ is. at-set_other l words p (Volatile n prev_offset) y has (ltb-true n l.nodes is, omega arith) (other n)
       | false ↦ λ _. refl
     ] refl
 
@@ -63,19 +64,19 @@ nodes_leave_prevs l words s a n loads_clock = ap (λ v. prev_in l v n) (set-get_
 nodes_leave_prevs l words s a n (loads_word {n = m} {offset = o} has) = ap (λ v. prev_in l v n) (set-get_or words (word_address l m o) 0)
 nodes_leave_prevs l words s a n (loads_status {n = m} here) = ap (λ v. prev_in l v n) (set-get_or words (status_address l m) 0)
 nodes_leave_prevs l words s a n (loads_prev {n = m} here) = ap (λ v. prev_in l v n) (set-get_or words (prev_address l m) 0)
-nodes_leave_prevs l words s a n (exchanges {n = m} here) = store_prev l words (Cached (Node m 0)) _ (here, omega arith) (λ k e. cc) n
-nodes_leave_prevs l words s a n (exchanges_read {n = m} here small) = store_prev l words (Cached (Node m 0)) _ (here, omega arith) (λ k e. cc) n
+nodes_leave_prevs l words s a n (exchanges {n = m} here) = store_prev l words (Cached (Node m version_offset)) _ (here, omega arith) (λ k e. cc) n
+nodes_leave_prevs l words s a n (exchanges_read {n = m} here small) = store_prev l words (Cached (Node m version_offset)) _ (here, omega arith) (λ k e. cc) n
 nodes_leave_prevs l words s a n (stores_word {n = m} {y = y} {offset = o} holds has positive small) = store_prev l words (Cached (Node m o)) y has (λ k e. cc) n
-nodes_leave_prevs l words s a n (stores_status {n = m} {y = y} holds here small) = store_prev l words (Volatile m 0) y (here, omega arith) (λ k e. cc) n
+nodes_leave_prevs l words s a n (stores_status {n = m} {y = y} holds here small) = store_prev l words (Volatile m status_offset) y (here, omega arith) (λ k e. cc) n
 nodes_leave_prevs l words s a n (drains_word {n = m} {y = y} {offset = o} holds has small) =
     ap (λ (place : ℕ). prev_in l (slice_set words place y) n) (action_address-drain l (Node m o) y) ∙ store_prev l words (Durable (Node m o)) y has (λ k e. cc) n
 nodes_leave_prevs l words s a n adds = store_prev l words Clock _ tt (λ k e. cc) n
-nodes_leave_prevs l words s a n (claims_node {m = m} here) = store_prev l words (Cached (Node m 0)) _ (here, omega arith) (λ k e. cc) n
-nodes_leave_prevs l words s a n (frees_fresh {fresh = fresh} here next) = store_prev l words (Cached (Node fresh.node 0)) _ (here, omega arith) (λ k e. cc) n
-nodes_leave_prevs l words s a n (frees_left {left = left} here next) = store_prev l words (Cached (Node left.node 0)) _ (here, omega arith) (λ k e. cc) n
-nodes_leave_prevs l words s a n (frees_met {right = right} here next) = store_prev l words (Cached (Node right.node 0)) _ (here, omega arith) (λ k e. cc) n
-nodes_leave_prevs l words s a n (frees_right {right = right} here next) = store_prev l words (Cached (Node right.node 0)) _ (here, omega arith) (λ k e. cc) n
-nodes_leave_prevs l words s a n (frees {n = m} here next) = store_prev l words (Cached (Node m 0)) _ (here, omega arith) (λ k e. cc) n
+nodes_leave_prevs l words s a n (claims_node {m = m} here) = store_prev l words (Cached (Node m version_offset)) _ (here, omega arith) (λ k e. cc) n
+nodes_leave_prevs l words s a n (frees_fresh {fresh = fresh} here next) = store_prev l words (Cached (Node fresh.node version_offset)) _ (here, omega arith) (λ k e. cc) n
+nodes_leave_prevs l words s a n (frees_left {left = left} here next) = store_prev l words (Cached (Node left.node version_offset)) _ (here, omega arith) (λ k e. cc) n
+nodes_leave_prevs l words s a n (frees_met {right = right} here next) = store_prev l words (Cached (Node right.node version_offset)) _ (here, omega arith) (λ k e. cc) n
+nodes_leave_prevs l words s a n (frees_right {right = right} here next) = store_prev l words (Cached (Node right.node version_offset)) _ (here, omega arith) (λ k e. cc) n
+nodes_leave_prevs l words s a n (frees {n = m} here next) = store_prev l words (Cached (Node m version_offset)) _ (here, omega arith) (λ k e. cc) n
 
 -- two chains over one list lead on alike
 pub chain_next : (now now' : ℕ → Spot) (here : ℕ) (list : List ListNode) → IsChain now here list → IsChain now' here list → (n : ℕ) → (n ≡ here) ⊎ IsMember list n → now' n next_offset ≡ now n next_offset
@@ -521,7 +522,7 @@ step_traces z i p a x t r d d' traced there owing k told room deals =
 
 pub prev_here : (l : Layout) (words : List ℕ) (m y : ℕ) → length words ≡ row_words l → m < l.nodes → prev_in l (slice_set words (prev_address l m) y) m ≡ y
 unfolding prev_in
-prev_here l words m y whole here = rw (lt-ltb m l.nodes here) (at-set_same l words (Volatile m 1) y whole (here, omega arith))
+prev_here l words m y whole here = rw (lt-ltb m l.nodes here) (at-set_same l words (Volatile m prev_offset) y whole (here, omega arith))
 
 abbrev node_of_place : Location → ℕ
 node_of_place (Volatile n o) = n
@@ -530,8 +531,8 @@ node_of_place _ = 0
 pub prev_else : (l : Layout) (words : List ℕ) (m y n : ℕ) → m < l.nodes → n ≢ m → prev_in l (slice_set words (prev_address l m) y) n ≡ prev_in l words n
 unfolding prev_in
 prev_else l words m y n here other =
-    elim (nat_lt n l.nodes) as (λ b. nat_lt n l.nodes ≡ b → cond b (at l (slice_set words (prev_address l m) y) (Volatile n 1)) 0 ≡ cond b (at l words (Volatile n 1)) 0) [
-      | true ↦ λ is. at-set_other l words (Volatile m 1) (Volatile n 1) y (here, omega arith) (ltb-true n l.nodes is, omega arith) (λ e. other (ap node_of_place e))
+    elim (nat_lt n l.nodes) as (λ b. nat_lt n l.nodes ≡ b → cond b (at l (slice_set words (prev_address l m) y) (Volatile n prev_offset)) 0 ≡ cond b (at l words (Volatile n prev_offset)) 0) [
+      | true ↦ λ is. at-set_other l words (Volatile m prev_offset) (Volatile n prev_offset) y (here, omega arith) (ltb-true n l.nodes is, omega arith) (λ e. other (ap node_of_place e))
       | false ↦ λ _. refl
     ] refl
 
@@ -559,22 +560,22 @@ module _ (z : Traced) (i : ℕ) (p : Party) (d d' : Debt) (m y : ℕ) (traced : 
   abbrev z' : Traced
   z' = record { world = record (z.world) { words = slice_set z.world.words (prev_address z.world.layout m) y }; debts = set z.debts i d' }
 
-  has : HasLocation l (Volatile m 1)
+  has : HasLocation l (Volatile m prev_offset)
   has = (here, omega arith)
 
   facts_same : facts (record (z.world) { words = words' }) ≡ f
-  facts_same = facts-elsewhere l z.world.words z.world.base z.world.history (Volatile m 1) y has (λ n o e. cc, λ n e. cc)
+  facts_same = facts-elsewhere l z.world.words z.world.base z.world.history (Volatile m prev_offset) y has (λ n o e. cc, λ n e. cc)
 
   small : y < 2 ^ 64
   small = let low = listed_within l f traced.lawful.list traced.lawful.row.layout y listed in let most = traced.lawful.row.layout.nodes in omega arith
 
   stored_lawful : Lawful (record (z.world) { words = words' })
   stored_lawful = beside_law z.world words' traced.lawful
-      (acted_row l z.world.words (Store (prev_address l m) y) traced.lawful.row ((addresses_within l (Volatile m 1) has, outside_header l (Volatile m 1) has (λ k lt. (λ e. cc, λ e. cc))), small))
+      (acted_row l z.world.words (Store (prev_address l m) y) traced.lawful.row ((addresses_within l (Volatile m prev_offset) has, outside_header l (Volatile m prev_offset) has (λ k lt. (λ e. cc, λ e. cc))), small))
       facts_same
-      (nearer l z.world.words words' (store_closer l z.world.words (Volatile m 1) y has (λ v alike. cc)))
-      (at-set_other l z.world.words (Volatile m 1) Clock y has tt (λ e. cc))
-      (λ v is other. at-set_other l z.world.words (Volatile m 1) (Cached v) y has is (λ e. cc))
+      (nearer l z.world.words words' (store_closer l z.world.words (Volatile m prev_offset) y has (λ v alike. cc)))
+      (at-set_other l z.world.words (Volatile m prev_offset) Clock y has tt (λ e. cc))
+      (λ v is other. at-set_other l z.world.words (Volatile m prev_offset) (Cached v) y has is (λ e. cc))
 
   same_else : (n : ℕ) → n ≢ m → prev' n ≡ prev n
   same_else n other = prev_else l z.world.words m y n here other
@@ -718,8 +719,8 @@ gone_come_out z n traced gone =
 evict_prev : (l : Layout) (words : List ℕ) (word n : ℕ) → word < image_words l → prev_in l (rows.evicted l words word) n ≡ prev_in l words n
 unfolding prev_in
 evict_prev l words word n within =
-    elim (nat_lt n l.nodes) as (λ b. nat_lt n l.nodes ≡ b → cond b (at l (rows.evicted l words word) (Volatile n 1)) 0 ≡ cond b (at l words (Volatile n 1)) 0) [
-      | true ↦ λ is. let here = ltb-true n l.nodes is in get_or-set_other words (durable_address l word) (address_of l (Volatile n 1)) (slice_index words (cached_address l word)) 0 (λ e. absurd (omega arith))
+    elim (nat_lt n l.nodes) as (λ b. nat_lt n l.nodes ≡ b → cond b (at l (rows.evicted l words word) (Volatile n prev_offset)) 0 ≡ cond b (at l words (Volatile n prev_offset)) 0) [
+      | true ↦ λ is. let here = ltb-true n l.nodes is in get_or-set_other words (durable_address l word) (address_of l (Volatile n prev_offset)) (slice_index words (cached_address l word)) 0 (λ e. absurd (omega arith))
       | false ↦ λ _. refl
     ] refl
 
@@ -786,15 +787,15 @@ start_traces z i p index d traced there owing idle =
       below = traced.below;
     }
 
-pub prev_at : (l : Layout) (words : List ℕ) (n : ℕ) → n < l.nodes → prev_in l words n ≡ at l words (Volatile n 1)
+pub prev_at : (l : Layout) (words : List ℕ) (n : ℕ) → n < l.nodes → prev_in l words n ≡ at l words (Volatile n prev_offset)
 unfolding prev_in
 prev_at l words n here = rw (lt-ltb n l.nodes here) refl
 
 -- rows with the same prev words have the same prevs
-pub prev_in-alike : (l : Layout) (words words' : List ℕ) (n : ℕ) → (n < l.nodes → at l words' (Volatile n 1) ≡ at l words (Volatile n 1)) → prev_in l words' n ≡ prev_in l words n
+pub prev_in-alike : (l : Layout) (words words' : List ℕ) (n : ℕ) → (n < l.nodes → at l words' (Volatile n prev_offset) ≡ at l words (Volatile n prev_offset)) → prev_in l words' n ≡ prev_in l words n
 unfolding prev_in
 prev_in-alike l words words' n same =
-    cond_both (nat_lt n l.nodes) (at l words' (Volatile n 1)) 0 (λ (x : ℕ). x ≡ cond (nat_lt n l.nodes) (at l words (Volatile n 1)) 0)
+    cond_both (nat_lt n l.nodes) (at l words' (Volatile n prev_offset)) 0 (λ (x : ℕ). x ≡ cond (nat_lt n l.nodes) (at l words (Volatile n prev_offset)) 0)
     (λ here. same (ltb-true n l.nodes here) ∙ sym (rw here refl))
     (λ past. sym (rw past refl))
 

@@ -14,6 +14,7 @@ use Rattle.data_node.proofs.SpotLemmas.{updated-other}
 use Rattle.call_stages.specs.Kinds.{version_address, word_address, status_address, HasWordAt, IsContent}
 use Rattle.index_law.specs.Facts.{Facts, facts_of, version_in, status_in, spot_in, list_in, cached_word}
 use Rattle.data_node.proofs.ListLemmas.{members_alike}
+use Rattle.pm_words.specs.Offsets.{status_offset, version_offset}
 use Rattle.index_law.proofs.Places.{node_at, offset_at}
 
 -- the words that belong to a node's spot
@@ -80,7 +81,7 @@ status_in-alike l words words' n same =
 
 -- a place other than the cached words of the nodes and their statuses
 abbrev pub IsElsewhere : Location → Type 0
-IsElsewhere p = ((n offset : ℕ) → p ≢ Cached (Node n offset)) × ((n : ℕ) → p ≢ Volatile n 0)
+IsElsewhere p = ((n offset : ℕ) → p ≢ Cached (Node n offset)) × ((n : ℕ) → p ≢ Volatile n status_offset)
 
 -- a store at a number that is none of theirs leaves the facts
 pub facts-apart : (l : Layout) (words : List ℕ) (base : Map) (history : List Write) (place x : ℕ) → ((n offset : ℕ) → HasWordAt l n offset → word_address l n offset ≢ place)
@@ -100,7 +101,7 @@ pub facts-elsewhere : (l : Layout) (words : List ℕ) (base : Map) (history : Li
     → facts_of l (slice_set words (address_of l p) x) base history ≡ facts_of l words base history
 facts-elsewhere l words base history p x has other =
     facts-apart l words base history (address_of l p) x (λ n offset here same. other.0 n offset (addresses_apart l p (Cached (Node n offset)) has here (sym same)))
-    (λ n here same. other.1 n (addresses_apart l p (Volatile n 0) has (here, omega arith) (sym same)))
+    (λ n here same. other.1 n (addresses_apart l p (Volatile n status_offset) has (here, omega arith) (sym same)))
 
 -- the facts with another version word of a node
 abbrev pub with_version : Facts → ℕ → ℕ → Facts
@@ -175,20 +176,20 @@ pub facts-version : (l : Layout) (words : List ℕ) (base : Map) (history : List
     → facts_of l (slice_set words (version_address l n) w) base history ≡ with_version (facts_of l words base history) n w
 facts-version l words base history n w whole here =
     let words' : List ℕ = slice_set words (version_address l n) w in
-    let has : HasLocation l (Cached (Node n 0)) = (here, omega arith) in
+    let has : HasLocation l (Cached (Node n version_offset)) = (here, omega arith) in
     let version : (m : ℕ) → version_in l words' m ≡ (if m == n then w else version_in l words m) =
     λ m. ⊎_elim
     (λ (same : m ≡ n). subst (λ (k : ℕ). version_in l words' k ≡ (if k == n then w else version_in l words k)) (sym same)
-    (version_in-here l words' n here ∙ at-set_same l words (Cached (Node n 0)) w whole has ∙ sym (rw (eq-eqb n n refl) refl)))
+    (version_in-here l words' n here ∙ at-set_same l words (Cached (Node n version_offset)) w whole has ∙ sym (rw (eq-eqb n n refl) refl)))
     (λ (other : m ≡ n → ⊥).
-    version_in-alike l words words' m (λ there. at-set_other l words (Cached (Node n 0)) (Cached (Node m 0)) w has (there, omega arith) (λ e. other (ap node_at e)))
+    version_in-alike l words words' m (λ there. at-set_other l words (Cached (Node n version_offset)) (Cached (Node m version_offset)) w has (there, omega arith) (λ e. other (ap node_at e)))
     ∙ sym (rw (ne_eqb m n other) refl))
     (cases_eq m n) in
     let status : (m : ℕ) → status_in l words' m ≡ status_in l words m =
-    λ m. status_in-alike l words words' m (λ there. at-set_other l words (Cached (Node n 0)) (Volatile m 0) w has (there, omega arith) (λ e. cc)) in
+    λ m. status_in-alike l words words' m (λ there. at-set_other l words (Cached (Node n version_offset)) (Volatile m status_offset) w has (there, omega arith) (λ e. cc)) in
     let spot : (m offset : ℕ) → spot_in l words' m offset ≡ spot_in l words m offset =
     λ m offset. spot_in-alike l words words' m offset
-    (λ there positive. at-set_other l words (Cached (Node n 0)) (Cached (Node m offset)) w has there (λ e. let none = ap offset_at e in omega arith)) in
+    (λ there positive. at-set_other l words (Cached (Node n version_offset)) (Cached (Node m offset)) w has there (λ e. let none = ap offset_at e in omega arith)) in
     λ k. record { version = λ m. version m k; status = λ m. status m k; now = λ m offset. spot m offset k; list = members_from (λ m offset. spot m offset k) l.nodes 0; base = base; history = history }
 
 -- a store at a node's status
@@ -196,19 +197,19 @@ pub facts-status : (l : Layout) (words : List ℕ) (base : Map) (history : List 
     → facts_of l (slice_set words (status_address l n) x) base history ≡ with_status (facts_of l words base history) n x
 facts-status l words base history n x whole here =
     let words' : List ℕ = slice_set words (status_address l n) x in
-    let has : HasLocation l (Volatile n 0) = (here, omega arith) in
+    let has : HasLocation l (Volatile n status_offset) = (here, omega arith) in
     let version : (m : ℕ) → version_in l words' m ≡ version_in l words m =
-    λ m. version_in-alike l words words' m (λ there. at-set_other l words (Volatile n 0) (Cached (Node m 0)) x has (there, omega arith) (λ e. cc)) in
+    λ m. version_in-alike l words words' m (λ there. at-set_other l words (Volatile n status_offset) (Cached (Node m version_offset)) x has (there, omega arith) (λ e. cc)) in
     let status : (m : ℕ) → status_in l words' m ≡ (if m == n then x else status_in l words m) =
     λ m. ⊎_elim
     (λ (same : m ≡ n). subst (λ (k : ℕ). status_in l words' k ≡ (if k == n then x else status_in l words k)) (sym same)
-    (status_in-here l words' n here ∙ at-set_same l words (Volatile n 0) x whole has ∙ sym (rw (eq-eqb n n refl) refl)))
+    (status_in-here l words' n here ∙ at-set_same l words (Volatile n status_offset) x whole has ∙ sym (rw (eq-eqb n n refl) refl)))
     (λ (other : m ≡ n → ⊥).
-    status_in-alike l words words' m (λ there. at-set_other l words (Volatile n 0) (Volatile m 0) x has (there, omega arith) (λ e. other (ap node_at e)))
+    status_in-alike l words words' m (λ there. at-set_other l words (Volatile n status_offset) (Volatile m status_offset) x has (there, omega arith) (λ e. other (ap node_at e)))
     ∙ sym (rw (ne_eqb m n other) refl))
     (cases_eq m n) in
     let spot : (m offset : ℕ) → spot_in l words' m offset ≡ spot_in l words m offset =
-    λ m offset. spot_in-alike l words words' m offset (λ there positive. at-set_other l words (Volatile n 0) (Cached (Node m offset)) x has there (λ e. cc)) in
+    λ m offset. spot_in-alike l words words' m offset (λ there positive. at-set_other l words (Volatile n status_offset) (Cached (Node m offset)) x has there (λ e. cc)) in
     λ k. record { version = λ m. version m k; status = λ m. status m k; now = λ m offset. spot m offset k; list = members_from (λ m offset. spot m offset k) l.nodes 0; base = base; history = history }
 
 -- a store at another word of a node
@@ -218,10 +219,10 @@ module _ (l : Layout) (words : List ℕ) (base : Map) (history : List Write) (n 
 
   version-word : (m : ℕ) → version_in l words_set m ≡ version_in l words m
   version-word m = version_in-alike l words words_set m
-      (λ there. at-set_other l words (Cached (Node n offset)) (Cached (Node m 0)) y has (there, omega arith) (λ e. let none = ap offset_at e in omega arith))
+      (λ there. at-set_other l words (Cached (Node n offset)) (Cached (Node m version_offset)) y has (there, omega arith) (λ e. let none = ap offset_at e in omega arith))
 
   status-word : (m : ℕ) → status_in l words_set m ≡ status_in l words m
-  status-word m = status_in-alike l words words_set m (λ there. at-set_other l words (Cached (Node n offset)) (Volatile m 0) y has (there, omega arith) (λ e. cc))
+  status-word m = status_in-alike l words words_set m (λ there. at-set_other l words (Cached (Node n offset)) (Volatile m status_offset) y has (there, omega arith) (λ e. cc))
 
   own-word : (o : ℕ) → spot_in l words_set n o ≡ updated (spot_in l words n) offset y o
   unfolding updated

@@ -13,6 +13,7 @@ use Rattle.cat_history.specs.Maps.{Map}
 use Rattle.cat_history.specs.declared.op.Write.{Write}
 use Rattle.data_node.specs.Spots.{Spot}
 use Rattle.data_node.specs.Lists.{next_offset}
+use Rattle.pm_words.specs.Offsets.{version_offset}
 use Rattle.call_stages.specs.Stages.{Held, Grip, Phase, Filling, Linked, Parted, Pace, Gathered, Joined, Gone, Stage, Idle, Saw, Wears, Reads, Holds, Eyes, Splits, Leaves, Meets, Joins}
 use Rattle.call_stages.specs.Kinds.{HasWordAt, word_address}
 use Rattle.index_law.specs.Facts.{Facts, facts_of, spot_in, durable_spot}
@@ -153,10 +154,10 @@ module _ (l : Layout) (words words' : List ℕ) (base : Map) (history : List Wri
   closer_versions g known durably n here =
       let has : HasWordAt l n 0 = (here, omega arith) in
       ⊎_elim
-      (λ (stays : at l words' (Durable (Node n 0)) ≡ at l words (Durable (Node n 0))). subst (λ (v : ℕ). generation_of v ≤ g) (sym stays) (durably n here))
-      (λ (is : at l words' (Durable (Node n 0)) ≡ at l words (Cached (Node n 0))).
+      (λ (stays : at l words' (Durable (Node n version_offset)) ≡ at l words (Durable (Node n version_offset))). subst (λ (v : ℕ). generation_of v ≤ g) (sym stays) (durably n here))
+      (λ (is : at l words' (Durable (Node n version_offset)) ≡ at l words (Cached (Node n version_offset))).
       subst (λ (v : ℕ). generation_of v ≤ g) (version_in-here l words n here ∙ sym is) (known n here))
-      (closer (Node n 0) has (λ line. line))
+      (closer (Node n version_offset) has (λ line. line))
 
 -- blank words are words, and no node's
 pub blank_word : (l : Layout) (w : Word) → IsBlank w → HasWord l w × ((n offset : ℕ) → w ≡ Node n offset → ⊥)

@@ -15,6 +15,7 @@ use Rattle.cat_history.specs.Maps.{Map}
 use Rattle.cat_history.specs.declared.op.Write.{Write}
 use Rattle.data_node.specs.Spots.{Spot}
 use Rattle.data_node.specs.Lists.{ListNode, next_offset, IsIn}
+use Rattle.pm_words.specs.Offsets.{prev_offset}
 use Rattle.call_stages.specs.Stages.{Stage}
 use Rattle.call_stages.specs.Lines.{HeldLine, line_address, Notes, passes_line, takes, looks_up, notes, keeps_safe}
 use Rattle.index_law.specs.Facts.{Facts, facts_of, spot_in, status_in, list_in, IsListed}
@@ -113,16 +114,16 @@ pub prev_leaves : (z : Traced) (i : ℕ) (p : Party) (s : Stage) (a : Action) (d
     → Sure z.world.layout z.world.generation (facts z.world) p.caller p.index p.since s → Prevs z.world.layout s d a d'
     → (c j offset : ℕ) → LinesStay z.world.layout z.world.words (acted z.world.layout z.world.words a) c j offset
 prev_leaves z i p s a d d' traced there owing sure (names {left = left} {fresh = fresh}) c j offset =
-    store_leaves z.world.layout z.world.words (Volatile fresh.node 1) left.node (sure.new.here, omega arith) (λ k q o. (λ e. cc, λ e. cc)) c j offset
+    store_leaves z.world.layout z.world.words (Volatile fresh.node prev_offset) left.node (sure.new.here, omega arith) (λ k q o. (λ e. cc, λ e. cc)) c j offset
 prev_leaves z i p s a d d' traced there owing sure (renews {left = left} {right = right} known) c j offset =
-    store_leaves z.world.layout z.world.words (Volatile right.node 1) left.node (sure.other.here, omega arith) (λ k q o. (λ e. cc, λ e. cc)) c j offset
+    store_leaves z.world.layout z.world.words (Volatile right.node prev_offset) left.node (sure.other.here, omega arith) (λ k q o. (λ e. cc, λ e. cc)) c j offset
 prev_leaves z i p s a d d' traced there owing sure (pays {n = n} {y = y} owes leads ne here) c j offset =
     let l = z.world.layout in
     let f = facts z.world in
     let listed : IsListed f n = (subst (λ (o : Option ℕ). IfSome o (λ k. HoldsNode p.stage k × IsListed f k)) owes (traced.owes i d p owing there)).1 in
     let to : f.now n next_offset ≡ y = leads_now l z.world.generation f p.caller p.index p.since s n y sure leads in
     let within : y < l.nodes = listed_within l f traced.lawful.list traced.lawful.row.layout y (subst (IsListed f) to (leads_on l f traced.lawful.list n listed (λ q. ne (sym to ∙ q)))) in
-    store_leaves l z.world.words (Volatile y 1) n (within, omega arith) (λ k q o. (λ e. cc, λ e. cc)) c j offset
+    store_leaves l z.world.words (Volatile y prev_offset) n (within, omega arith) (λ k q o. (λ e. cc, λ e. cc)) c j offset
 
 pub whole_node : NodeStepKeepsAll
 whole_node z i p a x t r line after d d' whole there at owing kept k told room deals = record {

@@ -8,6 +8,7 @@ use Rattle.pm_words.proofs.Apart.{at-set_other}
 use Rattle.cat_history.specs.Maps.{Map}
 use Rattle.cat_history.specs.declared.op.Write.{Write}
 use Rattle.data_node.specs.Lists.{anchor_in}
+use Rattle.pm_words.specs.Offsets.{stamp_offset}
 use Rattle.call_stages.specs.Stages.{Sight, Stage, Gone, Idle, Joins, HoldsNode, IsSwitched}
 use Rattle.call_stages.specs.Kinds.{clock_address}
 use Rattle.call_stages.specs.Lines.{HeldLine}
@@ -54,7 +55,7 @@ module _ (z : Layered) (clock : ℕ) (parties : List Party) (base : Map) (histor
 
   same_rest : rest_in l words' ≡ rest_in l w.words
   same_rest = rest_same l w.words words' (record {
-    stamp = λ n here. at-set_other l w.words Clock (Volatile n 2) clock tt (here, omega arith) (λ e. cc);
+    stamp = λ n here. at-set_other l w.words Clock (Volatile n stamp_offset) clock tt (here, omega arith) (λ e. cc);
     line = λ j o here small. at-set_other l w.words Clock (Cached (line_word o j)) clock tt (omega arith, omega arith, small) (λ e. cc);
     safe_line = λ j o here small. at-set_other l w.words Clock (Durable (line_word o j)) clock tt (omega arith, omega arith, small) (λ e. cc);
     layer = layer_words_stay l w.words Clock clock tt refl;

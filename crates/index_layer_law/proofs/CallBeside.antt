@@ -13,6 +13,7 @@ use Rattle.pm_words.proofs.Apart.{at-set_other}
 use Rattle.pm_words.proofs.Kept.{action_address-drain}
 use Rattle.data_node.specs.Spots.{Spot}
 use Rattle.data_node.specs.Lists.{next_offset, anchor_in, key_of}
+use Rattle.pm_words.specs.Offsets.{stamp_offset}
 use Rattle.call_stages.specs.Stages.{Stage, Held, Grip, Gone, Gathered, Joined, Joins, Idle, Saw, Wears, Reads, Holds, Eyes, Splits, Leaves, Meets, HoldsNode, Tells}
 use Rattle.call_stages.specs.Kinds.{prev_address}
 use Rattle.call_stages.specs.Lines.{HeldLine, line_address, Marks, fills, opens, readies, Notes, passes_line, takes, looks_up, notes, keeps_safe}
@@ -192,7 +193,7 @@ module _ (z : Layered) (i : ℕ) (p : Party) (is : IsLayered z) (there : get_ele
       let after : List ℕ = slice_set words (address_of l (Volatile n offset)) y in
       let has : HasLocation l (Volatile n offset) = (within, most) in
       let rest : rest_in l after ≡ rest_in l words = rest_same l words after (record {
-        stamp = λ m there_m. at-set_other l words p (Volatile m 2) y has (there_m, omega arith) (λ d. no_stamp (sym (ap offset_of d)));
+        stamp = λ m there_m. at-set_other l words p (Volatile m stamp_offset) y has (there_m, omega arith) (λ d. no_stamp (sym (ap offset_of d)));
         line = λ j o there_j small. at-set_other l words p (Cached (line_word o j)) y has (omega arith, omega arith, small) (λ d. cc);
         safe_line = λ j o there_j small. at-set_other l words p (Durable (line_word o j)) y has (omega arith, omega arith, small) (λ d. cc);
         layer = layer_words_stay l words p y has refl;

@@ -5,6 +5,7 @@ use Rattle.pm_words.specs.declared.layout.Layout.{Layout}
 use Rattle.pm_words.specs.Locations.{Word, Location, Line, Cached, Durable, Volatile, HasLocation, address_of}
 use Rattle.pm_words.specs.Rows.{IsRow}
 use Rattle.pm_words.proofs.Apart.{at-set_other}
+use Rattle.pm_words.specs.Offsets.{stamp_offset}
 use Rattle.call_stages.specs.Lines.{HeldLine}
 use Rattle.index_law.specs.Facts.{Facts}
 use Rattle.index_law.specs.Lines.{SureLine}
@@ -51,7 +52,7 @@ module _ (l : Layout) (words : List ℕ) (row : IsRow l words) (e : HeldLine) (s
   line_same o within = column-same l words drained (line_count l) (λ j. Cached (line_word o j)) (λ j there. at-set_other l words p (Cached (line_word o j)) y has (omega arith, omega arith, within) (λ same. cc))
 
   stamp_same : volatile_field l drained 2 ≡ volatile_field l words 2
-  stamp_same = column-same l words drained l.nodes (λ n. Volatile n 2) (λ n there. at-set_other l words p (Volatile n 2) y has (there, omega arith) (λ same. cc))
+  stamp_same = column-same l words drained l.nodes (λ n. Volatile n stamp_offset) (λ n there. at-set_other l words p (Volatile n stamp_offset) y has (there, omega arith) (λ same. cc))
 
   pub layer_stay : HasSameLayer l words drained
   layer_stay = layer_words_stay l words p y has refl

@@ -6,6 +6,7 @@ use Rattle.pm_words.specs.Locations.{Word, Location, Line, Cached, Durable, Vola
 use Rattle.pm_words.specs.Rows.{IsRow}
 use Rattle.pm_words.proofs.Apart.{at-set_other}
 use Rattle.data_node.specs.Lists.{anchor_in}
+use Rattle.pm_words.specs.Offsets.{stamp_offset}
 use Rattle.call_stages.specs.Stages.{IsAmong}
 use Rattle.call_stages.specs.Lines.{HeldLine, Marks, fills, opens, readies}
 use Rattle.index_law.specs.Facts.{Facts}
@@ -68,7 +69,7 @@ module _ (l : Layout) (words : List ℕ) (row : IsRow l words) (e : HeldLine) (s
   safe_same o within = column-same l words stored (line_count l) (λ j. Durable (line_word o j)) (λ j there. at-set_other l words p (Durable (line_word o j)) y has (omega arith, omega arith, within) (λ same. cc))
 
   stamp_same : volatile_field l stored 2 ≡ volatile_field l words 2
-  stamp_same = column-same l words stored l.nodes (λ n. Volatile n 2) (λ n there. at-set_other l words p (Volatile n 2) y has (there, omega arith) (λ same. cc))
+  stamp_same = column-same l words stored l.nodes (λ n. Volatile n stamp_offset) (λ n there. at-set_other l words p (Volatile n stamp_offset) y has (there, omega arith) (λ same. cc))
 
   pub layer_same : HasSameLayer l words stored
   layer_same = layer_words_stay l words p y has refl

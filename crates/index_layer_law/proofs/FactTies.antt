@@ -8,6 +8,7 @@ use Rattle.pm_words.specs.Locations.{Word, Location, Node, Volatile, Cached, Dur
 use Rattle.pm_words.specs.Rows.{acted}
 use Rattle.version_lock.specs.Versions.{is_free_word, is_worn_word}
 use Rattle.data_node.specs.Lists.{ListNode, anchor_in, IsMember}
+use Rattle.pm_words.specs.Offsets.{stamp_offset}
 use Rattle.call_stages.specs.Stages.{Stage}
 use Rattle.index_law.specs.Facts.{Facts, version_in, spot_in, status_in, IsListed}
 use Rattle.index_law.specs.Laws.{Allowed}
@@ -112,7 +113,7 @@ facts_tie w holder t =
 
 -- rows with the same words at these locations have the same rest
 pub record RestStays (l : Layout) (words words' : List ℕ) : Type 0 where
-  pub stamp : (n : ℕ) → n < l.nodes → at l words' (Volatile n 2) ≡ at l words (Volatile n 2)
+  pub stamp : (n : ℕ) → n < l.nodes → at l words' (Volatile n stamp_offset) ≡ at l words (Volatile n stamp_offset)
   pub line : (j o : ℕ) → j < line_count l → o < 8 → at l words' (Cached (line_word o j)) ≡ at l words (Cached (line_word o j))
   pub safe_line : (j o : ℕ) → j < line_count l → o < 8 → at l words' (Durable (line_word o j)) ≡ at l words (Durable (line_word o j))
   pub layer : HasSameLayer l words words'
@@ -130,7 +131,7 @@ lines_same l words words' twin same =
 
 pub rest_same : (l : Layout) (words words' : List ℕ) → RestStays l words words' → rest_in l words' ≡ rest_in l words
 rest_same l words words' stays =
-    let stamp = column-same l words words' l.nodes (λ n. Volatile n 2) stays.stamp in
+    let stamp = column-same l words words' l.nodes (λ n. Volatile n stamp_offset) stays.stamp in
     let line = lines_same l words words' Cached (λ o small. column-same l words words' (line_count l) (λ j. Cached (line_word o j)) (λ j here. stays.line j o here small)) in
     let safe = lines_same l words words' Durable (λ o small. column-same l words words' (line_count l) (λ j. Durable (line_word o j)) (λ j here. stays.safe_line j o here small)) in
     λ i. record {
@@ -155,7 +156,7 @@ rest_layer l words words' same = record {
 -- what a call does on nodes leaves the rest
 pub node_rest : (l : Layout) (words : List ℕ) (s : Stage) (a : Action) → Allowed l s a → rest_in l (acted l words a) ≡ rest_in l words
 node_rest l words s a allowed = rest_same l words (acted l words a) (record {
-  stamp = λ n here. nodes_leave_others l words s a (Volatile n 2) (here, omega arith) (record { clock = λ e. cc; status = λ m e. let no : 2 ≡ 0 = ap offset_of e in omega arith; cached = λ m o e. cc; durable = λ m o e. cc }) allowed;
+  stamp = λ n here. nodes_leave_others l words s a (Volatile n stamp_offset) (here, omega arith) (record { clock = λ e. cc; status = λ m e. let no : 2 ≡ 0 = ap offset_of e in omega arith; cached = λ m o e. cc; durable = λ m o e. cc }) allowed;
   line = λ j o here small. nodes_leave_others l words s a (Cached (line_word o j)) (omega arith, omega arith, small) (record { clock = λ e. cc; status = λ m e. cc; cached = λ m o e. cc; durable = λ m o e. cc }) allowed;
   safe_line = λ j o here small. nodes_leave_others l words s a (Durable (line_word o j)) (omega arith, omega arith, small) (record { clock = λ e. cc; status = λ m e. cc; cached = λ m o e. cc; durable = λ m o e. cc }) allowed;
   layer = layer_alike l words (acted l words a) (λ p has of_layer. nodes_leave_others l words s a p has (elsewhere p of_layer) allowed);

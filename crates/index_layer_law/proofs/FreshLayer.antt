@@ -10,6 +10,7 @@ use Rattle.pm_words.specs.Locations.{Word, Location, Node, Updater, Volatile, Ma
 use Rattle.pm_words.specs.Rows.{row_of}
 use Rattle.pm_words.proofs.Apart.{at-set_other, at-set_same}
 use Rattle.pm_words.proofs.Made.{fresh_at, fresh_image, row_of-row}
+use Rattle.pm_words.specs.Offsets.{stamp_offset, status_offset}
 use Rattle.version_lock.specs.Versions.{is_free_word, is_worn_word}
 use Rattle.index_law.specs.Laws.{marked_row, fresh_row, fresh_world}
 use Rattle.index_law.specs.Worlds.{Party, facts}
@@ -75,7 +76,7 @@ module _ (l : Layout) (layout : IsLayout l) where
   )
 
   stamp_zero : volatile_field l words 2 ≡ (λ n. 0)
-  stamp_zero = zero_column l.nodes (λ n. Volatile n 2) (λ n here. elsewhere (Volatile n 2) (here, omega arith) (λ e. let no : 2 ≡ 0 = ap offset_of e in omega arith) ∙ marked-at_volatile l (Volatile n 2) (here, omega arith) (omega arith) (λ e. cc))
+  stamp_zero = zero_column l.nodes (λ n. Volatile n stamp_offset) (λ n here. elsewhere (Volatile n stamp_offset) (here, omega arith) (λ e. let no : 2 ≡ 0 = ap offset_of e in omega arith) ∙ marked-at_volatile l (Volatile n stamp_offset) (here, omega arith) (omega arith) (λ e. cc))
     where
       offset_of : Location → ℕ
       offset_of (Volatile n o) = o
@@ -91,8 +92,8 @@ module _ (l : Layout) (layout : IsLayout l) where
             subst (λ m. volatile_field l words 0 m ≡ cond (m == 0) live_status free_status) (sym first)
             (ap (λ b. cond b (at l words (Volatile 0 0)) 0) (lt-ltb 0 l.nodes some) ∙ at-set_same l row (Volatile 0 0) live_status (marked_row-row l layout).whole (some, omega arith))
         | inr other ↦
-            cond_both (nat_lt n l.nodes) (at l words (Volatile n 0)) 0 (λ (x : ℕ). x ≡ 0)
-            (λ here. let lt = ltb-true n l.nodes here in elsewhere (Volatile n 0) (lt, omega arith) (λ e. other (ap number_of e)) ∙ marked-at_volatile l (Volatile n 0) (lt, omega arith) (omega arith) (λ e. cc))
+            cond_both (nat_lt n l.nodes) (at l words (Volatile n status_offset)) 0 (λ (x : ℕ). x ≡ 0)
+            (λ here. let lt = ltb-true n l.nodes here in elsewhere (Volatile n status_offset) (lt, omega arith) (λ e. other (ap number_of e)) ∙ marked-at_volatile l (Volatile n status_offset) (lt, omega arith) (omega arith) (λ e. cc))
             (λ past. refl)
             ∙ sym (ap (λ b. cond b live_status free_status) (ne_eqb n 0 other))
       ] in

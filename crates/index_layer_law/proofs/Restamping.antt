@@ -5,6 +5,7 @@ use Rattle.pm_words.specs.declared.layout.Layout.{Layout}
 use Rattle.pm_words.specs.Locations.{Word, Location, Updater, Volatile, Cached, Durable, HasLocation, address_of, at}
 use Rattle.pm_words.proofs.Apart.{at-set_other, at-set_same}
 use Rattle.data_node.specs.Lists.{anchor_in}
+use Rattle.pm_words.specs.Offsets.{stamp_offset}
 use Rattle.call_stages.specs.Lines.{HeldLine}
 use Rattle.index_law.specs.Facts.{Facts}
 use Rattle.index_law.specs.Worlds.{World, facts}
@@ -58,19 +59,19 @@ module _ (z : Layered) (n y : ℕ) (is : IsLayered z) (here : n < z.whole.world.
   l = z.whole.world.layout
 
   abbrev words' : List ℕ
-  words' = slice_set z.whole.world.words (address_of z.whole.world.layout (Volatile n 2)) y
+  words' = slice_set z.whole.world.words (address_of z.whole.world.layout (Volatile n stamp_offset)) y
 
   abbrev w' : World
-  w' = record (z.whole.world) { words = slice_set z.whole.world.words (address_of z.whole.world.layout (Volatile n 2)) y }
+  w' = record (z.whole.world) { words = slice_set z.whole.world.words (address_of z.whole.world.layout (Volatile n stamp_offset)) y }
 
-  has : HasLocation l (Volatile n 2)
+  has : HasLocation l (Volatile n stamp_offset)
   has = (here, omega arith)
 
-  elsewhere : (p : Location) → HasLocation l p → p ≢ Volatile n 2 → at l words' p ≡ at l w.words p
-  elsewhere p there other = at-set_other l w.words (Volatile n 2) p y has there other
+  elsewhere : (p : Location) → HasLocation l p → p ≢ Volatile n stamp_offset → at l words' p ≡ at l w.words p
+  elsewhere p there other = at-set_other l w.words (Volatile n stamp_offset) p y has there other
 
   same_facts : facts w' ≡ facts w
-  same_facts = facts-elsewhere l w.words w.base w.history (Volatile n 2) y has (λ m o e. cc, λ m e. let no : 2 ≡ 0 = ap offset_at e in omega arith)
+  same_facts = facts-elsewhere l w.words w.base w.history (Volatile n stamp_offset) y has (λ m o e. cc, λ m e. let no : 2 ≡ 0 = ap offset_at e in omega arith)
 
   fields_same : (twin : Word → Location) → ((j o : ℕ) → j < columns.line_count l → o < 8 → at l words' (twin (line_word o j)) ≡ at l w.words (twin (line_word o j))) → columns.lines_in l words' twin ≡ columns.lines_in l w.words twin
   fields_same twin same = lines_same l w.words words' twin (λ o small. column-same l w.words words' (columns.line_count l) (λ j. twin (line_word o j)) (λ j there. same j o there small))
@@ -82,7 +83,7 @@ module _ (z : Layered) (n y : ℕ) (is : IsLayered z) (here : n < z.whole.world.
   safe_lines_are = fields_same Durable (λ j o there small. elsewhere (Durable (line_word o j)) (omega arith, omega arith, small) (λ e. cc))
 
   layer_stays : HasSameLayer l w.words words'
-  layer_stays = layer_words_stay l w.words (Volatile n 2) y has refl
+  layer_stays = layer_words_stay l w.words (Volatile n stamp_offset) y has refl
 
   covers_same : (own : Option HeldLine) (m : ℕ) → CoversNode w own m → CoversNode w' own m
   covers_same own m = unready_by (IsCover (columns.lines_in l w.words Cached) (columns.lines_in l w.words Durable) (anchor_in ((facts w).now m)))
@@ -99,18 +100,18 @@ module _ (z : Layered) (n y : ℕ) (is : IsLayered z) (here : n < z.whole.world.
       ∙ sym (ap (λ (f : TurnFacts). record f { stamp = volatile_field l words' 2 }) (facts_tie w is.holder u))
 
   stamp_else : (m : ℕ) → m ≢ n → volatile_field l words' 2 m ≡ volatile_field l w.words 2 m
-  stamp_else m other = column-alike l w.words words' l.nodes (λ k. Volatile k 2) m (λ there. elsewhere (Volatile m 2) (there, omega arith) (λ e. other (ap node_at e)))
+  stamp_else m other = column-alike l w.words words' l.nodes (λ k. Volatile k stamp_offset) m (λ there. elsewhere (Volatile m stamp_offset) (there, omega arith) (λ e. other (ap node_at e)))
 
-  module _ (has_some : at z.whole.world.layout z.whole.world.words (Volatile n 2) ≢ 0) (still : y ≢ 0) where
+  module _ (has_some : at z.whole.world.layout z.whole.world.words (Volatile n stamp_offset) ≢ 0) (still : y ≢ 0) where
     forth : (m : ℕ) → volatile_field l w.words 2 m ≡ 0 → volatile_field l words' 2 m ≡ 0
     forth m none = elim (cases_eq m n) [
-      | inl e ↦ absurd (has_some (sym (column-here l w.words l.nodes (λ k. Volatile k 2) n here) ∙ ap (volatile_field l w.words 2) (sym e) ∙ none))
+      | inl e ↦ absurd (has_some (sym (column-here l w.words l.nodes (λ k. Volatile k stamp_offset) n here) ∙ ap (volatile_field l w.words 2) (sym e) ∙ none))
       | inr other ↦ stamp_else m other ∙ none
     ]
 
     back : (m : ℕ) → volatile_field l words' 2 m ≡ 0 → volatile_field l w.words 2 m ≡ 0
     back m none = elim (cases_eq m n) [
-      | inl e ↦ absurd (still (sym (at-set_same l w.words (Volatile n 2) y is.whole.joint.lawful.row.whole has) ∙ sym (column-here l words' l.nodes (λ k. Volatile k 2) n here) ∙ ap (volatile_field l words' 2) (sym e) ∙ none))
+      | inl e ↦ absurd (still (sym (at-set_same l w.words (Volatile n stamp_offset) y is.whole.joint.lawful.row.whole has) ∙ sym (column-here l words' l.nodes (λ k. Volatile k stamp_offset) n here) ∙ ap (volatile_field l words' 2) (sym e) ∙ none))
       | inr other ↦ sym (stamp_else m other) ∙ none
     ]
 

@@ -8,6 +8,7 @@ use Rattle.pm_words.specs.Rows.{IsRow}
 use Rattle.cat_history.specs.Maps.{Map}
 use Rattle.cat_history.specs.declared.op.Write.{Write}
 use Rattle.data_node.specs.Lists.{members_from}
+use Rattle.pm_words.specs.Offsets.{prev_offset, stamp_offset, status_offset, version_offset}
 use Rattle.index_law.specs.Facts.{facts_of, version_in, status_in, spot_in}
 use Rattle.index_law.specs.Lawful.{Lawful}
 use Rattle.index_law.specs.Lines.{line_in}
@@ -24,7 +25,7 @@ use Rattle.search_layer.specs.RootLine.{RootLineStays}
 -- a location that none of these stores touches
 pub record IsUntouched (p : Location) : Type 0 where
   pub lock : p ≢ Updater
-  pub stamp : (n : ℕ) → p ≢ Volatile n 2
+  pub stamp : (n : ℕ) → p ≢ Volatile n stamp_offset
   pub layer : is_of_layer p ≡ false
 
 -- Those stay, and behind the first word of the root's line the cached words, while the durable ones stay or become them.
@@ -54,9 +55,9 @@ module _ (l : Layout) (words after : List ℕ) (same : KeepsRest l words after) 
   pub facts_kept : (base : Map) (history : List Write) → facts_of l after base history ≡ facts_of l words base history
   facts_kept base history =
       let version : (n : ℕ) → version_in l after n ≡ version_in l words n =
-      λ n. version_in-alike l words after n (λ here. same.rest (Cached (Node n 0)) (here, omega arith) (kept_cached (Node n 0) refl)) in
+      λ n. version_in-alike l words after n (λ here. same.rest (Cached (Node n version_offset)) (here, omega arith) (kept_cached (Node n version_offset) refl)) in
       let status : (n : ℕ) → status_in l after n ≡ status_in l words n =
-      λ n. status_in-alike l words after n (λ here. same.rest (Volatile n 0) (here, omega arith) (kept_volatile n 0 (λ e. omega arith))) in
+      λ n. status_in-alike l words after n (λ here. same.rest (Volatile n status_offset) (here, omega arith) (kept_volatile n 0 (λ e. omega arith))) in
       let spot : (n offset : ℕ) → spot_in l after n offset ≡ spot_in l words n offset =
       λ n offset. spot_in-alike l words after n offset (λ has positive. same.rest (Cached (Node n offset)) has (kept_cached (Node n offset) refl)) in
       λ k. record { version = λ n. version n k; status = λ n. status n k; now = λ n offset. spot n offset k; list = members_from (λ n offset. spot n offset k) l.nodes 0; base = base; history = history }
@@ -70,8 +71,8 @@ module _ (l : Layout) (words after : List ℕ) (same : KeepsRest l words after) 
   pub prevs_kept : (n : ℕ) → prev_in l after n ≡ prev_in l words n
   unfolding prev_in
   prevs_kept n =
-      elim (nat_lt n l.nodes) as (λ b. nat_lt n l.nodes ≡ b → cond b (at l after (Volatile n 1)) 0 ≡ cond b (at l words (Volatile n 1)) 0) [
-        | true ↦ λ is. same.rest (Volatile n 1) (ltb-true n l.nodes is, omega arith) (kept_volatile n 1 (λ e. omega arith))
+      elim (nat_lt n l.nodes) as (λ b. nat_lt n l.nodes ≡ b → cond b (at l after (Volatile n prev_offset)) 0 ≡ cond b (at l words (Volatile n prev_offset)) 0) [
+        | true ↦ λ is. same.rest (Volatile n prev_offset) (ltb-true n l.nodes is, omega arith) (kept_volatile n 1 (λ e. omega arith))
         | false ↦ λ _. refl
       ] refl
 

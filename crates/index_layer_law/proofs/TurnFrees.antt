@@ -25,6 +25,7 @@ use Rattle.index_law.proofs.Versions.{unfree}
 use Rattle.index_law.proofs.Whole.{traced_fewer, joint_same}
 use Rattle.index_law.specs.Lawful.{IsRead, SureReads}
 use Rattle.std.specs.Prelude.{Option}
+use Rattle.pm_words.specs.Offsets.{status_offset}
 
 -- the facts with a node that is FREE instead of GONE
 module _ (l : Layout) (g : ℕ) (f : Facts) (n : ℕ) (gone : f.status n ≡ gone_status) (free : IsFree (f.version n) g) where
@@ -144,12 +145,12 @@ module _ (z : Whole) (n : ℕ) (here : n < z.world.layout.nodes) (gone : (facts 
   f = facts z.world
 
   abbrev p : Location
-  p = Volatile n 0
+  p = Volatile n status_offset
 
   abbrev stored : List ℕ
   stored = slice_set words (address_of l p) 0
 
-  has : HasLocation l (Volatile n 0)
+  has : HasLocation l (Volatile n status_offset)
   has = (here, omega arith)
 
   same : facts (record (z.world) { words = stored }) ≡ with_status f n 0

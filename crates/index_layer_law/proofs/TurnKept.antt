@@ -13,6 +13,7 @@ use Rattle.version_lock.specs.Versions.{IsFree, is_free_word}
 use Rattle.version_lock.proofs.WordTests.{free_word}
 use Rattle.data_node.specs.Spots.{Spot}
 use Rattle.data_node.specs.Lists.{anchor_in}
+use Rattle.pm_words.specs.Offsets.{status_offset}
 use Rattle.call_stages.specs.Stages.{Held, Grip, Gone, Stage, Joins, IsSwitched}
 use Rattle.call_stages.specs.Lines.{HeldLine}
 use Rattle.updater_law.specs.Covers.{set_at, IsCover}
@@ -127,20 +128,20 @@ module _ (z : Whole) (holder : ℕ → ℕ) (t : Turning) (whole : IsWhole z) (t
         switched = λ i p line m at_p at_line is_switched. covers_kept after (lines_same l words after Cached lines) (lines_same l words after Durable safe_lines) (ap (λ (φ : Facts). φ.now) facts_same) line m;
       }
 
-  keeps_freed : (n : ℕ) → n < l.nodes → IsFreeing (facts_in r ghosts words) n → IsRow l (slice_set words (volatile_at l n 0) 0) → Keeps z holder (slice_set words (volatile_at l n 0) 0)
+  keeps_freed : (n : ℕ) → n < l.nodes → IsFreeing (facts_in r ghosts words) n → IsRow l (slice_set words (volatile_at l n status_offset) 0) → Keeps z holder (slice_set words (volatile_at l n status_offset) 0)
   keeps_freed n here freeing row' =
-      let after : List ℕ = slice_set words (volatile_at l n 0) 0 in
+      let after : List ℕ = slice_set words (volatile_at l n status_offset) 0 in
       let facts_same = facts-status l words z.world.base z.world.history n 0 row.whole here in
-      let gone : f.status n ≡ gone_status = status_in-here l words n here ∙ sym (column-here l words l.nodes (λ k. Volatile k 0) n here) ∙ freeing.gone in
+      let gone : f.status n ≡ gone_status = status_in-here l words n here ∙ sym (column-here l words l.nodes (λ k. Volatile k status_offset) n here) ∙ freeing.gone in
       let lines : (offset : ℕ) → offset < 8 → line_field l after Cached offset ≡ line_field l words Cached offset =
       λ offset small. column-same l words after (line_count l) (λ j. Cached (line_word offset j))
-      (λ j lt. at-set_other l words (Volatile n 0) (Cached (line_word offset j)) 0 (here, omega arith) (omega arith, omega arith, small) (λ e. cc)) in
+      (λ j lt. at-set_other l words (Volatile n status_offset) (Cached (line_word offset j)) 0 (here, omega arith) (omega arith, omega arith, small) (λ e. cc)) in
       let safe_lines : (offset : ℕ) → offset < 8 → line_field l after Durable offset ≡ line_field l words Durable offset =
       λ offset small. column-same l words after (line_count l) (λ j. Durable (line_word offset j))
-      (λ j lt. at-set_other l words (Volatile n 0) (Durable (line_word offset j)) 0 (here, omega arith) (omega arith, omega arith, small) (λ e. cc)) in
+      (λ j lt. at-set_other l words (Volatile n status_offset) (Durable (line_word offset j)) 0 (here, omega arith) (omega arith, omega arith, small) (λ e. cc)) in
       record {
         whole = freed_whole z n here gone (told_free l g words n freeing.free) row row' whole;
-        tended = still_tended z after (λ c j. inr (store_leaves l words (Volatile n 0) 0 (here, omega arith) (λ d k o. (λ e. cc, λ e. cc)) c j 0).0) tended;
+        tended = still_tended z after (λ c j. inr (store_leaves l words (Volatile n status_offset) 0 (here, omega arith) (λ d k o. (λ e. cc, λ e. cc)) c j 0).0) tended;
         version = ap (λ (φ : Facts). φ.version) facts_same;
         now = ap (λ (φ : Facts). φ.now) facts_same;
         list = ap (λ (φ : Facts). φ.list) facts_same;

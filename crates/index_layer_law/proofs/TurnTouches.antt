@@ -8,6 +8,7 @@ use Rattle.pm_words.specs.declared.action.Action.TheVariants.{Load}
 use Rattle.pm_words.specs.Locations.{Location, Root, Updater, Cached, Durable, Volatile, HasLocation, address_of, at}
 use Rattle.pm_words.specs.Rows.{IsRow, acted, got}
 use Rattle.pm_words.proofs.Apart.{at-set_same, at-set_other}
+use Rattle.pm_words.specs.Offsets.{stamp_offset, status_offset}
 use Rattle.search_layer.specs.ChangeStages.{Changing, Changed, ChangeStep}
 use Rattle.search_layer.specs.RootLine.{RootLineStays}
 use Rattle.search_layer.proofs.RootLemmas.{root_step_keeps}
@@ -23,7 +24,7 @@ use Rattle.index_layer_law.proofs.TurnAside.{KeepsRest}
 pub data Touches (r : RowTerms) (ghosts : Ghosts) (words after : List ℕ) : Type 0 where
   is_aside : KeepsRest r.layout words after → Touches r ghosts words after
   is_emptied : (j : ℕ) → j < line_count r.layout → IsCarried (terms_of r) (facts_in r ghosts words) j → after ≡ slice_set words (line_at r.layout j 0) 0 → Touches r ghosts words after
-  is_freed : (n : ℕ) → n < r.layout.nodes → IsFreeing (facts_in r ghosts words) n → after ≡ slice_set words (volatile_at r.layout n 0) 0 → Touches r ghosts words after
+  is_freed : (n : ℕ) → n < r.layout.nodes → IsFreeing (facts_in r ghosts words) n → after ≡ slice_set words (volatile_at r.layout n status_offset) 0 → Touches r ghosts words after
 
 -- And whoever finds the updater lock free then has given it back.
 pub record Touched (r : RowTerms) (ghosts : Ghosts) (words after : List ℕ) (next : RowStage) : Type 0 where
@@ -65,15 +66,15 @@ module _ (r : RowTerms) (ghosts : Ghosts) (words : List ℕ) (row : IsRow r.layo
     lock = λ zero. rests (sym (at-set_same l words Updater y row.whole tt) ∙ zero);
   }
 
-  stores_stamp : (n y : ℕ) (s t : RowStage) → n < l.nodes → s ≢ Resting → Locked s → Touched r ghosts words (slice_set words (volatile_at l n 2) y) t
+  stores_stamp : (n y : ℕ) (s t : RowStage) → n < l.nodes → s ≢ Resting → Locked s → Touched r ghosts words (slice_set words (volatile_at l n stamp_offset) y) t
   stores_stamp n y s t here busy locked =
-      let has : HasLocation l (Volatile n 2) = (here, omega arith) in
+      let has : HasLocation l (Volatile n stamp_offset) = (here, omega arith) in
       record {
         touches = is_aside (record {
-          rest = λ p there kept. at-set_other l words (Volatile n 2) p y has there (kept.stamp n);
-          root = root_stays (Volatile n 2) y has (λ o e. cc) (λ o e. cc);
+          rest = λ p there kept. at-set_other l words (Volatile n stamp_offset) p y has there (kept.stamp n);
+          root = root_stays (Volatile n stamp_offset) y has (λ o e. cc) (λ o e. cc);
         });
-        lock = still_locked (slice_set words (volatile_at l n 2) y) s t (at-set_other l words (Volatile n 2) Updater y has tt (λ e. cc)) busy locked;
+        lock = still_locked (slice_set words (volatile_at l n stamp_offset) y) s t (at-set_other l words (Volatile n stamp_offset) Updater y has tt (λ e. cc)) busy locked;
       }
 
   changes_leaves : (e : RowLine) (word : ℕ) (s t : Changing) (a : Action) (next : RowStage) → RowLawful r ghosts words (Changes e word s) → ChangeStep l (aim_of e word) s a (got l words a) t
@@ -112,17 +113,17 @@ touched r ghosts words row {s = s} {t = t} (empties {j = j} here) told is locked
   lock = still_locked r ghosts words row (slice_set words (line_at r.layout j 0) 0) s t
       (at-set_other r.layout words (Cached (line_word 0 j)) Updater 0 (omega arith, omega arith, omega arith) tt (λ e. cc)) (λ e. cc) locked;
 }
-touched r ghosts words row {s = s} {t = t} (passes_node {n = n} here other_status) told is locked = loads r ghosts words row (volatile_at r.layout n 0) s t (λ e. cc) locked
-touched r ghosts words row {s = s} {t = t} (sees_gone {n = n} here gone) told is locked = loads r ghosts words row (volatile_at r.layout n 0) s t (λ e. cc) locked
-touched r ghosts words row {s = s} {t = t} (passes_stamp {n = n} here why) told is locked = loads r ghosts words row (volatile_at r.layout n 2) s t (λ e. cc) locked
-touched r ghosts words row {s = s} {t = t} (sees_stamp {n = n} here some_stamp at_most) told is locked = loads r ghosts words row (volatile_at r.layout n 2) s t (λ e. cc) locked
+touched r ghosts words row {s = s} {t = t} (passes_node {n = n} here other_status) told is locked = loads r ghosts words row (volatile_at r.layout n status_offset) s t (λ e. cc) locked
+touched r ghosts words row {s = s} {t = t} (sees_gone {n = n} here gone) told is locked = loads r ghosts words row (volatile_at r.layout n status_offset) s t (λ e. cc) locked
+touched r ghosts words row {s = s} {t = t} (passes_stamp {n = n} here why) told is locked = loads r ghosts words row (volatile_at r.layout n stamp_offset) s t (λ e. cc) locked
+touched r ghosts words row {s = s} {t = t} (sees_stamp {n = n} here some_stamp at_most) told is locked = loads r ghosts words row (volatile_at r.layout n stamp_offset) s t (λ e. cc) locked
 touched r ghosts words row {s = s} {t = t} (passes_worn {n = n} here worn) told is locked = loads r ghosts words row (version_at r.layout n) s t (λ e. cc) locked
 touched r ghosts words row {s = s} {t = t} (sees_unworn {n = n} here unworn) told is locked = loads r ghosts words row (version_at r.layout n) s t (λ e. cc) locked
 touched r ghosts words row {s = s} {t = t} (unstamps {n = n} here) told is locked = stores_stamp r ghosts words row n 0 s t here (λ e. cc) locked
 touched r ghosts words row {s = s} {t = t} (frees {n = n} here) told is locked = record {
   touches = is_freed n here is.law.sure refl;
-  lock = still_locked r ghosts words row (slice_set words (volatile_at r.layout n 0) 0) s t
-      (at-set_other r.layout words (Volatile n 0) Updater 0 (here, omega arith) tt (λ e. cc)) (λ e. cc) locked;
+  lock = still_locked r ghosts words row (slice_set words (volatile_at r.layout n status_offset) 0) s t
+      (at-set_other r.layout words (Volatile n status_offset) Updater 0 (here, omega arith) tt (λ e. cc)) (λ e. cc) locked;
 }
-touched r ghosts words row {s = s} {t = t} (counts {n = n} here) told is locked = loads r ghosts words row (volatile_at r.layout n 0) s t (λ e. cc) locked
+touched r ghosts words row {s = s} {t = t} (counts {n = n} here) told is locked = loads r ghosts words row (volatile_at r.layout n status_offset) s t (λ e. cc) locked
 touched r ghosts words row (leaves_lock done) told is locked = stores_lock r ghosts words row 0 Resting (λ _. refl)

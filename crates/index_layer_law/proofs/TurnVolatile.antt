@@ -4,6 +4,7 @@ use Rattle.pm_words.specs.declared.layout.Layout.{Layout}
 use Rattle.pm_words.specs.Locations.{Location, Cached, Volatile, at}
 use Rattle.pm_words.specs.Rows.{acted}
 use Rattle.pm_words.proofs.Apart.{at-set_other}
+use Rattle.pm_words.specs.Offsets.{status_offset}
 use Rattle.updater_row_law.specs.Columns.{Ghosts, RowTerms, line_word}
 use Rattle.updater_row_law.specs.RowStages.{Resting}
 use Rattle.updater_row_law.specs.RowSteps.{RowStep}
@@ -25,7 +26,7 @@ touches_leave r ghosts words after n offset here most first second (is_emptied j
     ∙ at-set_other r.layout words (Cached (line_word 0 j)) (Volatile n offset) 0 (omega arith, omega arith, omega arith) (here, most) (λ e. cc)
 touches_leave r ghosts words after n offset here most first second (is_freed m low freeing is) =
     ap (λ (v : List ℕ). at r.layout v (Volatile n offset)) is
-    ∙ at-set_other r.layout words (Volatile m 0) (Volatile n offset) 0 (low, omega arith) (here, most) (λ e. first (ap offset_in e))
+    ∙ at-set_other r.layout words (Volatile m status_offset) (Volatile n offset) 0 (low, omega arith) (here, most) (λ e. first (ap offset_in e))
 
 pub turn_step_leaves_volatile : TurnStepLeavesVolatile
 turn_step_leaves_volatile z i t next a x n offset is there foot told here most first second =

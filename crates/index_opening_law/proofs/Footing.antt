@@ -10,6 +10,7 @@ use Rattle.cat_history.specs.Maps.{Map}
 use Rattle.data_node.specs.Spots.{Spot}
 use Rattle.data_node.proofs.ListLemmas.{chain_closed, member_or}
 use Rattle.data_node.specs.Lists.{ListNode, IsIn, IsMember, IsChain, next_offset}
+use Rattle.pm_words.specs.Offsets.{prev_offset}
 use Rattle.call_stages.specs.Lines.{HeldLine}
 use Rattle.call_stages.specs.Prevs.{Debt}
 use Rattle.index_law.specs.Facts.{list_in, spot_in, status_in}
@@ -76,7 +77,7 @@ module _ (l : Layout) (list : List ListNode) (o : Columns) (words : List ℕ) (m
   fits : AreFit l words
   fits c j mix mixed = inl (⊎_elim (λ durably. durably ∙ safe_zero c j) (λ cached. cached ∙ line_zero c j) (mixed 0))
 
-  prev_is : (n : ℕ) → n < l.nodes → prev_in l words n ≡ at l words (Volatile n 1)
+  prev_is : (n : ℕ) → n < l.nodes → prev_in l words n ≡ at l words (Volatile n prev_offset)
   unfolding prev_in
   prev_is n here = rw (lt-ltb n l.nodes here) refl
 
@@ -88,7 +89,7 @@ module _ (l : Layout) (list : List ListNode) (o : Columns) (words : List ℕ) (m
   below n = ⊎_elim
       (λ (here : n < l.nodes).
       subst (λ p. p < l.nodes) (sym (prev_is n here)) (⊎_elim
-      (λ (among : IsMember list n). before_within l.nodes 0 (λ k. at l words (Volatile k 1)) list is.rests.sound.nodes.some is.rests.sound.nodes.makes.within is.tells.back n among)
+      (λ (among : IsMember list n). before_within l.nodes 0 (λ k. at l words (Volatile k prev_offset)) list is.rests.sound.nodes.some is.rests.sound.nodes.makes.within is.tells.back n among)
       (λ none. let zero_is = is.tells.none n here none in let some = is.rests.sound.nodes.some in omega arith)
       (member_or list n)))
       (λ (past : l.nodes ≤ n). let zero_is = prev_past n past in let some = is.rests.sound.nodes.some in omega arith)
@@ -99,7 +100,7 @@ module _ (l : Layout) (list : List ListNode) (o : Columns) (words : List ℕ) (m
       let next = spot_in l words n next_offset in
       let there : next < l.nodes = within l list o words m is next (inr (chain_closed (spot_in l words) 0 (list_in l words) (made l list o words m is).chain n has more)) in
       prev_is next there
-      ∙ follows (spot_in l words) (λ k. at l words (Volatile k 1)) 0 list (makes l list o words m is).chain is.tells.back n (listed l list o words m is n has) more
+      ∙ follows (spot_in l words) (λ k. at l words (Volatile k prev_offset)) 0 list (makes l list o words m is).chain is.tells.back n (listed l list o words m is n has) more
 
   pub opening_footed : (parties : List Party) (lines : List (Option HeldLine)) (debts : List Debt) → AreFree parties lines debts → Each (λ p. p.since ≤ 0) parties
       → IsFooted (record { world = opened_world l words parties m; lines = lines; debts = debts })

@@ -9,6 +9,7 @@ use Rattle.cat_history.specs.Maps.{Map}
 use Rattle.version_lock.specs.Versions.{generation_of, IsFree, IsWorn, is_worn_word}
 use Rattle.version_lock.proofs.WordTests.{free_is, worn_word}
 use Rattle.data_node.specs.Lists.{ListNode, anchor_in}
+use Rattle.pm_words.specs.Offsets.{stamp_offset}
 use Rattle.index_law.specs.Facts.{Facts, version_in, status_in}
 use Rattle.index_law.specs.Worlds.{Party, facts}
 use Rattle.layer_map.specs.Keys.{key_of}
@@ -111,7 +112,7 @@ module _ (l : Layout) (list : List ListNode) (o : Columns) (words : List ℕ) (m
 
   stamp_zero : (n : ℕ) → volatile_field l words 2 n ≡ 0
   unfolding column
-  stamp_zero n = cond_both (nat_lt n l.nodes) (at l words (Volatile n 2)) 0 (λ x. x ≡ 0) (λ here. is.tells.stamps n (ltb-true n l.nodes here)) (λ past. refl)
+  stamp_zero n = cond_both (nat_lt n l.nodes) (at l words (Volatile n stamp_offset)) 0 (λ x. x ≡ 0) (λ here. is.tells.stamps n (ltb-true n l.nodes here)) (λ past. refl)
 
   not_worn : (n : ℕ) → is_worn_word (version_in l words n) g ≡ false
   not_worn n = false_from_ne_true (is_worn_word (version_in l words n) g) (λ worn. (untaken n).1 (worn_word (version_in l words n) g worn))

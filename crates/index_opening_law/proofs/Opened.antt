@@ -10,6 +10,7 @@ use Rattle.version_lock.specs.Versions.{generation_of, IsFree}
 use Rattle.data_node.specs.Lists.{ListNode, IsIn, MakeList, Rise, StaysIn, next_offset, range_in}
 use Rattle.data_node.specs.Spots.{Spot, Means}
 use Rattle.data_node.proofs.ListLemmas.{chain_is, members_few, member_or}
+use Rattle.pm_words.specs.Offsets.{version_offset}
 use Rattle.call_stages.specs.Stages.{Idle}
 use Rattle.index_law.specs.Facts.{version_in, spot_in, status_in, list_in, durable_spot, durable_version}
 use Rattle.index_law.specs.Worlds.{Party, facts}
@@ -36,7 +37,7 @@ safe_spot_is l words = λ k n o. (λ (x : ℕ). x) (cond (nat_lt n l.nodes && (n
 
 pub version_is : (l : Layout) (words : List ℕ) → (columns_in l words Cached).version ≡ version_in l words
 unfolding word_if version_in
-version_is l words = λ k n. (λ (x : ℕ). x) (cond (nat_lt n l.nodes) (at l words (Cached (Node n 0))) 0)
+version_is l words = λ k n. (λ (x : ℕ). x) (cond (nat_lt n l.nodes) (at l words (Cached (Node n version_offset))) 0)
 
 -- a word with no use is 0 where the columns say so
 unused : (l : Layout) (words : List ℕ) (twin : Word → Location) (k : ℕ) → k < spare_count → (columns_in l words twin).spare k ≡ 0 → at l words (twin (spare_word k)) ≡ 0
@@ -147,7 +148,7 @@ module _ (l : Layout) (list : List ListNode) (o : Columns) (words : List ℕ) (m
       safe_version : (n : ℕ) → n < l.nodes → generation_of (durable_version l words n) ≤ at l words (Cached (Header 5))
       safe_version n here =
           let same : durable_version l words n ≡ now.version n =
-          sym (word_if-here (nat_lt n l.nodes) (at l words (Durable (Node n 0))) (lt-ltb n l.nodes here)) ∙ (λ j. (is.rests.durable j).version n) in
+          sym (word_if-here (nat_lt n l.nodes) (at l words (Durable (Node n version_offset))) (lt-ltb n l.nodes here)) ∙ (λ j. (is.rests.durable j).version n) in
           subst (λ (v : ℕ). generation_of v ≤ at l words (Cached (Header 5))) (sym same) (is.rests.sound.nodes.versions n here)
 
       settled : (n : ℕ) → IsIn list n → IsSettled l (facts (opened_world l words parties m)) n

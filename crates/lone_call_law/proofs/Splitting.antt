@@ -48,6 +48,7 @@ use Rattle.index_law.specs.Facts.{version_in, status_in}
 use Rattle.index_law.specs.Lines.{line_in}
 use Rattle.index_law.proofs.Rows.{version_in-here, status_in-here, version_in-alike, spot_in-alike, status_in-alike}
 use Rattle.data_node.specs.Lists.{next_offset}
+use Rattle.pm_words.specs.Offsets.{status_offset, version_offset}
 use Rattle.index_law.proofs.Noting.{line-alike, line-here}
 use Rattle.lone_call_law.specs.There.{IsUnmoved}
 use Rattle.lone_call_law.proofs.There.{stored_unmoved}
@@ -60,8 +61,8 @@ drained_unmoved l words0 words n c j offset y low index small unmoved =
     let stored : List ℕ = set words (address_of l (Durable (Line c j offset))) y in
     let is : acted l words (Drain (address_of l (Cached (Line c j offset))) y) ≡ stored = ap (λ q. set words q y) (action_address-drain l (Line c j offset) y) in
     subst (λ ws. IsUnmoved l words0 ws n) (sym is) (record {
-      versions = λ m other. version_in-alike l words stored m (λ there. at-set_other l words (Durable (Line c j offset)) (Cached (Node m 0)) y (low, index, small) (there, omega arith) (λ e. cc)) ∙ unmoved.versions m other;
-      statuses = λ m. status_in-alike l words stored m (λ there. at-set_other l words (Durable (Line c j offset)) (Volatile m 0) y (low, index, small) (there, omega arith) (λ e. cc)) ∙ unmoved.statuses m;
+      versions = λ m other. version_in-alike l words stored m (λ there. at-set_other l words (Durable (Line c j offset)) (Cached (Node m version_offset)) y (low, index, small) (there, omega arith) (λ e. cc)) ∙ unmoved.versions m other;
+      statuses = λ m. status_in-alike l words stored m (λ there. at-set_other l words (Durable (Line c j offset)) (Volatile m status_offset) y (low, index, small) (there, omega arith) (λ e. cc)) ∙ unmoved.statuses m;
       nexts = λ m. spot_in-alike l words stored m next_offset (λ there _. at-set_other l words (Durable (Line c j offset)) (Cached (Node m next_offset)) y (low, index, small) there (λ e. cc)) ∙ unmoved.nexts m;
       lines = λ d k. line-alike l words stored d k 0 (λ there. at-set_other l words (Durable (Line c j offset)) (Cached (Line d k 0)) y (low, index, small) there (λ e. cc)) ∙ unmoved.lines d k;
     })

@@ -54,6 +54,7 @@ use Rattle.lone_call_law.specs.There.{HasCome, nodes_in, CanWalk, StartsAt, Walk
 use Rattle.lone_call_law.specs.There.{RestIsStill, IdleIsQuiet}
 use Rattle.std.specs.Prelude.{IsSome, is_some}
 use Rattle.std.specs.Prelude.{Option, Some, None}
+use Rattle.pm_words.specs.Offsets.{status_offset, version_offset}
 use Rattle.index_law.proofs.Places.{node_at, offset_at}
 
 pub rest_is_still : RestIsStill
@@ -116,10 +117,10 @@ pub stored_unmoved : (l : Layout) (words0 words : List ℕ) (n word : ℕ) → n
 stored_unmoved l words0 words n word here unmoved =
     let stored : List ℕ = set words (version_address l n) word in
     record {
-      versions = λ m other. version_in-alike l words stored m (λ there. at-set_other l words (Cached (Node n 0)) (Cached (Node m 0)) word (here, omega arith) (there, omega arith) (λ e. other (ap node_at e))) ∙ unmoved.versions m other;
-      statuses = λ m. status_in-alike l words stored m (λ there. at-set_other l words (Cached (Node n 0)) (Volatile m 0) word (here, omega arith) (there, omega arith) (λ e. cc)) ∙ unmoved.statuses m;
-      nexts = λ m. spot_in-alike l words stored m next_offset (λ there _. at-set_other l words (Cached (Node n 0)) (Cached (Node m next_offset)) word (here, omega arith) there (λ e. let no : 2 ≡ 0 = ap offset_at e in omega arith)) ∙ unmoved.nexts m;
-      lines = λ c j. line-alike l words stored c j 0 (λ there. at-set_other l words (Cached (Node n 0)) (Cached (Line c j 0)) word (here, omega arith) there (λ e. cc)) ∙ unmoved.lines c j;
+      versions = λ m other. version_in-alike l words stored m (λ there. at-set_other l words (Cached (Node n version_offset)) (Cached (Node m version_offset)) word (here, omega arith) (there, omega arith) (λ e. other (ap node_at e))) ∙ unmoved.versions m other;
+      statuses = λ m. status_in-alike l words stored m (λ there. at-set_other l words (Cached (Node n version_offset)) (Volatile m status_offset) word (here, omega arith) (there, omega arith) (λ e. cc)) ∙ unmoved.statuses m;
+      nexts = λ m. spot_in-alike l words stored m next_offset (λ there _. at-set_other l words (Cached (Node n version_offset)) (Cached (Node m next_offset)) word (here, omega arith) there (λ e. let no : 2 ≡ 0 = ap offset_at e in omega arith)) ∙ unmoved.nexts m;
+      lines = λ c j. line-alike l words stored c j 0 (λ there. at-set_other l words (Cached (Node n version_offset)) (Cached (Line c j 0)) word (here, omega arith) there (λ e. cc)) ∙ unmoved.lines c j;
     }
 
 -- and as its lock is taken a node's version word alone changes
@@ -128,10 +129,10 @@ locked_unmoved l words0 words n old new here same =
     let word : ℕ = cond (get_or words (version_address l n) 0 == old) new (get_or words (version_address l n) 0) in
     let stored : List ℕ = set words (version_address l n) word in
     subst (λ ws. IsUnmoved l ws stored n) same (record {
-      versions = λ m other. version_in-alike l words stored m (λ there. at-set_other l words (Cached (Node n 0)) (Cached (Node m 0)) word (here, omega arith) (there, omega arith) (λ e. other (ap node_at e)));
-      statuses = λ m. status_in-alike l words stored m (λ there. at-set_other l words (Cached (Node n 0)) (Volatile m 0) word (here, omega arith) (there, omega arith) (λ e. cc));
-      nexts = λ m. spot_in-alike l words stored m next_offset (λ there _. at-set_other l words (Cached (Node n 0)) (Cached (Node m next_offset)) word (here, omega arith) there (λ e. let no : 2 ≡ 0 = ap offset_at e in omega arith));
-      lines = λ c j. line-alike l words stored c j 0 (λ there. at-set_other l words (Cached (Node n 0)) (Cached (Line c j 0)) word (here, omega arith) there (λ e. cc));
+      versions = λ m other. version_in-alike l words stored m (λ there. at-set_other l words (Cached (Node n version_offset)) (Cached (Node m version_offset)) word (here, omega arith) (there, omega arith) (λ e. other (ap node_at e)));
+      statuses = λ m. status_in-alike l words stored m (λ there. at-set_other l words (Cached (Node n version_offset)) (Volatile m status_offset) word (here, omega arith) (there, omega arith) (λ e. cc));
+      nexts = λ m. spot_in-alike l words stored m next_offset (λ there _. at-set_other l words (Cached (Node n version_offset)) (Cached (Node m next_offset)) word (here, omega arith) there (λ e. let no : 2 ≡ 0 = ap offset_at e in omega arith));
+      lines = λ c j. line-alike l words stored c j 0 (λ there. at-set_other l words (Cached (Node n version_offset)) (Cached (Line c j 0)) word (here, omega arith) there (λ e. cc));
     })
 
 module _ (call : Call) (sound : IsCall call) (words0 words : List ℕ) where

@@ -113,6 +113,7 @@ use Rattle.index_law.proofs.Noting.{line-alike}
 use Rattle.index_law.proofs.Rows.{spot_in-alike, status_in-alike, version_in-alike}
 use Rattle.node_ops.specs.Calls.{IsCall}
 use Rattle.data_node.specs.Spots.{bitmap_offset, slot_offset}
+use Rattle.pm_words.specs.Offsets.{permutation_version_offset, status_offset, version_offset}
 
 -- a write that has come there holds the lock
 came_locked : (l : Layout) (words0 words : List ℕ) (call : Call) (word : ℕ) (limit : Option ℕ) → IsSome limit → HasCome limit l words0 words call word → IsAtNode l words0 call × IsUnmoved l words0 words call.node
@@ -456,8 +457,8 @@ beyond_unmoved : (l : Layout) (words0 words : List ℕ) (n m offset y : ℕ) →
 beyond_unmoved l words0 words n m offset y here most other unmoved =
     let stored : List ℕ = set words (address_of l (Volatile m offset)) y in
     record {
-      versions = λ k apart. version_in-alike l words stored k (λ there. at-set_other l words (Volatile m offset) (Cached (Node k 0)) y (here, most) (there, omega arith) (λ e. cc)) ∙ unmoved.versions k apart;
-      statuses = λ k. status_in-alike l words stored k (λ there. at-set_other l words (Volatile m offset) (Volatile k 0) y (here, most) (there, omega arith) (λ e. other (sym (ap offset_of_volatile e)))) ∙ unmoved.statuses k;
+      versions = λ k apart. version_in-alike l words stored k (λ there. at-set_other l words (Volatile m offset) (Cached (Node k version_offset)) y (here, most) (there, omega arith) (λ e. cc)) ∙ unmoved.versions k apart;
+      statuses = λ k. status_in-alike l words stored k (λ there. at-set_other l words (Volatile m offset) (Volatile k status_offset) y (here, most) (there, omega arith) (λ e. other (sym (ap offset_of_volatile e)))) ∙ unmoved.statuses k;
       nexts = λ k. spot_in-alike l words stored k next_offset (λ there _. at-set_other l words (Volatile m offset) (Cached (Node k next_offset)) y (here, most) there (λ e. cc)) ∙ unmoved.nexts k;
       lines = λ c j. line-alike l words stored c j 0 (λ there. at-set_other l words (Volatile m offset) (Cached (Line c j 0)) y (here, most) there (λ e. cc)) ∙ unmoved.lines c j;
     }
@@ -534,7 +535,7 @@ stores_unmoved store l words0 words n layout here unmoved =
     (Store (permutation_version_address store.layout store.node) (store.locked + 1)))) n) [
       | true ↦ λ more. subst (λ (m : Layout). IsUnmoved l words0 (set words (address_of m (Volatile store.node (8 + store.stored))) (slice_index store.words store.stored)) n) (sym layout)
           (beyond_unmoved l words0 words n store.node (8 + store.stored) (slice_index store.words store.stored) here (let low = ltb-true store.stored 8 more in omega arith) (λ e. omega arith) unmoved)
-      | false ↦ λ last. subst (λ (m : Layout). IsUnmoved l words0 (set words (address_of m (Volatile store.node 3)) (store.locked + 1)) n) (sym layout)
+      | false ↦ λ last. subst (λ (m : Layout). IsUnmoved l words0 (set words (address_of m (Volatile store.node permutation_version_offset)) (store.locked + 1)) n) (sym layout)
           (beyond_unmoved l words0 words n store.node 3 (store.locked + 1) here (omega arith) (λ e. omega arith) unmoved)
     ] refl
 

@@ -4,6 +4,7 @@ use Rattle.pm_words.specs.Codes.{ready_state}
 use Rattle.pm_words.specs.declared.layout.Layout.{Layout}
 use Rattle.pm_words.specs.Locations.{Node, Cached, Volatile}
 use Rattle.data_node.specs.Lists.{anchor_in, members_from, IsIn, Rise}
+use Rattle.pm_words.specs.Offsets.{prev_offset, status_offset, version_offset}
 use Rattle.data_list.specs.Still.{Nodes, AreQuiet}
 use Rattle.data_list.proofs.Comings.{comes_once}
 use Rattle.index_law.specs.Facts.{spot_in, status_in, version_in}
@@ -82,11 +83,11 @@ short_stays_alike w words alike short key start floor =
     column-same l w.words words (line_count l) (λ j. Cached (line_word 0 j)) (λ j here. alike (Cached (line_word 0 j)) (omega arith, omega arith, omega arith) tt) in
     let ready : ready_lines (record w { words = words }) ≡ ready_lines w = λ k. how_many (λ j. states k j == ready_state) (line_count l) in
     let version : (n : ℕ) → version_in l words n ≡ version_in l w.words n =
-    λ n. version_in-alike l w.words words n (λ here. alike (Cached (Node n 0)) (here, omega arith) tt) in
+    λ n. version_in-alike l w.words words n (λ here. alike (Cached (Node n version_offset)) (here, omega arith) tt) in
     let status : (n : ℕ) → status_in l words n ≡ status_in l w.words n =
-    λ n. status_in-alike l w.words words n (λ here. alike (Volatile n 0) (here, omega arith) tt) in
+    λ n. status_in-alike l w.words words n (λ here. alike (Volatile n status_offset) (here, omega arith) tt) in
     let prev : (n : ℕ) → prev_in l words n ≡ prev_in l w.words n =
-    λ n. prev_in-alike l w.words words n (λ here. alike (Volatile n 1) (here, omega arith) tt) in
+    λ n. prev_in-alike l w.words words n (λ here. alike (Volatile n prev_offset) (here, omega arith) tt) in
     let spot : (n offset : ℕ) → spot_in l words n offset ≡ spot_in l w.words n offset =
     λ n offset. spot_in-alike l w.words words n offset (λ has positive. alike (Cached (Node n offset)) has tt) in
     let nodes : nodes_of (record w { words = words }) ≡ nodes_of w =

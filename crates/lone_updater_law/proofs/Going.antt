@@ -8,6 +8,7 @@ use Rattle.pm_words.specs.declared.machine.Turn.{Turn}
 use Rattle.pm_words.specs.declared.machine.Turn.TheVariants.{Go, Done}
 use Rattle.pm_words.specs.Locations.{Volatile, Cached}
 use Rattle.pm_words.specs.Rows.{acted, got}
+use Rattle.pm_words.specs.Offsets.{stamp_offset}
 use Rattle.version_lock.specs.Versions.{is_worn_word}
 use Rattle.call_stages.specs.Stages.{Idle}
 use Rattle.call_stages.specs.Watches.{Nothing}
@@ -104,7 +105,7 @@ module _ (before w : World) (stamp release : ℕ) (tally : Tally) (x : ℕ) (nod
   knows (at.Status node) here done heard walk told = record { so = told ∙ sym (status_in-here l words node here.within) ∙ (done.ahead node (omega arith)).status; busy = λ e. cc }
   knows (at.Stamp node) here done heard walk told =
       let ahead = done.ahead node (omega arith) in
-      record { so = told ∙ sym (column-here l words l.nodes (λ k. Volatile k 2) node here.within) ∙ ahead.stamped (ahead.status ∙ heard.1); busy = λ e. cc }
+      record { so = told ∙ sym (column-here l words l.nodes (λ k. Volatile k stamp_offset) node here.within) ∙ ahead.stamped (ahead.status ∙ heard.1); busy = λ e. cc }
   knows (at.Version node) here done heard walk told = record { so = told ∙ sym (version_in-here l words node here.within) ∙ versions node; busy = λ e. cc }
   knows (at.Releasing release) here done heard walk told = record { so = tt; busy = releasing release.at release.node }
   knows (at.Counting node none) here done heard walk told =

@@ -9,6 +9,7 @@ use Rattle.pm_words.specs.declared.action.Action.{Action}
 use Rattle.pm_words.specs.declared.action.Action.TheVariants.{Load}
 use Rattle.pm_words.specs.Locations.{Volatile, Cached, Node}
 use Rattle.pm_words.specs.Rows.{IsRow, acted, got}
+use Rattle.pm_words.specs.Offsets.{stamp_offset, status_offset, version_offset}
 use Rattle.version_lock.specs.Versions.{is_worn_word}
 use Rattle.index_law.specs.Worlds.{World, facts}
 use Rattle.search_layer.specs.ChangeStages.{Changing, Changed, ChangeStep}
@@ -225,7 +226,7 @@ module _ (before : World) (stamp release : ℕ) (l : Layout) (g : ℕ) (some : s
     volatile_told n o x lt told = column-here l words l.nodes (λ k. Volatile k o) n lt ∙ sym told
 
     version_told : (n x : ℕ) → n < l.nodes → x ≡ got l words (Load (version_at l n)) → node_field l words 0 n ≡ x
-    version_told n x lt told = column-here l words l.nodes (λ k. Cached (Node k 0)) n lt ∙ sym told
+    version_told n x lt told = column-here l words l.nodes (λ k. Cached (Node k version_offset)) n lt ∙ sym told
 
     -- a load leaves the row
     loads : (P : Marks → Type 0) (address : ℕ) → P m → P (row_marks l (acted l words (Load address)))
@@ -285,13 +286,13 @@ module _ (before : World) (stamp release : ℕ) (l : Layout) (g : ℕ) (some : s
         line_done (facts_in r later _) j within later_is.0 later_is.1
         (stores (λ k. HasEmptied before stamp k (suc j)) _ _ (line_emptied r ghosts words j row.whole within).facts (emptied before stamp m j done))
     done_after (passes_node {n = n} {x = x} within other_status) busy handles told is later_is done =
-        skips n (volatile_at l n 0) within (not_gone before stamp release n (λ gone. other_status (sym (volatile_told n 0 x within told) ∙ (done.ahead n (omega arith)).status ∙ gone))) done
-    done_after (sees_gone {n = n} within gone) busy handles told is later_is done = loads (λ k. HasSwept before stamp release k n) (volatile_at l n 0) done
+        skips n (volatile_at l n status_offset) within (not_gone before stamp release n (λ gone. other_status (sym (volatile_told n 0 x within told) ∙ (done.ahead n (omega arith)).status ∙ gone))) done
+    done_after (sees_gone {n = n} within gone) busy handles told is later_is done = loads (λ k. HasSwept before stamp release k n) (volatile_at l n status_offset) done
     done_after (passes_stamp {n = n} {x = x} within why) busy handles told is later_is done =
         let stamp_x : stamp_then before stamp n ≡ x = sym (stamp_is n is.law.sure done) ∙ volatile_told n 2 x within told in
-        skips n (volatile_at l n 2) within (is_late before stamp release n (gone_was n is.law.sure done)
+        skips n (volatile_at l n stamp_offset) within (is_late before stamp release n (gone_was n is.law.sure done)
         (elim why [ inl none ↦ absurd (then_some before stamp some n (stamp_x ∙ none)) | inr late ↦ subst (λ k. release < k) (sym stamp_x) late ])) done
-    done_after (sees_stamp {n = n} within some_stamp early) busy handles told is later_is done = loads (λ k. HasSwept before stamp release k n) (volatile_at l n 2) done
+    done_after (sees_stamp {n = n} within some_stamp early) busy handles told is later_is done = loads (λ k. HasSwept before stamp release k n) (volatile_at l n stamp_offset) done
     done_after (passes_worn {n = n} {x = x} within worn) busy handles told is later_is done =
         let gone = is.law.sure.gone in
         skips n (version_at l n) within (is_worn before stamp release n (gone_was n gone done) (subst (λ k. k ≤ release) (stamp_is n gone done) is.law.sure.release)
@@ -305,6 +306,6 @@ module _ (before : World) (stamp release : ℕ) (l : Layout) (g : ℕ) (some : s
     done_after (frees {n = n} within) busy handles told is later_is done =
         node_done (row_marks l _) n within
         (stores (λ k. HasSwept before stamp release k (suc n)) _ _ (status_stored r ghosts words n 0 row.whole within).facts (made_free before stamp release m n done))
-    done_after (counts {n = n} within) busy handles told is later_is done = loads (λ k. HasSwept before stamp release k before.layout.nodes) (volatile_at l n 0) done
+    done_after (counts {n = n} within) busy handles told is later_is done = loads (λ k. HasSwept before stamp release k before.layout.nodes) (volatile_at l n status_offset) done
     done_after (leaves_lock last) busy handles told is later_is done =
         stores (λ k. HasSwept before stamp release k before.layout.nodes) _ _ (lock_stored r ghosts words 0).facts done

@@ -15,6 +15,7 @@ use Rattle.cat_key.proofs.Packing.{name_bytes}
 use Rattle.version_lock.specs.Versions.{generation_of}
 use Rattle.data_node.specs.Lists.{next_offset, anchor_in}
 use Rattle.data_node.proofs.KeyLemmas.{zero_anchor}
+use Rattle.pm_words.specs.Offsets.{stamp_offset, status_offset, version_offset}
 use Rattle.call_stages.specs.Kinds.{HasWordAt, Told}
 use Rattle.call_stages.specs.Lines.{IsEntry}
 use Rattle.data_list.specs.Walks.{walk_asks}
@@ -168,7 +169,7 @@ told_of_line terms tally (at.Landing line entry floor) words is here fit ready =
     place_told terms.layout asks (got terms.layout words asks) (subst (λ (k : Layout). LoadsLayer k asks) here.3 (floor_only_loads floor here.2))
 told_of_line terms tally (at.Walking line entry walk) words is here fit ready =
     none_of_line terms.layout _ _ (subst (λ (k : Layout). LoadsApart k (walk_asks walk)) here.2.layout (walk_place walk here.2.sound))
-told_of_line terms tally (at.Seeing line entry found) words is here fit ready = apart terms.layout (Cached (Node found.node 0)) (here.2, omega arith) (λ c j o is. cc) _
+told_of_line terms tally (at.Seeing line entry found) words is here fit ready = apart terms.layout (Cached (Node found.node version_offset)) (here.2, omega arith) (λ c j o is. cc) _
 told_of_line terms tally (at.Setting line entry set) words is here fit ready =
     let asks : Action = change_asks set.change in
     layer_told terms.layout asks (got terms.layout words asks) (subst (λ (k : Layout). IsOnLayer k asks) here.3 (changes_stay_on_layer set.change here.2.change))
@@ -177,9 +178,9 @@ told_of_line terms tally (at.Unsetting line entry unset) words is here fit ready
     layer_told terms.layout asks (got terms.layout words asks) (subst (λ (k : Layout). IsOnLayer k asks) here.3 (changes_stay_on_layer unset.change here.2.change))
 told_of_line terms tally (at.Stamping line entry) words is here fit ready = no_load terms.layout _ _ (λ place is. cc)
 told_of_line terms tally (at.Clearing clear) words is here fit ready = no_load terms.layout _ _ (λ place is. cc)
-told_of_line terms tally (at.Status node) words is here fit ready = apart terms.layout (Volatile node 0) (here.within, omega arith) (λ c j o is. cc) _
-told_of_line terms tally (at.Stamp node) words is here fit ready = apart terms.layout (Volatile node 2) (here.within, omega arith) (λ c j o is. cc) _
-told_of_line terms tally (at.Version node) words is here fit ready = apart terms.layout (Cached (Node node 0)) (here.within, omega arith) (λ c j o is. cc) _
+told_of_line terms tally (at.Status node) words is here fit ready = apart terms.layout (Volatile node status_offset) (here.within, omega arith) (λ c j o is. cc) _
+told_of_line terms tally (at.Stamp node) words is here fit ready = apart terms.layout (Volatile node stamp_offset) (here.within, omega arith) (λ c j o is. cc) _
+told_of_line terms tally (at.Version node) words is here fit ready = apart terms.layout (Cached (Node node version_offset)) (here.within, omega arith) (λ c j o is. cc) _
 told_of_line terms tally (at.Releasing release) words is here fit ready = release_told terms.layout release.layout release.node release.at _
-told_of_line terms tally (at.Counting node none) words is here fit ready = apart terms.layout (Volatile node 0) (here.0, omega arith) (λ c j o is. cc) _
+told_of_line terms tally (at.Counting node none) words is here fit ready = apart terms.layout (Volatile node status_offset) (here.0, omega arith) (λ c j o is. cc) _
 told_of_line terms tally (at.Leaving none) words is here fit ready = no_load terms.layout _ _ (λ place is. cc)

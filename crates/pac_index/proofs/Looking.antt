@@ -14,6 +14,7 @@ use Rattle.pm_words.specs.declared.machine.Turn.TheVariants.{Go, Done}
 use Rattle.pm_words.specs.Locations.{Cached, Clock, Node, address_of, row_words}
 use Rattle.pm_words.specs.Rows.{given, action_address, word_after, CanChange}
 use Rattle.pm_words.proofs.Apart.{addresses_within}
+use Rattle.pm_words.specs.Offsets.{version_offset}
 use Rattle.call_stages.specs.declared.once.Once.{Once}
 use Rattle.call_stages.specs.declared.once.Once.TheVariants as once
 use Rattle.call_stages.specs.declared.view.View.{View}
@@ -124,7 +125,7 @@ pub load_inside : (l : Layout) (r : Recheck) → IsRecheck r → (recheck_view r
 load_inside l (Dating view node version) here same = subst (λ (n : Layout). address_of n Clock < row_words l) (sym same) (addresses_within l Clock tt)
 load_inside l (Checking view node version clock) here same =
     let at : node < l.nodes = subst (λ (n : Layout). node < n.nodes) same here.1 in
-    subst (λ (n : Layout). address_of n (Cached (Node node 0)) < row_words l) (sym same) (addresses_within l (Cached (Node node 0)) (at, omega arith))
+    subst (λ (n : Layout). address_of n (Cached (Node node version_offset)) < row_words l) (sym same) (addresses_within l (Cached (Node node version_offset)) (at, omega arith))
 
 -- and its machine takes what they give
 pub takes_clock : (v w : Member) (view : View) (node version clock : ℕ) → IsRecheck (Dating view node version) → v.about.layout ≡ view.layout → v.about.generation ≡ view.generation → Dates v clock w → recheck_takes (Dating view node version) clock

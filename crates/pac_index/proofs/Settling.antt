@@ -10,6 +10,7 @@ use Rattle.pm_words.specs.Images.{Row}
 use Rattle.pm_words.specs.Rows.{IsRow, CanAct}
 use Rattle.pm_words.proofs.Apart.{at-set_same, at-set_other, addresses_within}
 use Rattle.pm_words.proofs.Kept.{acted_row, outside_header}
+use Rattle.pm_words.specs.Offsets.{stamp_offset}
 use Rattle.index_law.specs.Facts.{Facts}
 use Rattle.index_law.specs.Weights.{index_weight}
 use Rattle.permutation_law.proofs.Columns.{left_stored}
@@ -26,26 +27,26 @@ use Rattle.pac_index.specs.Stamps.{stamp_in, with_words, SettlesTo}
 use Rattle.index_law.proofs.Places.{node_at, offset_at}
 
 abbrev stamped : Layout → List ℕ → ℕ → List ℕ
-stamped l words n = set words (address_of l (Volatile n 2)) 1
+stamped l words n = set words (address_of l (Volatile n stamp_offset)) 1
 
-pub can_stamp : (l : Layout) (words : List ℕ) (n : ℕ) → n < l.nodes → CanAct l words (Store (address_of l (Volatile n 2)) 1)
-can_stamp l words n here = ((addresses_within l (Volatile n 2) (here, omega arith), outside_header l (Volatile n 2) (here, omega arith) (λ k lt. (λ e. cc, λ e. cc))), omega arith)
+pub can_stamp : (l : Layout) (words : List ℕ) (n : ℕ) → n < l.nodes → CanAct l words (Store (address_of l (Volatile n stamp_offset)) 1)
+can_stamp l words n here = ((addresses_within l (Volatile n stamp_offset) (here, omega arith), outside_header l (Volatile n stamp_offset) (here, omega arith) (λ k lt. (λ e. cc, λ e. cc))), omega arith)
 
 -- an index with another stamp
 keeps_index : (l : Layout) (words : List ℕ) (n : ℕ) → n < l.nodes → 1 < stamp_in l words n → (s : Index) → IsQuiet s → IsIndex (with_words s l words) → IsIndex (with_words s l (stamped l words n))
 keeps_index l words n here large s quiet is =
-    let has : HasLocation l (Volatile n 2) = (here, omega arith) in
-    let same = facts-elsewhere l words (map_of s.base) s.history (Volatile n 2) 1 has (λ m o e. cc, λ m e. let no : 2 ≡ 0 = ap offset_at e in omega arith) in
+    let has : HasLocation l (Volatile n stamp_offset) = (here, omega arith) in
+    let same = facts-elsewhere l words (map_of s.base) s.history (Volatile n stamp_offset) 1 has (λ m o e. cc, λ m e. let no : 2 ≡ 0 = ap offset_at e in omega arith) in
     let lawful = beside_law (world (with_words s l words)) (stamped l words n) is.lawful
-    (acted_row l words (Store (address_of l (Volatile n 2)) 1) is.lawful.row (can_stamp l words n here))
+    (acted_row l words (Store (address_of l (Volatile n stamp_offset)) 1) is.lawful.row (can_stamp l words n here))
     same
-    (nearer l words (stamped l words n) (store_closer l words (Volatile n 2) 1 has (λ v e. cc)))
-    (at-set_other l words (Volatile n 2) Clock 1 has tt (λ e. cc))
-    (λ v there none. at-set_other l words (Volatile n 2) (Cached v) 1 has there (λ e. cc)) in
+    (nearer l words (stamped l words n) (store_closer l words (Volatile n stamp_offset) 1 has (λ v e. cc)))
+    (at-set_other l words (Volatile n stamp_offset) Clock 1 has tt (λ e. cc))
+    (λ v there none. at-set_other l words (Volatile n stamp_offset) (Cached v) 1 has there (λ e. cc)) in
     let footed = stamp_footed (footed (with_words s l words)) n (is.whole, is.tended) here lawful in
     let permuted = words_permuted (with_words s l words) (stamped l words n) (is.permuted, is.relying) lawful
     (row_by_facts l words (stamped l words n) (map_of s.base) s.history (ap (λ (f : Facts). f.version) same) (ap (λ (f : Facts). f.now) same) (ap (λ (f : Facts). f.list) same)
-    (λ m low. left_stored l words (Volatile n 2) 1 m has (λ o least e. let no : o ≡ 2 = ap offset_at e in omega arith))) in
+    (λ m low. left_stored l words (Volatile n stamp_offset) 1 m has (λ o least e. let no : o ≡ 2 = ap offset_at e in omega arith))) in
     record {
       lawful = lawful;
       whole = footed.0;
@@ -63,7 +64,7 @@ keeps_index l words n here large s quiet is =
 
 keeps_weight : (l : Layout) (words : List ℕ) (n : ℕ) → n < l.nodes → (s : Index) → weight_of (with_words s l (stamped l words n)) ≡ weight_of (with_words s l words)
 keeps_weight l words n here s =
-    ap (index_weight l) (facts-elsewhere l words (map_of s.base) s.history (Volatile n 2) 1 (here, omega arith) (λ m o e. cc, λ m e. let no : 2 ≡ 0 = ap offset_at e in omega arith))
+    ap (index_weight l) (facts-elsewhere l words (map_of s.base) s.history (Volatile n stamp_offset) 1 (here, omega arith) (λ m o e. cc, λ m e. let no : 2 ≡ 0 = ap offset_at e in omega arith))
 
 -- The stamps of the first so many nodes are settled.
 pub record Settling (l : Layout) (n : ℕ) (before words : List ℕ) : Type 0 where
@@ -93,7 +94,7 @@ stamp_settled l n before words here row large so = record {
   first = λ m less. ⊎_elim
       (λ (same : m ≡ n).
       let was = so.rest n (omega arith) here in
-      let now : stamp_in l (stamped l words n) n ≡ 1 = at-set_same l words (Volatile n 2) 1 row.whole (here, omega arith) in
+      let now : stamp_in l (stamped l words n) n ≡ 1 = at-set_same l words (Volatile n stamp_offset) 1 row.whole (here, omega arith) in
       subst (λ (k : ℕ). stamp_in l (stamped l words n) k ≡ min 1 (stamp_in l before k)) (sym same) (omega arith))
       (λ (other : m ≢ n). apart m other (omega arith) ∙ so.first m (omega arith))
       (cases_eq m n);
@@ -103,13 +104,13 @@ stamp_settled l n before words here row large so = record {
 }
   where
     apart : (m : ℕ) → m ≢ n → m < l.nodes → stamp_in l (stamped l words n) m ≡ stamp_in l words m
-    apart m other low = at-set_other l words (Volatile n 2) (Volatile m 2) 1 (here, omega arith) (low, omega arith) (λ e. other (ap node_at e))
+    apart m other low = at-set_other l words (Volatile n stamp_offset) (Volatile m stamp_offset) 1 (here, omega arith) (low, omega arith) (λ e. other (ap node_at e))
 
 pub all_settled : (l : Layout) (n : ℕ) (before words : List ℕ) → l.nodes ≤ n → Settling l n before words → SettlesTo l before words
 all_settled l n before words all so = record { stamps = λ m less. so.first m (omega arith); keeps = so.keeps; weighs = so.weighs }
 
 -- a turn of the loop that stores, and one that doesn't
-pub stored : (l : Layout) (n place : ℕ) (before : List ℕ) (row now : Row) → row.layout ≡ l → place ≡ address_of l (Volatile n 2) → n < l.nodes → IsRow row.layout row.words → 1 < get_or row.words place 0
+pub stored : (l : Layout) (n place : ℕ) (before : List ℕ) (row now : Row) → row.layout ≡ l → place ≡ address_of l (Volatile n stamp_offset) → n < l.nodes → IsRow row.layout row.words → 1 < get_or row.words place 0
     → Settling l n before row.words → now ≡ record { layout = row.layout; words = set row.words place 1 } → (now.layout ≡ l) × Settling l (n + 1) before now.words
 stored l n place before row now layout at here is large so made = (
   ap (λ (r : Row). r.layout) made ∙ layout,
@@ -117,7 +118,7 @@ stored l n place before row now layout at here is large so made = (
       (stamp_settled l n before row.words here (subst (λ (m : Layout). IsRow m row.words) layout is) (subst (λ (i : ℕ). 1 < get_or row.words i 0) at large) so),
 )
 
-pub stayed : (l : Layout) (n place : ℕ) (before : List ℕ) (row now : Row) → row.layout ≡ l → place ≡ address_of l (Volatile n 2) → n < l.nodes → get_or row.words place 0 ≤ 1
+pub stayed : (l : Layout) (n place : ℕ) (before : List ℕ) (row now : Row) → row.layout ≡ l → place ≡ address_of l (Volatile n stamp_offset) → n < l.nodes → get_or row.words place 0 ≤ 1
     → Settling l n before row.words → now ≡ row → (now.layout ≡ l) × Settling l (n + 1) before now.words
 stayed l n place before row now layout at here small so made = (
   ap (λ (r : Row). r.layout) made ∙ layout,

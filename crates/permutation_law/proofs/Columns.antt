@@ -9,6 +9,7 @@ use Rattle.pm_words.specs.Locations.{Line, Location, Volatile, Cached, Durable, 
 use Rattle.pm_words.specs.Rows.{acted}
 use Rattle.pm_words.proofs.Apart.{at-set_other}
 use Rattle.pm_words.proofs.Kept.{action_address-drain}
+use Rattle.pm_words.specs.Offsets.{permutation_version_offset, prev_offset}
 use Rattle.call_stages.specs.Stages.{Stage}
 use Rattle.call_stages.specs.Lines.{line_address}
 use Rattle.call_stages.specs.AnySteps.{IsBeside as IsBesideAction, loads_line, stores_line, drains_line, stores_prev, loads_layer, on_permutation, loads, stores, volatile_address}
@@ -29,7 +30,7 @@ guarded_both true true x y same = same refl refl
 guarded_both true false x y same = refl
 guarded_both false b x y same = refl
 
-pub made_at-here : (l : Layout) (words : List ℕ) (n : ℕ) → n < l.nodes → made_at l words n ≡ at l words (Volatile n 3)
+pub made_at-here : (l : Layout) (words : List ℕ) (n : ℕ) → n < l.nodes → made_at l words n ≡ at l words (Volatile n permutation_version_offset)
 unfolding made_at
 made_at-here l words n here = rw (lt-ltb n l.nodes here) refl
 
@@ -37,9 +38,9 @@ pub permutation_in-here : (l : Layout) (words : List ℕ) (n k : ℕ) → n < l.
 unfolding permutation_in
 permutation_in-here l words n k here low = rw (lt-ltb n l.nodes here) (rw (lt-ltb k 8 low) refl)
 
-pub made_at-alike : (l : Layout) (words words' : List ℕ) (n : ℕ) → (n < l.nodes → at l words' (Volatile n 3) ≡ at l words (Volatile n 3)) → made_at l words' n ≡ made_at l words n
+pub made_at-alike : (l : Layout) (words words' : List ℕ) (n : ℕ) → (n < l.nodes → at l words' (Volatile n permutation_version_offset) ≡ at l words (Volatile n permutation_version_offset)) → made_at l words' n ≡ made_at l words n
 unfolding made_at
-made_at-alike l words words' n same = guarded (nat_lt n l.nodes) (at l words' (Volatile n 3)) (at l words (Volatile n 3)) (λ here. same (ltb-true n l.nodes here))
+made_at-alike l words words' n same = guarded (nat_lt n l.nodes) (at l words' (Volatile n permutation_version_offset)) (at l words (Volatile n permutation_version_offset)) (λ here. same (ltb-true n l.nodes here))
 
 pub permutation_in-alike : (l : Layout) (words words' : List ℕ) (n k : ℕ) → (n < l.nodes → k < 8 → at l words' (Volatile n (8 + k)) ≡ at l words (Volatile n (8 + k)))
     → permutation_in l words' n k ≡ permutation_in l words n k
@@ -90,7 +91,7 @@ left_beside l words a n (stores_line {c = c} {j = j} {offset = offset} {y = y} h
 left_beside l words a n (drains_line {c = c} {j = j} {offset = offset} {y = y} has fits) spared =
     subst (λ (place : ℕ). IsLeft l words (slice_set words place y) n) (sym (action_address-drain l (Line c j offset) y)) (left_stored l words (Durable (Line c j offset)) y n has (λ o least e. cc))
 left_beside l words a n (stores_prev {n = m} {y = y} here fits) spared =
-    left_stored l words (Volatile m 1) y n (here, omega arith) (λ o least e. let no : o ≡ 1 = ap offset_at e in omega arith)
+    left_stored l words (Volatile m prev_offset) y n (here, omega arith) (λ o least e. let no : o ≡ 1 = ap offset_at e in omega arith)
 left_beside l words a n (loads_layer {w = v} place) spared = left_same l words (acted l words a) n (set-get_or words (address_of l (Cached v)) 0)
 left_beside l words a n (on_permutation (loads {n = m} {offset = offset} here of)) spared = left_same l words (acted l words a) n (set-get_or words (volatile_address l m offset) 0)
 left_beside l words a n (on_permutation (stores here of fits)) spared = absurd spared

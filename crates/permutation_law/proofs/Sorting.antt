@@ -14,6 +14,7 @@ use Rattle.pm_words.proofs.Kept.{acted_row, outside_header}
 use Rattle.version_lock.specs.Versions.{IsFree}
 use Rattle.data_node.specs.Spots.{updated}
 use Rattle.data_node.proofs.SpotLemmas.{updated-same, updated-other}
+use Rattle.pm_words.specs.Offsets.{permutation_version_offset}
 use Rattle.call_stages.specs.Stages.{Stage, Held, Holds, HoldsNode, Tells}
 use Rattle.permutation.specs.Sortings.{Sorting, Unsorted, Storing, Stored, Sorts, begins, stores, ends, permutation_address, permutation_version_address}
 use Rattle.index_law.specs.Facts.{Facts}
@@ -214,7 +215,7 @@ word_law z i p sorting n lock k y h seen is there at stage unstored here low fit
     let l = z.world.layout in
     let words = z.world.words in
     let words' : List ℕ = slice_set words (address_of l (Volatile n (8 + k))) y in
-    let made : made_at l words' n ≡ made_at l words n = made_at-alike l words words' n (λ _. at-set_other l words (Volatile n (8 + k)) (Volatile n 3) y (here, omega arith) (here, omega arith) (λ e. let no : 3 ≡ 8 + k = ap offset_at e in omega arith)) in
+    let made : made_at l words' n ≡ made_at l words n = made_at-alike l words words' n (λ _. at-set_other l words (Volatile n (8 + k)) (Volatile n permutation_version_offset) y (here, omega arith) (here, omega arith) (λ e. let no : 3 ≡ 8 + k = ap offset_at e in omega arith)) in
     record {
       can = store_can z.world is.lawful n (8 + k) y here (omega arith) (omega arith) fits;
       facts = store_facts z.world is.lawful n (8 + k) y here (omega arith) (omega arith) fits;
@@ -230,9 +231,9 @@ version_law : (z : Permuted) (i : ℕ) (p : Party) (sorting : Sorting) (n lock v
 version_law z i p sorting n lock version h is there at stage here next fits order =
     let l = z.world.layout in
     let words = z.world.words in
-    let words' : List ℕ = slice_set words (address_of l (Volatile n 3)) version in
-    let made : made_at l words' n ≡ version = made_at-here l words' n here ∙ at-set_same l words (Volatile n 3) version is.lawful.row.whole (here, omega arith) in
-    let stays : permutation_in l words' n ≡ permutation_in l words n = permutations_alike l words words' n (λ k _ low. at-set_other l words (Volatile n 3) (Volatile n (8 + k)) version (here, omega arith) (here, omega arith) (λ e. let no : 8 + k ≡ 3 = ap offset_at e in omega arith)) in
+    let words' : List ℕ = slice_set words (address_of l (Volatile n permutation_version_offset)) version in
+    let made : made_at l words' n ≡ version = made_at-here l words' n here ∙ at-set_same l words (Volatile n permutation_version_offset) version is.lawful.row.whole (here, omega arith) in
+    let stays : permutation_in l words' n ≡ permutation_in l words n = permutations_alike l words words' n (λ k _ low. at-set_other l words (Volatile n permutation_version_offset) (Volatile n (8 + k)) version (here, omega arith) (here, omega arith) (λ e. let no : 8 + k ≡ 3 = ap offset_at e in omega arith)) in
     record {
       can = store_can z.world is.lawful n 3 version here (omega arith) (omega arith) fits;
       facts = store_facts z.world is.lawful n 3 version here (omega arith) (omega arith) fits;

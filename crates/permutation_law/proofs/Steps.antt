@@ -12,6 +12,7 @@ use Rattle.pm_words.specs.Codes.{no_permutation}
 use Rattle.pm_words.specs.Locations.{Node, Location, Cached, at, row_words}
 use Rattle.pm_words.specs.Rows.{acted, got}
 use Rattle.pm_words.proofs.Apart.{at-set_other, at-set_same}
+use Rattle.pm_words.specs.Offsets.{version_offset}
 use Rattle.version_lock.specs.Versions.{IsFree, IsGeneration}
 use Rattle.call_stages.specs.declared.once.Once.{Once}
 use Rattle.call_stages.specs.declared.once.Placed.{Placed}
@@ -71,7 +72,7 @@ steps_leave w i p a x t r lawful there (beside none is) spares n = left_beside w
 -- a store of a node's version word leaves its other words,
 spot_stays : (l : Layout) (words : List ℕ) (n y : ℕ) → n < l.nodes → spot_in l (slice_set words (version_address l n) y) n ≡ spot_in l words n
 spot_stays l words n y here = λ i offset. spot_in-alike l words (slice_set words (version_address l n) y) n offset
-    (λ has positive. at-set_other l words (Cached (Node n 0)) (Cached (Node n offset)) y (here, omega arith) has (λ e. let no : offset ≡ 0 = ap offset_in e in omega arith)) i
+    (λ has positive. at-set_other l words (Cached (Node n version_offset)) (Cached (Node n offset)) y (here, omega arith) has (λ e. let no : offset ≡ 0 = ap offset_in e in omega arith)) i
   where
     offset_in : Location → ℕ
     offset_in (Cached (Node m o)) = o
@@ -79,7 +80,7 @@ spot_stays l words n y here = λ i offset. spot_in-alike l words (slice_set word
 
 -- and makes it that word
 version_is : (l : Layout) (words : List ℕ) (n y : ℕ) → length words ≡ row_words l → n < l.nodes → version_in l (slice_set words (version_address l n) y) n ≡ y
-version_is l words n y whole here = version_in-here l (slice_set words (version_address l n) y) n here ∙ at-set_same l words (Cached (Node n 0)) y whole (here, omega arith)
+version_is l words n y whole here = version_in-here l (slice_set words (version_address l n) y) n here ∙ at-set_same l words (Cached (Node n version_offset)) y whole (here, omega arith)
 
 abbrev node_of : Sorting → ℕ
 node_of Unsorted = 0

@@ -11,6 +11,7 @@ use Rattle.pm_words.proofs.Apart.{addresses_within, at-set_same, at-set_other}
 use Rattle.pm_words.proofs.Kept.{acted_row, outside_header}
 use Rattle.data_node.specs.Lists.{ListNode, IsChain, IsIn, IsMember, Rise, anchor_in, next_offset}
 use Rattle.data_node.proofs.ListLemmas.{all_member, members_few, not_behind, rise_at}
+use Rattle.pm_words.specs.Offsets.{prev_offset, stamp_offset, status_offset}
 use Rattle.index_law.specs.Facts.{list_in, spot_in}
 use Rattle.index_law.proofs.Rows.{spot_in-alike}
 use Rattle.index_opening_law.specs.Openings.{LeadBack, TellsList}
@@ -19,31 +20,31 @@ use Rattle.recovery.specs.Tellings.{IsNodeMark, IsUntold, KeepsBeside, told_word
 -- what one node's telling changes
 module _ (l : Layout) (words : List ℕ) (node prev : ℕ) (whole : length words ≡ row_words l) (here : node < l.nodes) where
   abbrev first : List ℕ
-  first = slice_set words (address_of l (Volatile node 0)) live_status
+  first = slice_set words (address_of l (Volatile node status_offset)) live_status
 
   abbrev after : List ℕ
   after = told_words l words node prev
 
-  tell_other : (p : Location) → HasLocation l p → p ≢ Volatile node 0 → p ≢ Volatile node 1 → at l after p ≡ at l words p
+  tell_other : (p : Location) → HasLocation l p → p ≢ Volatile node status_offset → p ≢ Volatile node prev_offset → at l after p ≡ at l words p
   tell_other p has no_status no_prev =
-      at-set_other l first (Volatile node 1) p prev (here, omega arith) has no_prev ∙ at-set_other l words (Volatile node 0) p live_status (here, omega arith) has no_status
+      at-set_other l first (Volatile node prev_offset) p prev (here, omega arith) has no_prev ∙ at-set_other l words (Volatile node status_offset) p live_status (here, omega arith) has no_status
 
   pub tell_beside : (p : Location) → HasLocation l p → (IsNodeMark p → ⊥) → at l after p ≡ at l words p
   tell_beside p has beside = tell_other p has
       (λ e. beside (subst IsNodeMark (sym e) (let low : 0 < 2 = omega arith in inl low)))
       (λ e. beside (subst IsNodeMark (sym e) (let low : 1 < 2 = omega arith in inl low)))
 
-  pub tell_status : at l after (Volatile node 0) ≡ live_status
+  pub tell_status : at l after (Volatile node status_offset) ≡ live_status
   tell_status =
-      at-set_other l first (Volatile node 1) (Volatile node 0) prev (here, omega arith) (here, omega arith) (λ e. let no : 0 ≡ 1 = ap offset_of e in omega arith)
-      ∙ at-set_same l words (Volatile node 0) live_status whole (here, omega arith)
+      at-set_other l first (Volatile node prev_offset) (Volatile node status_offset) prev (here, omega arith) (here, omega arith) (λ e. let no : 0 ≡ 1 = ap offset_of e in omega arith)
+      ∙ at-set_same l words (Volatile node status_offset) live_status whole (here, omega arith)
     where
       offset_of : Location → ℕ
       offset_of (Volatile n o) = o
       offset_of _ = 0
 
-  pub tell_prev : at l after (Volatile node 1) ≡ prev
-  tell_prev = at-set_same l first (Volatile node 1) prev (length-set words (address_of l (Volatile node 0)) live_status ∙ whole) (here, omega arith)
+  pub tell_prev : at l after (Volatile node prev_offset) ≡ prev
+  tell_prev = at-set_same l first (Volatile node prev_offset) prev (length-set words (address_of l (Volatile node status_offset)) live_status ∙ whole) (here, omega arith)
 
   pub tell_else : (n o : ℕ) → n ≢ node → n < l.nodes → o < 2 → at l after (Volatile n o) ≡ at l words (Volatile n o)
   tell_else n o other within low = tell_other (Volatile n o) (within, omega arith) (λ e. other (ap number_of e)) (λ e. other (ap number_of e))
@@ -57,9 +58,9 @@ tell_row : (l : Layout) (words : List ℕ) (node prev : ℕ) → IsRow l words �
 tell_row l words node prev row here small =
     let marked : (o : ℕ) → o < 16 → HasLocation l (Volatile node o) = λ o low. (here, low) in
     let outside : (o : ℕ) → o < 16 → IsOutsideHeader l (address_of l (Volatile node o)) = λ o low. outside_header l (Volatile node o) (marked o low) (λ k lt. (λ e. cc, λ e. cc)) in
-    acted_row l (acted l words (Store (address_of l (Volatile node 0)) live_status)) (Store (address_of l (Volatile node 1)) prev)
-    (acted_row l words (Store (address_of l (Volatile node 0)) live_status) row ((addresses_within l (Volatile node 0) (marked 0 (omega arith)), outside 0 (omega arith)), omega arith))
-    ((addresses_within l (Volatile node 1) (marked 1 (omega arith)), outside 1 (omega arith)), small)
+    acted_row l (acted l words (Store (address_of l (Volatile node status_offset)) live_status)) (Store (address_of l (Volatile node prev_offset)) prev)
+    (acted_row l words (Store (address_of l (Volatile node status_offset)) live_status) row ((addresses_within l (Volatile node status_offset) (marked 0 (omega arith)), outside 0 (omega arith)), omega arith))
+    ((addresses_within l (Volatile node prev_offset) (marked 1 (omega arith)), outside 1 (omega arith)), small)
 
 -- Of this list of the nodes behind node 0, those up to this node are told, and these are left behind it.
 pub record IsToldTo (l : Layout) (list : List ListNode) (words now : List ℕ) (here : ℕ) (left : List ListNode) : Type 0 where
@@ -70,10 +71,10 @@ pub record IsToldTo (l : Layout) (list : List ListNode) (words now : List ℕ) (
   pub few : AllByRecursion (λ (m : ListNode). m.node < l.nodes) left
   pub inside : (n : ℕ) → IsMember left n → IsMember list n
   pub beside : KeepsBeside l words now
-  pub live : (n : ℕ) → IsIn list n → (IsMember left n → ⊥) → at l now (Volatile n 0) ≡ live_status
-  pub dark : (n : ℕ) → n < l.nodes → (IsIn list n → IsMember left n) → at l now (Volatile n 0) ≡ 0
-  pub bare : (n : ℕ) → n < l.nodes → (IsMember list n → IsMember left n) → at l now (Volatile n 1) ≡ 0
-  pub back : (prev : ℕ → ℕ) → ((n : ℕ) → n < l.nodes → (IsMember left n → ⊥) → prev n ≡ at l now (Volatile n 1)) → LeadBack prev here left → LeadBack prev 0 list
+  pub live : (n : ℕ) → IsIn list n → (IsMember left n → ⊥) → at l now (Volatile n status_offset) ≡ live_status
+  pub dark : (n : ℕ) → n < l.nodes → (IsIn list n → IsMember left n) → at l now (Volatile n status_offset) ≡ 0
+  pub bare : (n : ℕ) → n < l.nodes → (IsMember list n → IsMember left n) → at l now (Volatile n prev_offset) ≡ 0
+  pub back : (prev : ℕ → ℕ) → ((n : ℕ) → n < l.nodes → (IsMember left n → ⊥) → prev n ≡ at l now (Volatile n prev_offset)) → LeadBack prev here left → LeadBack prev 0 list
 
 -- at a position there are so many left
 pub record IsTelling (l : Layout) (words now : List ℕ) (here position : ℕ) : Type 0 where
@@ -98,16 +99,16 @@ module _ (l : Layout) (words : List ℕ) (untold : IsUntold l words) where
       inside = λ n among. among;
       beside = tell_beside l words 0 0 row.whole untold.some;
       live = λ n listed none. ⊎_elim
-          (λ (e : n ≡ 0). subst (λ k. at l (told_words l words 0 0) (Volatile k 0) ≡ live_status) (sym e) (tell_status l words 0 0 row.whole untold.some))
+          (λ (e : n ≡ 0). subst (λ k. at l (told_words l words 0 0) (Volatile k status_offset) ≡ live_status) (sym e) (tell_status l words 0 0 row.whole untold.some))
           (λ among. absurd (none among))
           listed;
       dark = λ n here left. ⊎_elim
           (λ (e : n ≡ 0). absurd (first_apart (subst (IsMember list) e (left (inl e)))))
-          (λ (other : n ≢ 0). tell_else l words 0 0 row.whole untold.some n 0 other here (omega arith) ∙ untold.zero (Volatile n 0) (here, omega arith) (omega arith) refl)
+          (λ (other : n ≢ 0). tell_else l words 0 0 row.whole untold.some n 0 other here (omega arith) ∙ untold.zero (Volatile n status_offset) (here, omega arith) (omega arith) refl)
           (cases_eq n 0);
       bare = λ n here left. ⊎_elim
-          (λ (e : n ≡ 0). subst (λ k. at l (told_words l words 0 0) (Volatile k 1) ≡ 0) (sym e) (tell_prev l words 0 0 row.whole untold.some))
-          (λ (other : n ≢ 0). tell_else l words 0 0 row.whole untold.some n 1 other here (omega arith) ∙ untold.zero (Volatile n 1) (here, omega arith) (omega arith) refl)
+          (λ (e : n ≡ 0). subst (λ k. at l (told_words l words 0 0) (Volatile k prev_offset) ≡ 0) (sym e) (tell_prev l words 0 0 row.whole untold.some))
+          (λ (other : n ≢ 0). tell_else l words 0 0 row.whole untold.some n 1 other here (omega arith) ∙ untold.zero (Volatile n prev_offset) (here, omega arith) (omega arith) refl)
           (cases_eq n 0);
       back = λ prev same leads. leads;
     };
@@ -151,7 +152,7 @@ module _ (l : Layout) (words : List ℕ) (untold : IsUntold l words) where
                 inside = λ n among. told.inside n (inr among);
                 beside = λ p has unmarked. tell_beside l now next here told.row.whole within p has unmarked ∙ told.beside p has unmarked;
                 live = λ n listed none. ⊎_elim
-                    (λ (e : n ≡ next). subst (λ k. at l (told_words l now next here) (Volatile k 0) ≡ live_status) (sym e) (tell_status l now next here told.row.whole within))
+                    (λ (e : n ≡ next). subst (λ k. at l (told_words l now next here) (Volatile k status_offset) ≡ live_status) (sym e) (tell_status l now next here told.row.whole within))
                     (λ (other : n ≢ next). tell_else l now next here told.row.whole within n 0 other (listed_here n listed) (omega arith)
                     ∙ told.live n listed (λ among. ⊎_elim (λ e. other (e ∙ same)) none among))
                     (cases_eq n next);
@@ -175,9 +176,9 @@ module _ (l : Layout) (words : List ℕ) (untold : IsUntold l words) where
   tells_all now here left none told = record {
     live = λ n listed. told.live n listed (no_member n);
     free = λ n here_n unlisted. told.dark n here_n (λ listed. absurd (unlisted listed));
-    back = told.back (λ n. at l now (Volatile n 1)) (λ n here_n none. refl) (subst (LeadBack (λ n. at l now (Volatile n 1)) here) (sym none) tt);
+    back = told.back (λ n. at l now (Volatile n prev_offset)) (λ n here_n none. refl) (subst (LeadBack (λ n. at l now (Volatile n prev_offset)) here) (sym none) tt);
     none = λ n here_n unlisted. told.bare n here_n (λ listed. absurd (unlisted listed));
-    stamps = λ n here_n. told.beside (Volatile n 2) (here_n, omega arith) (other_word 2 refl) ∙ untold.zero (Volatile n 2) (here_n, omega arith) (omega arith) refl;
+    stamps = λ n here_n. told.beside (Volatile n stamp_offset) (here_n, omega arith) (other_word 2 refl) ∙ untold.zero (Volatile n stamp_offset) (here_n, omega arith) (omega arith) refl;
     clock = told.beside Clock tt (λ mark. mark) ∙ untold.zero Clock tt (omega arith) refl;
     updater = told.beside Updater tt (λ mark. mark) ∙ untold.zero Updater tt (omega arith) refl;
   }

@@ -11,6 +11,7 @@ use Rattle.pm_words.proofs.Apart.{addresses_within, at-set_same, at-set_other}
 use Rattle.pm_words.proofs.Kept.{acted_row, outside_header}
 use Rattle.data_node.specs.Lists.{ListNode, IsIn}
 use Rattle.data_node.proofs.ListLemmas.{all_member}
+use Rattle.pm_words.specs.Offsets.{permutation_version_offset, prev_offset, stamp_offset, status_offset}
 use Rattle.index_opening_law.specs.Openings.{LeadBack, TellsList}
 use Rattle.recovery.specs.Tellings.{IsNodeMark, IsOrder, KeepsBeside, KeepsButOrders}
 
@@ -18,7 +19,7 @@ use Rattle.recovery.specs.Tellings.{IsNodeMark, IsOrder, KeepsBeside, KeepsButOr
 pub record IsOrderedTo (l : Layout) (words now : List ℕ) (count : ℕ) : Type 0 where
   pub row : IsRow l now
   pub beside : KeepsButOrders l words now
-  pub orders : (n : ℕ) → n < count → at l now (Volatile n 3) ≡ no_permutation
+  pub orders : (n : ℕ) → n < count → at l now (Volatile n permutation_version_offset) ≡ no_permutation
 
 -- none is told first
 pub begins_ordering : (l : Layout) (words : List ℕ) → IsRow l words → IsOrderedTo l words words 0
@@ -30,16 +31,16 @@ begins_ordering l words row = record {
 
 -- one node more
 pub goes_ordering : (l : Layout) (words now : List ℕ) (count : ℕ) → count < l.nodes → IsOrderedTo l words now count
-    → IsOrderedTo l words (acted l now (Store (address_of l (Volatile count 3)) no_permutation)) (suc count)
+    → IsOrderedTo l words (acted l now (Store (address_of l (Volatile count permutation_version_offset)) no_permutation)) (suc count)
 goes_ordering l words now count within is =
-    let here : HasLocation l (Volatile count 3) = (within, omega arith) in
-    let outside : IsOutsideHeader l (address_of l (Volatile count 3)) = outside_header l (Volatile count 3) here (λ k lt. (λ e. cc, λ e. cc)) in
+    let here : HasLocation l (Volatile count permutation_version_offset) = (within, omega arith) in
+    let outside : IsOutsideHeader l (address_of l (Volatile count permutation_version_offset)) = outside_header l (Volatile count permutation_version_offset) here (λ k lt. (λ e. cc, λ e. cc)) in
     record {
-      row = acted_row l now (Store (address_of l (Volatile count 3)) no_permutation) is.row ((addresses_within l (Volatile count 3) here, outside), omega arith);
-      beside = λ p has other. at-set_other l now (Volatile count 3) p no_permutation here has (λ e. other (subst IsOrder (sym e) refl)) ∙ is.beside p has other;
+      row = acted_row l now (Store (address_of l (Volatile count permutation_version_offset)) no_permutation) is.row ((addresses_within l (Volatile count permutation_version_offset) here, outside), omega arith);
+      beside = λ p has other. at-set_other l now (Volatile count permutation_version_offset) p no_permutation here has (λ e. other (subst IsOrder (sym e) refl)) ∙ is.beside p has other;
       orders = λ n low. ⊎_elim
-          (λ (e : n ≡ count). subst (λ k. at l (slice_set now (address_of l (Volatile count 3)) no_permutation) (Volatile k 3) ≡ no_permutation) (sym e) (at-set_same l now (Volatile count 3) no_permutation is.row.whole here))
-          (λ (apart : n ≢ count). at-set_other l now (Volatile count 3) (Volatile n 3) no_permutation here (omega arith, omega arith) (λ e. apart (ap number_of e)) ∙ is.orders n (omega arith))
+          (λ (e : n ≡ count). subst (λ k. at l (slice_set now (address_of l (Volatile count permutation_version_offset)) no_permutation) (Volatile k permutation_version_offset) ≡ no_permutation) (sym e) (at-set_same l now (Volatile count permutation_version_offset) no_permutation is.row.whole here))
+          (λ (apart : n ≢ count). at-set_other l now (Volatile count permutation_version_offset) (Volatile n permutation_version_offset) no_permutation here (omega arith, omega arith) (λ e. apart (ap number_of e)) ∙ is.orders n (omega arith))
           (cases_eq n count);
     }
   where
@@ -53,20 +54,20 @@ no_order o low same = omega arith
 
 -- what leads back still does
 leads_still : (l : Layout) (words after : List ℕ) (here : ℕ) (list : List ListNode) → KeepsButOrders l words after → AllByRecursion (λ (m : ListNode). m.node < l.nodes) list
-    → LeadBack (λ n. at l words (Volatile n 1)) here list → LeadBack (λ n. at l after (Volatile n 1)) here list
+    → LeadBack (λ n. at l words (Volatile n prev_offset)) here list → LeadBack (λ n. at l after (Volatile n prev_offset)) here list
 leads_still l words after here [] keeps within leads = tt
 leads_still l words after here (m ∷ behind) keeps within leads =
-    (keeps (Volatile m.node 1) (within.0, omega arith) (no_order 1 (omega arith)) ∙ leads.0, leads_still l words after m.node behind keeps within.1 leads.1)
+    (keeps (Volatile m.node prev_offset) (within.0, omega arith) (no_order 1 (omega arith)) ∙ leads.0, leads_still l words after m.node behind keeps within.1 leads.1)
 
 -- The list is told still.
 pub tells_still : (l : Layout) (words after : List ℕ) (list : List ListNode) → 0 < l.nodes → AllByRecursion (λ (m : ListNode). m.node < l.nodes) list → KeepsButOrders l words after
     → TellsList l list words → TellsList l list after
 tells_still l words after list some within keeps tells = record {
-  live = λ n listed. keeps (Volatile n 0) (listed_here n listed, omega arith) (no_order 0 (omega arith)) ∙ tells.live n listed;
-  free = λ n here unlisted. keeps (Volatile n 0) (here, omega arith) (no_order 0 (omega arith)) ∙ tells.free n here unlisted;
+  live = λ n listed. keeps (Volatile n status_offset) (listed_here n listed, omega arith) (no_order 0 (omega arith)) ∙ tells.live n listed;
+  free = λ n here unlisted. keeps (Volatile n status_offset) (here, omega arith) (no_order 0 (omega arith)) ∙ tells.free n here unlisted;
   back = leads_still l words after 0 list keeps within tells.back;
-  none = λ n here unlisted. keeps (Volatile n 1) (here, omega arith) (no_order 1 (omega arith)) ∙ tells.none n here unlisted;
-  stamps = λ n here. keeps (Volatile n 2) (here, omega arith) (no_order 2 (omega arith)) ∙ tells.stamps n here;
+  none = λ n here unlisted. keeps (Volatile n prev_offset) (here, omega arith) (no_order 1 (omega arith)) ∙ tells.none n here unlisted;
+  stamps = λ n here. keeps (Volatile n stamp_offset) (here, omega arith) (no_order 2 (omega arith)) ∙ tells.stamps n here;
   clock = keeps Clock tt (λ order. order) ∙ tells.clock;
   updater = keeps Updater tt (λ order. order) ∙ tells.updater;
 }

@@ -129,7 +129,11 @@ fn byte_at(at: usize) -> u8 {
     if at < 48 {
         return HEAD[at];
     }
-    if at == 8 * 8 + 2 || at == 8 * 147 { 1 } else { 0 }
+    if at == 8 * 8 + 2 || at == 8 * 147 {
+        1
+    } else {
+        0
+    }
 }
 
 /// The generation of an image of that layout.

@@ -3,6 +3,7 @@ use Rattle.std.proofs.Common.{◌≡◌, ◌≢◌, ℕ, ◌/◌, ◌%◌, ◌<�
 use Rattle.pm_words.specs.declared.layout.Layout.{Layout}
 use Rattle.pm_words.specs.Locations.{Location, Node, Line, Cached, Durable, Volatile, Updater, HasLocation, address_of, row_words}
 use Rattle.pm_words.proofs.Apart.{at-set_other}
+use Rattle.pm_words.specs.Offsets.{stamp_offset, status_offset}
 use Rattle.version_lock.specs.Versions.{is_free_word, is_worn_word}
 use Rattle.layer_map.specs.Keys.{key_of}
 use Rattle.search_layer.specs.Rows.{layer_words, KeepsOthers, HasSameLayer}
@@ -161,25 +162,25 @@ module _ (r : RowTerms) (ghosts : Ghosts) (words : List ℕ) where
       (rest_kept l words Updater y tt (λ n o e. cc) (λ j o some e. cc) (λ j o e. cc))
       (volatile_kept l words Updater y tt 0 (omega arith) (λ n e. cc)) (volatile_kept l words Updater y tt 2 (omega arith) (λ n e. cc)) (state_kept l words Updater y tt (λ j e. cc))
 
-  pub stamp_stored : (n y : ℕ) → length words ≡ row_words l → n < l.nodes → Beside r ghosts words (stored (Volatile n 2) y) (record f { stamp = set_at f.stamp n y })
+  pub stamp_stored : (n y : ℕ) → length words ≡ row_words l → n < l.nodes → Beside r ghosts words (stored (Volatile n stamp_offset) y) (record f { stamp = set_at f.stamp n y })
   stamp_stored n y whole lt =
-      let p : Location = Volatile n 2 in
+      let p : Location = Volatile n stamp_offset in
       let has : HasLocation l p = (lt, omega arith) in
       beside r ghosts words (stored p y) f.status (set_at f.stamp n y) f.line.state
       (layer_words_stay l words p y has refl)
       (rest_kept l words p y has (λ m o e. cc) (λ j o some e. cc) (λ j o e. cc))
       (volatile_kept l words p y has 0 (omega arith) (λ m e. let no_way = ap volatile_at e in omega arith))
-      (column-set l words p y has l.nodes (λ m. Volatile m 2) n whole lt refl (λ m lt. (lt, omega arith)) (λ m lt e. ap node_at e))
+      (column-set l words p y has l.nodes (λ m. Volatile m stamp_offset) n whole lt refl (λ m lt. (lt, omega arith)) (λ m lt e. ap node_at e))
       (state_kept l words p y has (λ j e. cc))
 
-  pub status_stored : (n y : ℕ) → length words ≡ row_words l → n < l.nodes → Beside r ghosts words (stored (Volatile n 0) y) (record f { status = set_at f.status n y })
+  pub status_stored : (n y : ℕ) → length words ≡ row_words l → n < l.nodes → Beside r ghosts words (stored (Volatile n status_offset) y) (record f { status = set_at f.status n y })
   status_stored n y whole lt =
-      let p : Location = Volatile n 0 in
+      let p : Location = Volatile n status_offset in
       let has : HasLocation l p = (lt, omega arith) in
       beside r ghosts words (stored p y) (set_at f.status n y) f.stamp f.line.state
       (layer_words_stay l words p y has refl)
       (rest_kept l words p y has (λ m o e. cc) (λ j o some e. cc) (λ j o e. cc))
-      (column-set l words p y has l.nodes (λ m. Volatile m 0) n whole lt refl (λ m lt. (lt, omega arith)) (λ m lt e. ap node_at e))
+      (column-set l words p y has l.nodes (λ m. Volatile m status_offset) n whole lt refl (λ m lt. (lt, omega arith)) (λ m lt e. ap node_at e))
       (volatile_kept l words p y has 2 (omega arith) (λ m e. let no_way = ap volatile_at e in omega arith))
       (state_kept l words p y has (λ j e. cc))
 

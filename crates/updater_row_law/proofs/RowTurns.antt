@@ -10,6 +10,7 @@ use Rattle.pm_words.specs.declared.action.Action.{Action}
 use Rattle.pm_words.specs.declared.action.Action.TheVariants.{Load}
 use Rattle.pm_words.specs.Locations.{Location, Node, Cached, Durable, Volatile, Updater, address_of}
 use Rattle.pm_words.specs.Rows.{IsRow, acted, got}
+use Rattle.pm_words.specs.Offsets.{stamp_offset, status_offset, version_offset}
 use Rattle.version_lock.specs.Versions.{is_free_word, is_worn_word}
 use Rattle.layer_map.specs.Layers.{Layer, AreSame, node_of}
 use Rattle.layer_map.specs.Keys.{IsKey, key_of, key_number}
@@ -133,7 +134,7 @@ module _ (r : RowTerms) (ghosts : Ghosts) (words : List ℕ) where
   volatile_told n o x lt told = column-here l words l.nodes (λ m. Volatile m o) n lt ∙ sym told
 
   version_told : (n x : ℕ) → n < l.nodes → x ≡ got l words (Load (version_at l n)) → node_field l words 0 n ≡ x
-  version_told n x lt told = column-here l words l.nodes (λ m. Cached (Node m 0)) n lt ∙ sym told
+  version_told n x lt told = column-here l words l.nodes (λ m. Cached (Node m version_offset)) n lt ∙ sym told
 
 -- behind a line, and behind a node
 line_done : (r : RowTerms) (ghosts : Ghosts) (words : List ℕ) (j : ℕ) → RowLawful r ghosts words (Between (suc j)) → RowLawful r ghosts words (after_line r j)
@@ -343,20 +344,20 @@ module _ (r : RowTerms) (ghosts : Ghosts) (words : List ℕ) (row : IsRow r.layo
   lock_keeps : (y : ℕ) (s t : RowStage) → RowLawful r ghosts words s → LayerRests r words → (LayerRests r (put_at Updater y) → SureRow r ghosts (put_at Updater y) t) → TurnLawful k g (turn_stage t) → RowLawful r ghosts (put_at Updater y) t
   lock_keeps y s t is even sure law = by_store r ghosts words (put_at Updater y) g (lock_stored r ghosts words y) s t is even sure law
 
-  stamp_keeps : (e : RowLine) → e.node < r.layout.nodes → RowLawful r ghosts words (Stamps e) → RowLawful r ghosts (put_at (Volatile e.node 2) r.stamp) (Clears e.line)
-  stamp_keeps e lt is = by_store r ghosts words (put_at (Volatile e.node 2) r.stamp) (record g { stamp = set_at g.stamp e.node r.stamp }) (stamp_stored r ghosts words e.node r.stamp row.whole lt) (Stamps e) (Clears e.line) is is.sure (λ even. even)
+  stamp_keeps : (e : RowLine) → e.node < r.layout.nodes → RowLawful r ghosts words (Stamps e) → RowLawful r ghosts (put_at (Volatile e.node stamp_offset) r.stamp) (Clears e.line)
+  stamp_keeps e lt is = by_store r ghosts words (put_at (Volatile e.node stamp_offset) r.stamp) (record g { stamp = set_at g.stamp e.node r.stamp }) (stamp_stored r ghosts words e.node r.stamp row.whole lt) (Stamps e) (Clears e.line) is is.sure (λ even. even)
       (turn_keeps k g (record g { stamp = set_at g.stamp e.node r.stamp }) (turns.Stamps (entry_of e)) (turns.Clears e.line) is.law (steps.stamps (entry_of e)))
 
   empty_keeps : (j : ℕ) → j < line_count r.layout → RowLawful r ghosts words (Clears j) → RowLawful r ghosts (put_at (Cached (line_word 0 j)) 0) (Between (suc j))
   empty_keeps j lt is = by_store r ghosts words (put_at (Cached (line_word 0 j)) 0) (emptied g j) (line_emptied r ghosts words j row.whole lt) (Clears j) (Between (suc j)) is is.sure (λ even. even)
       (turn_keeps k g (emptied g j) (turns.Clears j) (turns.Between (suc j)) is.law (steps.empties j))
 
-  unstamp_keeps : (n : ℕ) → n < r.layout.nodes → RowLawful r ghosts words (IsUnworn n) → RowLawful r ghosts (put_at (Volatile n 2) 0) (Frees n)
-  unstamp_keeps n lt is = by_store r ghosts words (put_at (Volatile n 2) 0) (record g { stamp = set_at g.stamp n 0 }) (stamp_stored r ghosts words n 0 row.whole lt) (IsUnworn n) (Frees n) is is.sure (λ even. even)
+  unstamp_keeps : (n : ℕ) → n < r.layout.nodes → RowLawful r ghosts words (IsUnworn n) → RowLawful r ghosts (put_at (Volatile n stamp_offset) 0) (Frees n)
+  unstamp_keeps n lt is = by_store r ghosts words (put_at (Volatile n stamp_offset) 0) (record g { stamp = set_at g.stamp n 0 }) (stamp_stored r ghosts words n 0 row.whole lt) (IsUnworn n) (Frees n) is is.sure (λ even. even)
       (turn_keeps k g (record g { stamp = set_at g.stamp n 0 }) (turns.IsUnworn n) (turns.Frees n) is.law (steps.unstamps n))
 
-  free_keeps : (n : ℕ) → n < r.layout.nodes → RowLawful r ghosts words (Frees n) → RowLawful r ghosts (put_at (Volatile n 0) 0) (Sweeps (suc n))
-  free_keeps n lt is = by_store r ghosts words (put_at (Volatile n 0) 0) (record g { status = set_at g.status n 0 }) (status_stored r ghosts words n 0 row.whole lt) (Frees n) (Sweeps (suc n)) is is.sure (λ even. even)
+  free_keeps : (n : ℕ) → n < r.layout.nodes → RowLawful r ghosts words (Frees n) → RowLawful r ghosts (put_at (Volatile n status_offset) 0) (Sweeps (suc n))
+  free_keeps n lt is = by_store r ghosts words (put_at (Volatile n status_offset) 0) (record g { status = set_at g.status n 0 }) (status_stored r ghosts words n 0 row.whole lt) (Frees n) (Sweeps (suc n)) is is.sure (λ even. even)
       (turn_keeps k g (record g { status = set_at g.status n 0 }) (turns.Frees n) (turns.Sweeps (suc n)) is.law (steps.frees n))
 
 kind_keeps : (r : RowTerms) (ghosts : Ghosts) (words : List ℕ) (row : IsRow r.layout words) {s : RowStage} {a : Action} {x : ℕ} {t : RowStage} → RowStep r s a x t → x ≡ got r.layout words a → RowLawful r ghosts words s
@@ -407,18 +408,18 @@ kind_keeps r ghosts words row (stamps {e = e} here) told is walked = stamp_keeps
 kind_keeps r ghosts words row (empties {j = j} here) told is walked =
     line_done r ghosts (slice_set words (line_at r.layout j 0) 0) j (empty_keeps r ghosts words row j here is)
 kind_keeps r ghosts words row (passes_node {n = n} {x = x} here other_status) told is walked =
-    by_load r ghosts words (volatile_at r.layout n 0) (after_node r n) (node_done r ghosts words n
+    by_load r ghosts words (volatile_at r.layout n status_offset) (after_node r n) (node_done r ghosts words n
     (look r ghosts words (Sweeps n) (Sweeps (suc n)) is is.sure (steps.passes_node n (λ gone. other_status (sym (volatile_told r ghosts words n 0 x here told) ∙ gone)))))
 kind_keeps r ghosts words row (sees_gone {n = n} {x = x} here gone) told is walked =
-    by_load r ghosts words (volatile_at r.layout n 0) (Gone n)
+    by_load r ghosts words (volatile_at r.layout n status_offset) (Gone n)
     (look r ghosts words (Sweeps n) (Gone n) is is.sure (steps.sees_gone n (volatile_told r ghosts words n 0 x here told ∙ gone)))
 kind_keeps r ghosts words row (passes_stamp {n = n} {x = x} here why) told is walked =
     let stamp = volatile_told r ghosts words n 2 x here told in
-    by_load r ghosts words (volatile_at r.layout n 2) (after_node r n) (node_done r ghosts words n
+    by_load r ghosts words (volatile_at r.layout n stamp_offset) (after_node r n) (node_done r ghosts words n
     (look r ghosts words (Gone n) (Sweeps (suc n)) is is.sure (steps.passes_stamp n (elim why [ inl none ↦ inl (stamp ∙ none) | inr past ↦ inr (subst (λ y. r.release < y) (sym stamp) past) ]))))
 kind_keeps r ghosts words row (sees_stamp {n = n} {x = x} here some_stamp at_most) told is walked =
     let stamp = volatile_told r ghosts words n 2 x here told in
-    by_load r ghosts words (volatile_at r.layout n 2) (HasStamp n)
+    by_load r ghosts words (volatile_at r.layout n stamp_offset) (HasStamp n)
     (look r ghosts words (Gone n) (HasStamp n) is is.sure (steps.sees_stamp n (λ none. some_stamp (sym stamp ∙ none)) (subst (λ y. y ≤ r.release) (sym stamp) at_most)))
 kind_keeps r ghosts words row (passes_worn {n = n} {x = x} here worn) told is walked =
     by_load r ghosts words (version_at r.layout n) (after_node r n) (node_done r ghosts words n
@@ -428,9 +429,9 @@ kind_keeps r ghosts words row (sees_unworn {n = n} {x = x} here unworn) told is 
     (look r ghosts words (HasStamp n) (IsUnworn n) is is.sure (steps.sees_unworn n (ap (λ v. is_worn_word v r.generation) (version_told r ghosts words n x here told) ∙ unworn)))
 kind_keeps r ghosts words row (unstamps {n = n} here) told is walked = unstamp_keeps r ghosts words row n here is
 kind_keeps r ghosts words row (frees {n = n} here) told is walked =
-    node_done r ghosts (slice_set words (volatile_at r.layout n 0) 0) n (free_keeps r ghosts words row n here is)
+    node_done r ghosts (slice_set words (volatile_at r.layout n status_offset) 0) n (free_keeps r ghosts words row n here is)
 kind_keeps r ghosts words row (counts {n = n} {x = x} {none = none} here) told is walked =
-    by_load r ghosts words (volatile_at r.layout n 0) (Counts (n + 1) (none && not (x == 0)))
+    by_load r ghosts words (volatile_at r.layout n status_offset) (Counts (n + 1) (none && not (x == 0)))
     (subst (λ m. RowLawful r ghosts words (Counts m (none && not (x == 0)))) (omega arith) (counted r ghosts words n none x (volatile_told r ghosts words n 0 x here told) is))
 kind_keeps r ghosts words row (leaves_lock {n = n} {none = none} done) told is walked =
     lock_keeps r ghosts words row 0 (Counts n none) Resting is is.sure (λ even. even)

@@ -6,7 +6,7 @@ use Rattle.pm_words.specs.declared.action.Action.{Action}
 use Rattle.pm_words.specs.declared.action.Action.TheVariants.{Load, Store, Exchange}
 use Rattle.pm_words.specs.declared.layout.Layout.{Layout}
 use Rattle.pm_words.specs.Locations.{Cached, Volatile, Updater, Node, address_of, row_words}
-use Rattle.pm_words.specs.Offsets.{version_offset}
+use Rattle.pm_words.specs.Offsets.{version_offset, stamp_offset, status_offset}
 use Rattle.version_lock.specs.Versions.{is_free_word, is_worn_word}
 use Rattle.search_layer.specs.ChangeStages.{Changing, Changed, ChangeStep}
 use Rattle.search_layer.specs.ChangeStages.{start_stage}
@@ -67,29 +67,29 @@ pub data RowStep (r : RowTerms) : RowStage → Action → ℕ → RowStage → T
       ChangeStep r.layout (aim_of e word) s a x Changed → RowStep r (Changes e word s) a x (after_change e)
   -- it stamps the merged node, and empties the line
   stamps : {e : RowLine} {x : ℕ} → e.node < r.layout.nodes →
-      RowStep r (Stamps e) (Store (volatile_at r.layout e.node 2) r.stamp) x (Clears e.line)
+      RowStep r (Stamps e) (Store (volatile_at r.layout e.node stamp_offset) r.stamp) x (Clears e.line)
   empties : {j x : ℕ} → j < line_count r.layout →
       RowStep r (Clears j) (Store (line_at r.layout j 0) empty_state) x (after_line r j)
   -- it loads the status of a node, its stamp, its version
   passes_node : {n x : ℕ} → n < r.layout.nodes → x ≢ gone_status →
-      RowStep r (Sweeps n) (Load (volatile_at r.layout n 0)) x (after_node r n)
+      RowStep r (Sweeps n) (Load (volatile_at r.layout n status_offset)) x (after_node r n)
   sees_gone : {n x : ℕ} → n < r.layout.nodes → x ≡ gone_status →
-      RowStep r (Sweeps n) (Load (volatile_at r.layout n 0)) x (Gone n)
+      RowStep r (Sweeps n) (Load (volatile_at r.layout n status_offset)) x (Gone n)
   passes_stamp : {n x : ℕ} → n < r.layout.nodes → (x ≡ 0) ⊎ (r.release < x) →
-      RowStep r (Gone n) (Load (volatile_at r.layout n 2)) x (after_node r n)
+      RowStep r (Gone n) (Load (volatile_at r.layout n stamp_offset)) x (after_node r n)
   sees_stamp : {n x : ℕ} → n < r.layout.nodes → x ≢ 0 → x ≤ r.release →
-      RowStep r (Gone n) (Load (volatile_at r.layout n 2)) x (HasStamp n)
+      RowStep r (Gone n) (Load (volatile_at r.layout n stamp_offset)) x (HasStamp n)
   passes_worn : {n x : ℕ} → n < r.layout.nodes → is_worn_word x r.generation ≡ true →
       RowStep r (HasStamp n) (Load (version_at r.layout n)) x (after_node r n)
   sees_unworn : {n x : ℕ} → n < r.layout.nodes → is_worn_word x r.generation ≡ false →
       RowStep r (HasStamp n) (Load (version_at r.layout n)) x (IsUnworn n)
   -- it takes the stamp away, and makes the node free
   unstamps : {n x : ℕ} → n < r.layout.nodes →
-      RowStep r (IsUnworn n) (Store (volatile_at r.layout n 2) 0) x (Frees n)
+      RowStep r (IsUnworn n) (Store (volatile_at r.layout n stamp_offset) 0) x (Frees n)
   frees : {n x : ℕ} → n < r.layout.nodes →
-      RowStep r (Frees n) (Store (volatile_at r.layout n 0) free_status) x (after_node r n)
+      RowStep r (Frees n) (Store (volatile_at r.layout n status_offset) free_status) x (after_node r n)
   -- it loads the statuses once more, and gives the lock back
   counts : {n x : ℕ} {none : Bool} → n < r.layout.nodes →
-      RowStep r (Counts n none) (Load (volatile_at r.layout n 0)) x (Counts (n + 1) (none && not (x == free_status)))
+      RowStep r (Counts n none) (Load (volatile_at r.layout n status_offset)) x (Counts (n + 1) (none && not (x == free_status)))
   leaves_lock : {n x : ℕ} {none : Bool} → r.layout.nodes ≤ n →
       RowStep r (Counts n none) (Store (lock_at r.layout) 0) x Resting

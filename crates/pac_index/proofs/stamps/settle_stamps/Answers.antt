@@ -1,6 +1,7 @@
 use Rattle.std.proofs.Common.{◌≡◌, ◌<◌, ◌≤◌, List, ℕ, get_or, ap, ◌∙◌, subst, arith}
 use Rattle.pm_words.specs.Images.{Row}
 use Rattle.pm_words.specs.Locations.{Volatile, address_of}
+use Rattle.pm_words.specs.Offsets.{stamp_offset}
 use Rattle.pac_index.proofs.Settling.{stored, stayed}
 use Rattle.pac_index.proofs.stamps.settle_stamps.Goals as goal
 use Rattle.pac_index.proofs.stamps.settle_stamps.Goals.{then-words-address-gt1, else-words-address-gt1}
@@ -11,7 +12,7 @@ loop-node-preserved c =
     let n = c.loop-node.node in
     let row : Row = c.loop-node.memory in
     let inv = c.loop-node.invariant in
-    let address : c.node_volatile-address.result ≡ address_of first.layout (Volatile n 2) = c.node_volatile-address.ensures.address ∙ ap (λ l. address_of l (Volatile n 2)) c.layout-layout.ensures.layout in
+    let address : c.node_volatile-address.result ≡ address_of first.layout (Volatile n stamp_offset) = c.node_volatile-address.ensures.address ∙ ap (λ l. address_of l (Volatile n stamp_offset)) c.layout-layout.ensures.layout in
     let many = c.nodes-node-end.ensures in
     let of_first = ap (λ l. l.nodes) c.layout-layout.ensures.layout in
     let here : n < first.layout.nodes = omega (arith, c.loop-node-test.true, many, of_first) in
