@@ -1,5 +1,5 @@
 -- A machine between two of its turns, and at its end.
-use Rattle.std.proofs.Common.{◌≡◌, ℕ, zero, suc, ◌+◌, ◌<◌, List, ◌∙◌, ap, sym, refl, subst, arith}
+use Rattle.std.proofs.Common.{◌≡◌, ℕ, zero, suc, ◌+◌, ◌<◌, ◌≤◌, List, ◌∙◌, ap, sym, refl, subst, arith}
 use Rattle.pm_words.specs.declared.layout.Layout.{Layout}
 use Rattle.pm_words.specs.declared.action.Action.{Action}
 use Rattle.pm_words.specs.declared.machine.Turn.{Turn}
@@ -77,3 +77,47 @@ module _ {M A : Type 0} {asks : M → Action} {turned : M → ℕ → Turn M A} 
   run_takes takes {now = now} {machine = machine} may on asked given =
       subst (takes machine) (sym (given ∙ (λ k. got (on.layout k) now.words (asked k))))
       (may machine now.words on.turns on.before).1
+
+  -- turns behind turns
+  goes_join : {l : Layout} {words now : List ℕ} {first machine : M} {turns : ℕ} {next : M} {after : List ℕ} {more : ℕ}
+      → Goes asks turned left l words first machine now turns → Goes asks turned left l now machine next after more
+      → (k : ℕ) × Goes asks turned left l words first next after k × (k ≡ turns + more)
+  goes_join {turns = turns} one begins = (turns, one, omega arith)
+  goes_join one (goes before adds on less) =
+      let joined = goes_join one before in (suc joined.0, goes joined.1 adds on less, omega (arith, joined.2))
+
+  goes_fewer : {l : Layout} {words : List ℕ} {first machine : M} {now : List ℕ} {turns : ℕ}
+      → Goes asks turned left l words first machine now turns → left machine ≤ left first
+  goes_fewer begins = omega arith
+  goes_fewer (goes before adds on less) = omega (arith, less, goes_fewer before)
+
+  -- what a part of a run made of it
+  pub run_joins : {old now after : Row} {first machine next : M} {begun steps later : ℕ}
+      → IsOnRun asks turned left old now first machine begun steps
+      → IsOnRun asks turned left now after machine next steps later
+      → IsOnRun asks turned left old after first next begun later
+  run_joins {now = now} {after} {machine = machine} {next} on part =
+      let joined =
+      goes_join on.before
+      (subst (λ (l : Layout). Goes asks turned left l now.words machine next after.words part.turns) on.layout
+      part.before) in
+      record {
+        turns = joined.0;
+        before = joined.1;
+        layout = part.layout ∙ on.layout;
+        counted = omega (arith, joined.2, on.counted, part.counted);
+      }
+
+  -- a part of a run may go on as the whole may
+  pub run_may : (takes : M → ℕ → Type 0) {old now : Row} {first machine : M} {begun steps : ℕ}
+      → MayGo asks turned left takes old.layout old.words first
+      → IsOnRun asks turned left old now first machine begun steps
+      → MayGo asks turned left takes now.layout now.words machine
+  run_may takes {now = now} {machine = machine} may on =
+      subst (λ (l : Layout). MayGo asks turned left takes l now.words machine) (sym on.layout)
+      (λ m words turns more. let joined = goes_join on.before more in may m words joined.0 joined.1)
+
+  -- and leaves no more actions
+  pub run_fewer : {old now : Row} {first machine : M} {begun steps : ℕ}
+      → IsOnRun asks turned left old now first machine begun steps → left machine ≤ left first
+  run_fewer on = goes_fewer on.before

@@ -1,5 +1,6 @@
 -- The parts of a look-up that make several turns one after another, as turns of the whole.
-use Rattle.std.proofs.Common.{◌≡◌, ℕ, ◌<◌, refl, ap, sym, subst, ◌∙◌}
+use Rattle.std.proofs.Common.{◌≡◌, ℕ, ◌+◌, ◌<◌, ◌≤◌, Bool, cond, List, slice_set, refl, ap, sym, subst, ◌∙◌, arith}
+use Rattle.std.proofs.lemmas.Bool.{lt-ltb}
 use Rattle.std.specs.Prelude.{Option, IfSome}
 use Rattle.pm_words.specs.declared.layout.Layout.{Layout}
 use Rattle.pm_words.specs.declared.action.Action.{Action}
@@ -8,7 +9,7 @@ use Rattle.pm_words.specs.Rows.{got}
 use Rattle.pm_words.specs.Layouts.{IsLayout}
 use Rattle.pm_words.specs.Turns.{AdvancesTo}
 use Rattle.pm_words.specs.declared.machine.Turn.{Turn}
-use Rattle.pm_words.specs.declared.machine.Turn.TheVariants.{Done}
+use Rattle.pm_words.specs.declared.machine.Turn.TheVariants.{Go, Done}
 use Rattle.data_list.specs.declared.walk.Walk.{Walk}
 use Rattle.data_list.specs.declared.target.Target.{Target}
 use Rattle.data_list.specs.declared.target.Walked.{Walked}
@@ -22,14 +23,16 @@ use Rattle.tree_floor.specs.declared.floor.Floor.{Floor}
 use Rattle.tree_floor.specs.Floors.{floor_asks, floor_turned, floor_left, floor_takes}
 use Rattle.call_stages.specs.Kinds.{Told}
 use Rattle.call_stages.specs.Views.{IsView}
-use Rattle.machine_runs.specs.Runs.{AddsNothing, Holds, Bursts, MayGo}
+use Rattle.machine_runs.specs.Runs.{AddsNothing, Holds, Bursts, IsOnRun, MayGo}
 use Rattle.machine_runs.proofs.Inside.{told_inside, may_inside, burst_inside}
 use Rattle.node_ops.specs.declared.call.Call.{Call}
+use Rattle.node_ops.specs.declared.lookup.Hold.{Hold}
 use Rattle.node_ops.specs.declared.lookup.Lookup.{Lookup}
 use Rattle.node_ops.specs.declared.lookup.LookupAt.{LookupAt}
 use Rattle.node_ops.specs.declared.lookup.LookupAt.TheVariants as at
 use Rattle.node_ops.specs.declared.lookup.Looked.{Looked}
-use Rattle.node_ops.specs.LookupSteps.{IsWalking, floored, walked_on}
+use Rattle.node_ops.specs.LookupSteps.{IsWalking, floored, goes_to, saw_directory, walked_on}
+use Rattle.node_ops.specs.LookupSteps.{lookup_at_left, lookup_at_turned}
 use Rattle.node_ops.specs.LookupSteps.{lookup_asks, lookup_at_asks, lookup_turned, lookup_left, lookup_takes}
 use Rattle.node_ops.specs.Bursts.{LookupBursts}
 use Rattle.node_ops.proofs.Measures.{floor_ends_within, floor_goes_below, walk_fewer_by}
@@ -162,3 +165,34 @@ module _ (l : Lookup) (walk : Walk) (is : l.at ≡ at.Walk walk) {old : Row}
       → IfSome looked (λ _. last.call ≡ l.call) → LookupBursts old new l last looked begun ended
   walk_bursts b goes =
       state_bursts at.Walk l (holds_walk l.call) walk is may b (ap (walked_on l.call) (sym b.ends) ∙ goes)
+
+-- a word of fingerprints that isn't the last: it loads the next
+module _ (old new : Lookup) (hold : Hold) (bitmap : ℕ) (prints : List ℕ) (k word : ℕ)
+    (is : old.at ≡ at.Prints hold bitmap prints k) (more : k + 1 < 8) (call : new.call ≡ old.call)
+    (next : new.at ≡ at.Prints hold bitmap (slice_set prints k word) (k + 1)) where
+  prints_go : lookup_turned old word ≡ Go new
+  prints_go =
+      ap (λ (a : LookupAt). lookup_at_turned old.call a word) is
+      ∙ ap (λ (b : Bool). cond b
+      (goes_to old.call (at.Prints hold bitmap (slice_set prints k word) (k + 1)))
+      (saw_directory old.call hold (record { bitmap = bitmap; prints = slice_set prints k word }))) (lt-ltb _ _ more)
+      ∙ (λ i. Go (record { call = sym call i; at = sym next i }))
+
+  prints_less : lookup_left new < lookup_left old
+  prints_less =
+      subst (λ (q : Call × LookupAt × LookupAt). lookup_at_left q.0.view.layout.slots q.1
+      < lookup_at_left old.call.view.layout.slots q.2) (λ i. (sym call i, sym next i, sym is i)) (omega arith)
+
+  pub prints_turn : (lookup_turned old word ≡ Go new) × (lookup_left new < lookup_left old)
+  prints_turn = (prints_go, prints_less)
+
+-- what is known of a look-up on its run is known of one that it is
+pub run_stays : {old now : Row} {first machine same : Lookup} {begun steps : ℕ} → same ≡ machine
+    → IsOnRun lookup_asks lookup_turned lookup_left old now first machine begun steps
+    → IsOnRun lookup_asks lookup_turned lookup_left old now first same begun steps
+run_stays {old} {now} {first} {begun = begun} {steps = steps} is =
+    subst (λ (m : Lookup). IsOnRun lookup_asks lookup_turned lookup_left old now first m begun steps) (sym is)
+
+-- fewer than what is no more
+pub less_then : {a b c : ℕ} → a < b → b ≤ c → a < c
+less_then less most = omega (arith, less, most)

@@ -183,10 +183,11 @@ impl Machine for Lookup {
 }
 
 impl Lookup {
-    ghost use Rattle.std.specs.Prelude.{◌≡◌, ℕ, ◌^◌, ◌<◌, ◌≤◌, List, Some, IfSome, replicate};
+    ghost use Rattle.std.specs.Prelude.{◌≡◌, ℕ, ◌+◌, ◌^◌, ◌<◌, ◌≤◌, List, Some, IfSome, IsTrue, IsFalse};
+    ghost use Rattle.std.specs.Prelude.{replicate, slice_set};
     ghost use Rattle.pm_words.specs.Turns.{GoesBelow};
     ghost use Rattle.pm_words.specs.Layouts.{IsLayout};
-    ghost use Rattle.pm_words.specs.declared.machine.Turn.TheVariants.{Done};
+    ghost use Rattle.pm_words.specs.declared.machine.Turn.TheVariants.{Go, Done};
     ghost use Rattle.pm_words.specs.Turns.{AdvancesTo};
     ghost use Rattle.data_node.specs.Bits.{without_live};
     ghost use Rattle.data_node.specs.Slots.{IsLive};
@@ -196,7 +197,7 @@ impl Lookup {
     ghost use Rattle.node_ops.specs.LookupSteps.{IsLookup, starts, floored, walked_on, came_to, tried_lock, saw_clock};
     ghost use Rattle.node_ops.specs.LookupSteps.{saw_prints, saw_directory, saw_name, next_candidate, goes_to, finds};
     ghost use Rattle.node_ops.specs.LookupSteps.{lookup_asks, lookup_left, lookup_takes, lookup_turned};
-    ghost use Rattle.machine_runs.specs.Runs.{MayGo};
+    ghost use Rattle.machine_runs.specs.Runs.{IsOnRun, MayGo};
     ghost use Rattle.node_ops.specs.Bursts.{LookupBursts};
 
     pub(crate) fn new(call: Call) -> Lookup
@@ -279,11 +280,55 @@ impl Lookup {
         ensures { LookupBursts memory.old memory.new self.old self.new (Some result) steps.old steps.new }
     {
         'turns: loop {
+            self.load_prints(memory, steps);
             let got = memory.act(self.action(), steps);
-            if let Some(looked) = self.advance(got) {
-                return looked;
+            if !self.reads_on(got) {
+                if let Some(looked) = self.advance(got) {
+                    return looked;
+                }
             }
         }
+    }
+
+    /// Where it loads fingerprints, it loads all words of them but the last, with nothing between.
+    fn load_prints<L: Ledger>(&mut self, memory: &mut Memory, steps: &mut Steps<L>)
+        requires { MayGo lookup_asks lookup_turned lookup_left lookup_takes memory.old.layout memory.old.words
+            self.old }
+        ensures { IsOnRun lookup_asks lookup_turned lookup_left memory.old memory.new self.old self.new steps.old
+            steps.new }
+    {
+        'words: loop {
+            let LookupAt::Prints { at, .. } = &self.at else {
+                return;
+            };
+            let at = *at;
+            if at + 1 >= PRINT_WORDS as u64 {
+                return;
+            }
+            let word = memory.act(Action::Load(self.call.address(node::PRINTS + at)), steps);
+            self.has_print(word);
+        }
+    }
+
+    /// Where it compares a word of the name that isn't the last, and the slot's is that one, it goes on to the next.
+    /// Answers whether it did.
+    fn reads_on(&mut self, got: u64) -> bool
+        requires here { IsLookup self.old }
+        ensures on { IsTrue result → lookup_turned self.old got ≡ Go self.new }
+        ensures stays { IsFalse result → self.new ≡ self.old }
+        ensures fewer { IsTrue result → lookup_left self.new < lookup_left self.old }
+    {
+        let LookupAt::Name { at, .. } = &self.at else {
+            return false;
+        };
+        let at = *at;
+        if at + 1 >= WORDS as u64 || got != self.call.name[at as usize] {
+            return false;
+        }
+        if let LookupAt::Name { at, .. } = &mut self.at {
+            *at += 1;
+        }
+        true
     }
 
     /// It walks from the node that the layer leads to.
@@ -408,17 +453,34 @@ impl Lookup {
             return None;
         };
         let at = *at;
-        let LookupAt::Prints { prints, .. } = &mut self.at else {
+        if at + 1 < PRINT_WORDS as u64 {
+            self.has_print(word);
             return None;
+        }
+        if let LookupAt::Prints { prints, .. } = &mut self.at {
+            prints[at as usize] = word;
+        }
+        self.has_prints()
+    }
+
+    /// Where it loads fingerprints, it has one word more of them, and loads the next.
+    fn has_print(&mut self, word: u64)
+        requires here { IsLookup self.old }
+        ensures at { (hold : Hold) (bitmap : ℕ) (prints : List ℕ) (k : ℕ)
+            → self.old.at ≡ LookupAt.Prints hold bitmap prints k
+            → self.new.at ≡ LookupAt.Prints hold bitmap (slice_set prints k word) (k + 1) }
+        ensures call { self.new.call ≡ self.old.call }
+    {
+        let LookupAt::Prints { at, .. } = &self.at else {
+            return;
         };
-        prints[at as usize] = word;
-        if at + 1 == PRINT_WORDS as u64 {
-            return self.has_prints();
+        let at = *at;
+        if let LookupAt::Prints { prints, .. } = &mut self.at {
+            prints[at as usize] = word;
         }
         if let LookupAt::Prints { at, .. } = &mut self.at {
             *at += 1;
         }
-        None
     }
 
     /// Where it has all fingerprints, it goes on with the candidates.
