@@ -4,7 +4,7 @@ use Rattle.pm_words.specs.declared.layout.Layout.{Layout}
 use Rattle.pm_words.specs.declared.action.Action.{Action}
 use Rattle.pm_words.specs.declared.action.Action.TheVariants.{Add}
 use Rattle.pm_words.specs.declared.machine.Turn.{Turn}
-use Rattle.pm_words.specs.declared.machine.Turn.TheVariants.{Go}
+use Rattle.pm_words.specs.declared.machine.Turn.TheVariants.{Go, Done}
 use Rattle.pm_words.specs.Images.{Row}
 use Rattle.pm_words.specs.Rows.{CanAct, acted, got}
 use Rattle.pm_words.specs.Turns.{GoesBelow}
@@ -63,3 +63,18 @@ pub record Holds {M A N B : Type 0} (asks : M → Action) (turned : M → ℕ �
   pub fewer : (machine : M) (number : ℕ) → outer_takes (holds machine) number →
       GoesBelow left (left machine) (turned machine number) →
       GoesBelow outer_left (outer_left (holds machine)) (outer_turned (holds machine) number)
+
+-- What it comes to from a turn on: where that goes on, a burst of the machine that it goes on as; else that is its end
+-- already, and nothing was done.
+abbrev pub ComesFrom : {M A : Type 0} → (M → Action) → (M → ℕ → Turn M A) → (M → ℕ) → Row → Row → Turn M A →
+    Turn M A → ℕ → ℕ → Type 0
+ComesFrom asks turned left old new (Go machine) end begun ended =
+    Bursts asks turned left old new machine end begun ended
+ComesFrom asks turned left old new (Done answer) end begun ended =
+    (end ≡ Done answer) × (new ≡ old) × (ended ≡ begun)
+
+-- where the turn goes on, it may go on so
+abbrev pub MayGoFrom : {M A : Type 0} → (M → Action) → (M → ℕ → Turn M A) → (M → ℕ) → (M → ℕ → Type 0) → Row →
+    Turn M A → Type 0
+MayGoFrom asks turned left takes old (Go machine) = MayGo asks turned left takes old.layout old.words machine
+MayGoFrom asks turned left takes old (Done answer) = Unit {0}
