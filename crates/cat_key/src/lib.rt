@@ -5,7 +5,7 @@
 #![tactic(auto)]
 
 ghost use Rattle.std.specs.Prelude.{◌≡◌, ℕ, ◌*◌, ◌<◌, ◌≤◌, ◌↔◌, List, [], length, IsOk, IfOk, IsErrOf, IsSome, IsNone};
-ghost use Rattle.std.specs.Prelude.{IfSome, Some, All, slice_index};
+ghost use Rattle.std.specs.Prelude.{IfSome, Some, All, slice_index, ◌++◌, OnOk};
 ghost use Rattle.cat_key.specs.Faults.{name_fault_text, bad_byte_text};
 ghost use Rattle.cat_key.specs.Names.{IsName, IsNameByte, IsFirstBad, AreNameWords, name_cmp, words_of, all_bytes};
 ghost use Rattle.cat_key.specs.Names.{before_zero, fingerprint_of, WordsKeepOrder, WordsTellNames};
@@ -17,6 +17,7 @@ ghost use Rattle.std.specs.Fmt.{WritesOnOk, styled_text};
 ghost use Rattle.std.specs.Ordering.{as_partial_cmp};
 ghost use Rattle.std.specs.Str.{bytes_eq, IsUtf8};
 
+use std::alloc::AllocError;
 use std::cmp::Ordering;
 use std::error::Error;
 use std::fmt;
@@ -130,6 +131,14 @@ impl Name {
         (name.words == words).then_some(name)
     }
 
+    /// The name whose words these are.
+    pub fn kept_in(words: [u64; WORDS]) -> Name
+        requires { AreNameWords words }
+        ensures { words_of result ≡ words }
+    {
+        Name { words }
+    }
+
     /// How many bytes the name has: at least 1.
     pub fn len(&self) -> usize
         ensures len { result ≡ length self.now }
@@ -144,6 +153,13 @@ impl Name {
         ensures { result ≡ slice_index self.now at }
     {
         byte_in(&self.words, at)
+    }
+
+    /// Appends the name's bytes to a text.
+    pub fn append_to(&self, text: &mut Vec<u8>) -> Result<(), AllocError>
+        ensures { OnOk result (text.new.items ≡ text.old.items ++ self.now) }
+    {
+        text.extend_from_slice(text_in(&unpacked(&self.words)))
     }
 
     /// A hint of one byte by which most other names can be told apart from this one.

@@ -245,10 +245,7 @@ fn add_old(text: &mut Vec<u8>, old: Option<u64>) -> Result<(), NoMemory>
 fn add_name(text: &mut Vec<u8>, name: &Name) -> Result<(), NoMemory>
     ensures { OnOk result (text.new.items ≡ text.old.items ++ name.now) }
 {
-    for at in 0..name.len() {
-        text.push(name.byte(at))?;
-    }
-    Ok(())
+    name.append_to(text)
 }
 
 pub(crate) fn add_number(text: &mut Vec<u8>, number: u64) -> Result<(), NoMemory>
