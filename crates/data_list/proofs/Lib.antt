@@ -4,3 +4,4 @@ pub mod StillWalk
 pub mod HopLaw
 pub mod KeyLemmas
 pub mod Loading
+pub mod Arriving

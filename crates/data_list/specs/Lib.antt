@@ -4,3 +4,4 @@ pub mod WalkStages
 pub mod Hops
 pub mod Laws
 pub mod Still
+pub mod Arrivals

@@ -136,6 +136,9 @@ impl Walk {
     ghost use Rattle.data_list.specs.Walks.{IsWalk, walk_from, walk_asks, walk_takes, walk_turned, walk_left, target};
     ghost use Rattle.data_list.specs.Walks.{loads_at};
     ghost use Rattle.data_list.specs.Walks.{landing, hops_to, saw_version, saw_status, saw_anchor, saw_next, saw_high};
+    ghost use Rattle.data_list.specs.Arrivals.{MayWalk, WalkBursts, ComesTo, Leads, HopsOn, anchor_loaded, anchor_at};
+    ghost use Rattle.data_list.specs.declared.key.KeyWords.{KeyWords};
+    ghost use Rattle.pm_words.specs.Locations.{row_words};
 
     /// A walk to the node of a key, in this generation, that begins at the node `hint`.
     pub fn new(layout: Layout, generation: u64, hint: u64, key: [u64; WORDS]) -> Walk
@@ -228,6 +231,130 @@ impl Walk {
         }
     }
 
+    /// From its beginning it makes its loads until it is at its target, whose version word it answers, with nothing
+    /// between. `steps` counts the events.
+    pub fn comes<L: Ledger>(
+        &mut self,
+        memory: &mut Memory,
+        steps: &mut Steps<L>,
+    ) -> Result<u64, Again>
+        requires begins { self.old.at ≡ WalkAt.Version }
+        requires may { MayGo walk_asks walk_turned walk_left walk_takes memory.old.layout memory.old.words self.old }
+        ensures { ComesTo memory.old memory.new self.old self.new result steps.old steps.new }
+    {
+        'hops: loop {
+            let node = self.node;
+            let version = memory.act(Action::Load(self.address(node, node::VERSION)), steps);
+            if !is_free(version, self.generation) {
+                return Err(Again::Locked {
+                    node,
+                    word: version,
+                });
+            }
+            let Some(to) = self.leads(memory, steps) else {
+                return Ok(version);
+            };
+            self.hops_on(to)?;
+        }
+    }
+
+    /// The number of the node to which its node leads it, or None where that is its target.
+    fn leads<L: Ledger>(&self, memory: &mut Memory, steps: &mut Steps<L>) -> Option<u64>
+        requires { (version : ℕ) × MayWalk memory.old self.now (WalkAt.Status version) }
+        ensures { (version : ℕ) → MayWalk memory.old self.now (WalkAt.Status version)
+            → Leads memory.old memory.new self.now (WalkAt.Status version) version result steps.old steps.new }
+    {
+        let status = memory.act(
+            Action::Load(self.layout.node_volatile(self.node, volatile::STATUS)),
+            steps,
+        );
+        if status == GONE {
+            return Some(self.leads_back(memory, steps));
+        }
+        if status != LIVE {
+            return Some(0);
+        }
+        self.leads_on(memory, steps)
+    }
+
+    /// The same of a LIVE node.
+    fn leads_on<L: Ledger>(&self, memory: &mut Memory, steps: &mut Steps<L>) -> Option<u64>
+        requires { (version : ℕ) × MayWalk memory.old self.now (WalkAt.First version) }
+        ensures { (version : ℕ) → MayWalk memory.old self.now (WalkAt.First version)
+            → Leads memory.old memory.new self.now (WalkAt.First version) version result steps.old steps.new }
+    {
+        let low = self.loads_anchor(self.node, memory, steps);
+        if self.key.is_below(low) {
+            return Some(self.leads_back(memory, steps));
+        }
+        self.leads_next(memory, steps)
+    }
+
+    /// The same of one whose anchor the key isn't below.
+    fn leads_next<L: Ledger>(&self, memory: &mut Memory, steps: &mut Steps<L>) -> Option<u64>
+        requires { (version : ℕ) × (low : KeyWords) × MayWalk memory.old self.now (WalkAt.Next version low) }
+        ensures { (version : ℕ) (low : KeyWords) → MayWalk memory.old self.now (WalkAt.Next version low)
+            → Leads memory.old memory.new self.now (WalkAt.Next version low) version result steps.old steps.new }
+    {
+        let next = memory.act(Action::Load(self.address(self.node, node::NEXT)), steps);
+        if next >= self.layout.nodes() {
+            return Some(0);
+        }
+        if next != 0 {
+            return self.passes(next, memory, steps);
+        }
+        None
+    }
+
+    /// The next node, unless the key is below its anchor.
+    fn passes<L: Ledger>(&self, next: u64, memory: &mut Memory, steps: &mut Steps<L>) -> Option<u64>
+        requires { (version : ℕ) × (low : KeyWords) ×
+            MayWalk memory.old self.now (WalkAt.HighFirst version low next) }
+        ensures { (version : ℕ) (low : KeyWords) → MayWalk memory.old self.now (WalkAt.HighFirst version low next)
+            → Leads memory.old memory.new self.now (WalkAt.HighFirst version low next) version result steps.old
+            steps.new }
+    {
+        let high = self.loads_anchor(next, memory, steps);
+        if self.key.is_below(high) {
+            return None;
+        }
+        Some(next)
+    }
+
+    /// The number of the node before, or of the one into which a GONE node was merged.
+    fn leads_back<L: Ledger>(&self, memory: &mut Memory, steps: &mut Steps<L>) -> u64
+        requires { MayWalk memory.old self.now WalkAt.Prev }
+        ensures { WalkBursts memory.old memory.new self.now WalkAt.Prev (hops_to self.now result) steps.old steps.new }
+    {
+        memory.act(
+            Action::Load(self.layout.node_volatile(self.node, volatile::PREV)),
+            steps,
+        )
+    }
+
+    /// The anchor of a node.
+    fn loads_anchor<L: Ledger>(
+        &self,
+        node: u64,
+        memory: &mut Memory,
+        steps: &mut Steps<L>,
+    ) -> KeyWords
+        requires layout { IsLayout self.now.layout }
+        requires node { node < self.now.layout.nodes }
+        requires within { word_address self.now.layout node 5 < row_words memory.old.layout }
+        ensures row { memory.new ≡ record memory.old {
+          words = anchor_loaded self.now.layout node memory.old.layout memory.old.words;
+        } }
+        ensures anchor { result ≡ anchor_at self.now.layout node memory.old.layout memory.old.words }
+        ensures steps { steps.new ≡ steps.old + 3 }
+    {
+        KeyWords {
+            first: memory.act(Action::Load(self.address(node, node::ANCHOR)), steps),
+            second: memory.act(Action::Load(self.address(node, node::ANCHOR + 1)), steps),
+            third: memory.act(Action::Load(self.address(node, node::ANCHOR + 2)), steps),
+        }
+    }
+
     /// It goes on there.
     fn loads_at(&mut self, at: WalkAt) -> Option<Walked>
         ensures { AdvancesTo (loads_at self.old at) self.new result }
@@ -249,19 +376,32 @@ impl Walk {
         }
     }
 
-    /// It goes on at the node of this number.
-    fn hops_to(&mut self, node: u64) -> Option<Walked>
+    /// It goes on at the node of this number, unless that is a hop too many.
+    fn hops_on(&mut self, node: u64) -> Result<(), Again>
         requires layout { IsLayout self.old.layout }
         requires hops { self.old.hops < 2 * self.old.layout.nodes }
-        ensures { AdvancesTo (hops_to self.old node) self.new result }
+        ensures { HopsOn (hops_to self.old node) self.new result }
     {
         let hops = self.hops + 1;
         if hops < 2 * self.layout.nodes() {
             self.node = self.landing(node);
             self.hops = hops;
-            return self.loads_at(WalkAt::Version);
+            self.at = WalkAt::Version;
+            return Ok(());
         }
-        Some(Walked::Again(Again::Hops { count: hops }))
+        Err(Again::Hops { count: hops })
+    }
+
+    /// It goes on at the node of this number, or is done.
+    fn hops_to(&mut self, node: u64) -> Option<Walked>
+        requires layout { IsLayout self.old.layout }
+        requires hops { self.old.hops < 2 * self.old.layout.nodes }
+        ensures { AdvancesTo (hops_to self.old node) self.new result }
+    {
+        match self.hops_on(node) {
+            Ok(()) => None,
+            Err(why) => Some(Walked::Again(why)),
+        }
     }
 
     /// The node that it is at is its target.

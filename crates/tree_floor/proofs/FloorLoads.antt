@@ -25,7 +25,7 @@ by_kind P kind low high two three four five = elim (cases_eq kind 2) [
 head_within : (kind o : ℕ) → 2 ≤ kind → kind ≤ 5 → o < 4 → o < kind_words kind
 head_within kind o low high lt = by_kind (λ k. o < kind_words k) kind low high (omega arith) (omega arith) (omega arith) (omega arith)
 
-scan_within : (kind byte : ℕ) (s : Scan) → byte ≤ 256 → IsScan kind byte s → scan_offset kind byte s < kind_words kind
+pub scan_within : (kind byte : ℕ) (s : Scan) → byte ≤ 256 → IsScan kind byte s → scan_offset kind byte s < kind_words kind
 scan_within kind byte (scan.Entry entry child below) small is = elim is.0 [
   | inl two ↦ subst (λ k. entry < entry_count k → first_entry k + entry < kind_words k) (sym two) (λ lt. omega arith) is.1
   | inr three ↦ subst (λ k. entry < entry_count k → first_entry k + entry < kind_words k) (sym three) (λ lt. omega arith) is.1

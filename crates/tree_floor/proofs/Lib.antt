@@ -6,3 +6,4 @@ pub mod KeyWords
 pub mod FloorStays
 pub mod FloorLoads
 pub mod FloorExact
+pub mod FloorReading

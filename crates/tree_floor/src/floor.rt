@@ -3,7 +3,7 @@
 ghost use Rattle.std.specs.Prelude.{◌≡◌};
 ghost use Rattle.tree_law.specs.FloorWalks.{node_told};
 
-use crate::scan::{BYTES, Scan, Scanned};
+use crate::scan::{BYTES, Scan, Scanned, better_of, child_of, entry_count, first_entry};
 use crate::words::{KEY_WORDS, ROOT, byte_of, is_at_most, is_prefix, word_of};
 use cat_key::WORDS;
 use pm_words::codes::reference::KIND;
@@ -106,16 +106,19 @@ impl Machine for Floor {
 }
 
 impl Floor {
-    ghost use Rattle.std.specs.Prelude.{◌≡◌, ◌<◌, ◌+◌, slice_set};
+    ghost use Rattle.std.specs.Prelude.{◌≡◌, ℕ, ◌<◌, ◌+◌, slice_set};
     ghost use Rattle.cat_key.specs.declared.TheConstants.{WORDS};
     ghost use Rattle.radix_nodes.specs.Keys.{key_bytes};
     ghost use Rattle.pm_words.specs.Layouts.{IsLayout};
-    ghost use Rattle.pm_words.specs.Turns.{AdvancesTo};
+    ghost use Rattle.pm_words.specs.Locations.{image_words, row_words, cached_address};
+    ghost use Rattle.pm_words.specs.Turns.{AdvancesTo, turn_of};
     ghost use Rattle.pm_words.specs.declared.machine.Turn.TheVariants.{Done};
     ghost use Rattle.machine_runs.specs.Runs.{Bursts, MayGo};
     ghost use Rattle.tree_floor.specs.Floors.{IsFloor, IsCellOf, floor_asks, floor_left, floor_starts, floor_takes};
     ghost use Rattle.tree_floor.specs.Floors.{goes_to, lands, back, enters, scans, has_key, has_key_word, has_depth};
     ghost use Rattle.tree_floor.specs.Floors.{floor_turned, has_prefix, has_prefix_word, has_scanned};
+    ghost use Rattle.tree_floor.specs.FloorRuns.{MayFloor, FloorBursts, Skims, key_loaded, key_at};
+    ghost use Rattle.tree_floor.specs.declared.floor.FloorAt.TheVariants as FloorAt;
 
     /// The floor of this key.
     pub fn new(layout: Layout, key: Key) -> Floor
@@ -173,12 +176,148 @@ impl Floor {
         ensures { Bursts floor_asks floor_turned floor_left memory.old memory.new self.old (Done result) steps.old
             steps.new }
     {
-        'turns: loop {
-            let got = memory.act(self.action(), steps);
-            if let Some(node) = self.advance(got) {
+        'parts: loop {
+            if let Some(node) = self.reads(memory, steps) {
                 return node;
             }
         }
+    }
+
+    /// Does what it asks for, and of a leaf's key loads all three words. It goes on, or is done where there is an
+    /// answer.
+    fn reads<L: Ledger>(&mut self, memory: &mut Memory, steps: &mut Steps<L>) -> Option<u64>
+        requires { MayGo floor_asks floor_turned floor_left floor_takes memory.old.layout memory.old.words self.old }
+        ensures { Bursts floor_asks floor_turned floor_left memory.old memory.new self.old
+            (turn_of self.new result) steps.old steps.new }
+    {
+        match self.at {
+            FloorAt::Root => {
+                let reference = memory.act(Action::Load(self.layout.cached(ROOT)), steps);
+                self.enters(reference)
+            }
+            FloorAt::Key { leaf, word: 0, .. } => {
+                let key = self.loads_key(self.layout.leaf_word(leaf, 0), memory, steps);
+                self.has_key(leaf, key)
+            }
+            FloorAt::Node { leaf } => {
+                let word = self.layout.leaf_word(leaf, KEY_WORDS);
+                let got = memory.act(Action::Load(self.layout.cached(word)), steps);
+                Some(node_told(self.layout.nodes(), got))
+            }
+            _ => self.reads_cell(memory, steps),
+        }
+    }
+
+    /// Does what it asks for, and loads all three words of a cell's prefix, and all of its entries. It goes on, or is
+    /// done where there is an answer.
+    fn reads_cell<L: Ledger>(&mut self, memory: &mut Memory, steps: &mut Steps<L>) -> Option<u64>
+        requires { MayGo floor_asks floor_turned floor_left floor_takes memory.old.layout memory.old.words self.old }
+        ensures { Bursts floor_asks floor_turned floor_left memory.old memory.new self.old
+            (turn_of self.new result) steps.old steps.new }
+    {
+        match self.at {
+            FloorAt::Depth { cell } => {
+                let word = word_of(self.layout, cell, 0);
+                let depth = memory.act(Action::Load(self.layout.cached(word)), steps);
+                self.has_depth(cell, depth)
+            }
+            FloorAt::Prefix {
+                cell,
+                depth,
+                word: 0,
+                ..
+            } => {
+                let prefix = self.loads_key(word_of(self.layout, cell, 1), memory, steps);
+                self.has_prefix(cell, depth, prefix)
+            }
+            FloorAt::Scanning {
+                cell,
+                depth,
+                byte,
+                scan,
+            } => {
+                let scanned = self.seeks(cell, byte, scan, memory, steps);
+                self.has_scanned(cell, depth, byte, scanned)
+            }
+            _ => {
+                let got = memory.act(self.action(), steps);
+                self.advance(got)
+            }
+        }
+    }
+
+    /// What its scan has read of the cell with one word more, or with all entries.
+    fn seeks<L: Ledger>(
+        &self,
+        cell: u64,
+        byte: u64,
+        scan: Scan,
+        memory: &mut Memory,
+        steps: &mut Steps<L>,
+    ) -> Scanned
+        requires { (depth : ℕ) × MayFloor memory.old self.now (FloorAt.Scanning cell depth byte scan) }
+        ensures { (depth : ℕ) → MayFloor memory.old self.now (FloorAt.Scanning cell depth byte scan)
+            → FloorBursts memory.old memory.new self.now (FloorAt.Scanning cell depth byte scan)
+            (has_scanned self.now cell depth byte result) steps.old steps.new }
+    {
+        let kind = cell / KIND;
+        let scan = self.skims(cell, byte, scan, memory, steps);
+        let word = word_of(self.layout, cell, scan.offset(kind, byte));
+        let got = memory.act(Action::Load(self.layout.cached(word)), steps);
+        scan.told(kind, byte, got)
+    }
+
+    /// Its scan once all entries but the last are read, where it reads entries.
+    fn skims<L: Ledger>(
+        &self,
+        cell: u64,
+        byte: u64,
+        scan: Scan,
+        memory: &mut Memory,
+        steps: &mut Steps<L>,
+    ) -> Scan
+        requires { (depth : ℕ) × MayFloor memory.old self.now (FloorAt.Scanning cell depth byte scan) }
+        ensures { (depth : ℕ) → MayFloor memory.old self.now (FloorAt.Scanning cell depth byte scan)
+            → Skims memory.old memory.new self.now cell depth byte scan result steps.old steps.new }
+    {
+        let Scan::Entry {
+            mut entry,
+            mut child,
+            mut below,
+        } = scan
+        else {
+            return scan;
+        };
+        let kind = cell / KIND;
+        let first = word_of(self.layout, cell, first_entry(kind));
+        'entries: while entry + 1 < entry_count(kind) {
+            let got = memory.act(Action::Load(self.layout.cached(first + entry)), steps);
+            child = child_of(byte, child, got);
+            below = better_of(byte, below, got);
+            entry += 1;
+        }
+        Scan::Entry {
+            entry,
+            child,
+            below,
+        }
+    }
+
+    /// Three image words from this one on.
+    fn loads_key<L: Ledger>(&self, word: u64, memory: &mut Memory, steps: &mut Steps<L>) -> Key
+        requires layout { IsLayout self.now.layout }
+        requires range { word + 2 < image_words self.now.layout }
+        requires within { cached_address self.now.layout (word + 2) < row_words memory.old.layout }
+        ensures row { memory.new ≡ record memory.old {
+          words = key_loaded self.now.layout word memory.old.layout memory.old.words;
+        } }
+        ensures key { result ≡ key_at self.now.layout word memory.old.layout memory.old.words }
+        ensures steps { steps.new ≡ steps.old + 3 }
+    {
+        let first = memory.act(Action::Load(self.layout.cached(word)), steps);
+        let second = memory.act(Action::Load(self.layout.cached(word + 1)), steps);
+        let third = memory.act(Action::Load(self.layout.cached(word + 2)), steps);
+        [first, second, third]
     }
 
     fn goes_to(&mut self, at: FloorAt) -> Option<u64>

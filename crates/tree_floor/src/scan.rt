@@ -195,7 +195,7 @@ pub fn entry_count(kind: u64) -> u64
 }
 
 /// The child's reference, of those read and this entry.
-fn child_of(byte: u64, child: u64, got: u64) -> u64
+pub(crate) fn child_of(byte: u64, child: u64, got: u64) -> u64
     ensures { result ≡ child_entry byte child got }
 {
     if got != 0 && got >> 32 == byte {
@@ -206,7 +206,7 @@ fn child_of(byte: u64, child: u64, got: u64) -> u64
 }
 
 /// The better entry below the byte.
-fn better_of(byte: u64, below: u64, got: u64) -> u64
+pub(crate) fn better_of(byte: u64, below: u64, got: u64) -> u64
     ensures { result ≡ better_entry byte below got }
 {
     if got != 0 && got >> 32 < byte && (below == 0 || below >> 32 < got >> 32) {

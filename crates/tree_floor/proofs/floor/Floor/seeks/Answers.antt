@@ -1,0 +1,85 @@
+use Rattle.std.proofs.Common.{ℕ, ap, sym, refl, ◌∙◌, arith}
+use Rattle.pm_words.specs.declared.action.Action.TheVariants.{Load}
+use Rattle.pm_words.specs.Locations.{Cell, word_number, cached_address}
+use Rattle.machine_runs.proofs.Running.{run_may, burst_behind}
+use Rattle.machine_runs.proofs.Inside.{same_bursts}
+use Rattle.tree_law.specs.Words.{kind_of, number_of}
+use Rattle.tree_floor.specs.declared.floor.FloorAt.TheVariants as at
+use Rattle.tree_floor.specs.declared.scan.Scanned.{Scanned}
+use Rattle.tree_floor.specs.Floors.{floor_takes, has_scanned}
+use Rattle.tree_floor.proofs.FloorLoads.{scan_within}
+use Rattle.tree_floor.proofs.FloorReading.{floor_is, floor_can, load_bursts}
+use Rattle.tree_floor.proofs.floor.Floor.seeks.Goals as goal
+
+pub offset-requires-clause-scan : goal.offset-requires-clause-scan
+offset-requires-clause-scan g c =
+    (floor_is c.skims-scan.new.memory c.args.self.now
+    (at.Scanning c.args.cell c.requires.0 c.args.byte c.skims-scan.result)
+    (run_may floor_takes c.requires.1 (c.skims-scan.ensures c.requires.0 c.requires.1))).here.3
+
+pub offset-requires-clause-byte : goal.offset-requires-clause-byte
+offset-requires-clause-byte g c =
+    (floor_is c.args.memory.now c.args.self.now (at.Scanning c.args.cell c.requires.0 c.args.byte c.args.scan)
+    c.requires.1).here.2
+
+pub word_of-word-requires-clause-layout : goal.word_of-word-requires-clause-layout
+word_of-word-requires-clause-layout g c =
+    (floor_is c.args.memory.now c.args.self.now (at.Scanning c.args.cell c.requires.0 c.args.byte c.args.scan)
+    c.requires.1).layout
+
+pub word_of-word-requires-clause-cell : goal.word_of-word-requires-clause-cell
+word_of-word-requires-clause-cell g c =
+    (floor_is c.args.memory.now c.args.self.now (at.Scanning c.args.cell c.requires.0 c.args.byte c.args.scan)
+    c.requires.1).here.0
+
+pub word_of-word-requires-clause-offset : goal.word_of-word-requires-clause-offset
+word_of-word-requires-clause-offset g c =
+    let here =
+    (floor_is c.skims-scan.new.memory c.args.self.now
+    (at.Scanning c.args.cell c.requires.0 c.args.byte c.skims-scan.result)
+    (run_may floor_takes c.requires.1 (c.skims-scan.ensures c.requires.0 c.requires.1))).here in
+    let within = scan_within (kind_of c.args.cell) c.args.byte c.skims-scan.result here.2 here.3 in
+    omega (arith, within, c.offset.ensures)
+
+pub cached-requires-clause-layout : goal.cached-requires-clause-layout
+cached-requires-clause-layout g c =
+    (floor_is c.args.memory.now c.args.self.now (at.Scanning c.args.cell c.requires.0 c.args.byte c.args.scan)
+    c.requires.1).layout
+
+pub act-got-requires : goal.act-got-requires
+act-got-requires g c =
+    floor_can c.skims-scan.new.memory c.args.self.now
+    (at.Scanning c.args.cell c.requires.0 c.args.byte c.skims-scan.result)
+    (run_may floor_takes c.requires.1 (c.skims-scan.ensures c.requires.0 c.requires.1))
+    (ap (λ (a : ℕ). Load a)
+    (c.cached.ensures.address
+    ∙ ap (λ (w : ℕ). cached_address c.args.self.now.layout w)
+    (c.word_of-word.ensures.word
+    ∙ ap (λ (o : ℕ). word_number c.args.self.now.layout (Cell (kind_of c.args.cell) (number_of c.args.cell) o))
+    c.offset.ensures)))
+
+pub told-requires-clause-scan : goal.told-requires-clause-scan
+told-requires-clause-scan g c =
+    (floor_is c.skims-scan.new.memory c.args.self.now
+    (at.Scanning c.args.cell c.requires.0 c.args.byte c.skims-scan.result)
+    (run_may floor_takes c.requires.1 (c.skims-scan.ensures c.requires.0 c.requires.1))).here.3
+
+pub told-requires-clause-byte : goal.told-requires-clause-byte
+told-requires-clause-byte g c =
+    (floor_is c.args.memory.now c.args.self.now (at.Scanning c.args.cell c.requires.0 c.args.byte c.args.scan)
+    c.requires.1).here.2
+
+pub returns : goal.returns
+returns g c depth may =
+    burst_behind (c.skims-scan.ensures depth may)
+    (same_bursts refl
+    (load_bursts c.args.self.now (at.Scanning c.args.cell depth c.args.byte c.skims-scan.result)
+    (run_may floor_takes may (c.skims-scan.ensures depth may))
+    (ap (λ (a : ℕ). Load a)
+    (c.cached.ensures.address
+    ∙ ap (λ (w : ℕ). cached_address c.args.self.now.layout w)
+    (c.word_of-word.ensures.word
+    ∙ ap (λ (o : ℕ). word_number c.args.self.now.layout (Cell (kind_of c.args.cell) (number_of c.args.cell) o))
+    c.offset.ensures)))
+    c.act-got.ensures.row c.act-got.ensures.got c.act-got.ensures.tick)
+    (ap (λ (s : Scanned). has_scanned c.args.self.now c.args.cell depth c.args.byte s) (sym c.told.ensures)))
