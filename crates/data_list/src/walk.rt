@@ -132,7 +132,7 @@ impl Walk {
     ghost use Rattle.data_list.specs.declared.walk.WalkAt.TheVariants as WalkAt;
     ghost use Rattle.pm_words.specs.Turns.{AdvancesTo};
     ghost use Rattle.pm_words.specs.declared.machine.Turn.TheVariants.{Done};
-    ghost use Rattle.machine_runs.specs.Runs.{Bursts, MayGo};
+    ghost use Rattle.machine_runs.specs.Runs.{MayGo};
     ghost use Rattle.data_list.specs.Walks.{IsWalk, walk_from, walk_asks, walk_takes, walk_turned, walk_left, target};
     ghost use Rattle.data_list.specs.Walks.{loads_at};
     ghost use Rattle.data_list.specs.Walks.{landing, hops_to, saw_version, saw_status, saw_anchor, saw_next, saw_high};
@@ -214,20 +214,6 @@ impl Walk {
                 second,
             } => self.saw_high(version, low, next, KeyWords::of([first, second, got])),
             WalkAt::Prev => self.hops_to(got),
-        }
-    }
-
-    /// Does what it asks for until it has its answer, with nothing between. `steps` counts the events.
-    pub fn run<L: Ledger>(&mut self, memory: &mut Memory, steps: &mut Steps<L>) -> Walked
-        requires { MayGo walk_asks walk_turned walk_left walk_takes memory.old.layout memory.old.words self.old }
-        ensures { Bursts walk_asks walk_turned walk_left memory.old memory.new self.old (Done result) steps.old
-            steps.new }
-    {
-        'turns: loop {
-            let got = memory.act(self.action(), steps);
-            if let Some(walked) = self.advance(got) {
-                return walked;
-            }
         }
     }
 

@@ -63,13 +63,6 @@ adds_or_not (Store address word) nothing adds = adds
 adds_or_not (Exchange address was word) nothing adds = adds
 adds_or_not (Drain address word) nothing adds = adds
 
-pub not_an_add : (a : Action) → ((address : ℕ) → a ≡ Add address → ⊥) → AddsNothing a
-not_an_add (Add address) never = never address refl
-not_an_add (Load address) never = tt
-not_an_add (Store address word) never = tt
-not_an_add (Exchange address was word) never = tt
-not_an_add (Drain address word) never = tt
-
 nothing_written : (a : Action) (caller index : ℕ) (change : Option Change) → AddsNothing a
     → IfSome change (λ _. IsAdd a) → written caller index change ≡ []
 nothing_written a caller index None nothing adds = refl

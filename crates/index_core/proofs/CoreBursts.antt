@@ -3,8 +3,6 @@ use Rattle.std.proofs.Common.{◌≡◌, ℕ, ◌<◌, length, get_or, refl, ap,
 use Rattle.std.specs.Prelude.{Option, Some, IfSome, IsSome, IsSomeAnd}
 use mathlib.Core.Option.{some}
 use lib.ListN.{get_elem?}
-use Rattle.pm_words.specs.declared.action.Action.{Action}
-use Rattle.pm_words.specs.declared.action.Action.TheVariants.{Add}
 use Rattle.pm_words.specs.Images.{Row}
 use Rattle.machine_runs.specs.Runs.{AddsNothing}
 use Rattle.call_stages.specs.declared.once.Once.{Once}
@@ -18,7 +16,7 @@ use Rattle.index_core.specs.Bursts.{BurstsSo, MayBurst}
 use Rattle.index_core.specs.Cores.{IsCore, index_of, index_with}
 use Rattle.index_core.specs.Indexes.{Index, IsIndex, IsInFlight}
 use Rattle.index_core.specs.PartyStates.{state_after}
-use Rattle.index_core.proofs.Bursting.{Left, burst_leaves, may_go, not_an_add}
+use Rattle.index_core.proofs.Bursting.{Left, burst_leaves, may_go}
 use Rattle.index_core.proofs.Lists.{read_is, within}
 use Rattle.index_core.proofs.Reading.{Reads, reads}
 use Rattle.index_core.proofs.Stepping.{respare}
@@ -57,12 +55,11 @@ module _ (inside : Inside) (old : Index) (i : ℕ) (flies : IsInFlight old i) (v
         let at = core_reads r machine found has in subst IsRunning (sym at.same) at.facts.fits
 
     -- a burst may begin, where the machine adds to no word
-    pub core_may : (r now : PartyState) (machine : Running) (action : Action) → IsRead r → r.machine ≡ Some machine
-        → action ≡ running_asks machine → ((address : ℕ) → action ≡ Add address → ⊥) → IsRead now
-        → IsSomeAnd now.machine (MayBurst inside.memory)
-    core_may r now machine action found has asks never again =
+    pub core_may : (r now : PartyState) (machine : Running) → IsRead r → r.machine ≡ Some machine
+        → AddsNothing (running_asks machine) → IsRead now → IsSomeAnd now.machine (MayBurst inside.memory)
+    core_may r now machine found has adds again =
         let at = core_reads r machine found has in
-        let nothing = subst AddsNothing (asks ∙ ap running_asks at.same) (not_an_add action never) in
+        let nothing = subst (λ (m : Running). AddsNothing (running_asks m)) at.same adds in
         let may = may_go (index_of inside) i flies.state flies.machine core_index own_there flies.flies in
         subst (λ (o : Option Running). IsSomeAnd o (MayBurst inside.memory)) (sym (machine_of_read now again))
         (may, nothing)

@@ -300,8 +300,7 @@ impl Core {
         ensures index { IsIndex self.new }
     {
         let at = party as usize;
-        let action = self.states[at].machine.running().action();
-        if let Action::Add(_) = action {
+        if self.states[at].machine.running().is_counted_next() {
             return self.step_call(party, steps);
         }
         self.states[at].burst(&mut self.memory, steps)

@@ -12,8 +12,9 @@ use Rattle.pm_words.specs.declared.fence.FenceAt.TheVariants as fence_at
 use Rattle.pm_words.specs.Fences.{fence_at_asks}
 use Rattle.call_stages.specs.declared.once.Once.{Once}
 use Rattle.call_stages.specs.declared.once.Placed.{Placed}
-use Rattle.machine_runs.specs.Runs.{AddsNothing, Holds, Bursts, MayGo}
+use Rattle.machine_runs.specs.Runs.{AddsNothing, Holds, Bursts, IsOnRun, MayGo}
 use Rattle.machine_runs.proofs.Inside.{part_may, part_told, part_bursts}
+use Rattle.machine_runs.proofs.Running.{burst_goes}
 use Rattle.node_ops.specs.declared.call.Call.{Call}
 use Rattle.node_ops.specs.declared.lookup.Found.{Found}
 use Rattle.node_ops.specs.declared.lookup.Lookup.{Lookup}
@@ -25,7 +26,7 @@ use Rattle.node_ops.specs.declared.fill.FillAt.TheVariants as fill_at
 use Rattle.node_ops.specs.declared.get.Get.{Get}
 use Rattle.node_ops.specs.declared.get.Get.TheVariants.{Looking, Checking}
 use Rattle.node_ops.specs.Calls.{IsCall}
-use Rattle.node_ops.specs.LookupSteps.{IsFoundBy, lookup_asks, lookup_turned, lookup_left, lookup_takes}
+use Rattle.node_ops.specs.LookupSteps.{IsFoundBy, lookup_asks, lookup_turned, lookup_left, lookup_takes, value_of}
 use Rattle.node_ops.specs.FillSteps.{fill_asks, fill_at_asks}
 use Rattle.node_ops.specs.GetSteps.{get_asks, get_turned, get_left, get_takes, get_looked}
 use Rattle.node_ops.specs.Bursts.{LookupBursts}
@@ -130,3 +131,18 @@ pub get_looking_bursts : (get : Get) (lookup : Lookup) → get ≡ Looking looku
     → Bursts get_asks get_turned get_left old new get end begun ended
 get_looking_bursts get lookup is may b to =
     looking_bursts looking_get get_looked (λ l number. refl) (λ call l. refl) is may b to
+
+-- what a get has found it checks next, at the node of its call
+pub get_looked_call : (get : Get) (lookup : Lookup) → get ≡ Looking lookup → {old new : Row} {last : Lookup}
+    {looked : Looked} {begun ended : ℕ} → MayGo get_asks get_turned get_left get_takes old.layout old.words get
+    → LookupBursts old new lookup last (Some looked) begun ended → IsCall last.call
+get_looked_call get lookup is may b = looked_call looking_get is may b
+
+pub get_found_run : (get : Get) (lookup : Lookup) → get ≡ Looking lookup → {old new : Row} {last : Lookup}
+    {looked : Looked} {begun ended : ℕ} → (found : Found)
+    → MayGo get_asks get_turned get_left get_takes old.layout old.words get
+    → LookupBursts old new lookup last (Some looked) begun ended → looked ≡ looked_as.Found found
+    → IsOnRun get_asks get_turned get_left old new get (Checking last.call found.hold (value_of found.hit)) begun ended
+get_found_run get lookup is {last = last} found may b is_found =
+    burst_goes (get_looking_bursts get lookup is may b
+    (ap (λ (f : Looked). get_looked last.call (Done f)) is_found)) refl

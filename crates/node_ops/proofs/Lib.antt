@@ -31,7 +31,12 @@ pub mod PartListing
 pub mod Rechecks
 pub mod FullSplits
 pub mod Bursting
+pub mod Leading
+pub mod Comparisons
+pub mod Targets
+pub mod Locking
 pub mod CallBursts
+pub mod Flushing
 pub mod PutBursts
 pub mod DelBursts
 pub mod RunningBursts

@@ -1,47 +1,45 @@
 -- The parts of a put that make several turns one after another, as turns of the whole.
-use Rattle.std.proofs.Common.{◌≡◌, ℕ, ◌+◌, ◌-◌, ◌<◌, true, false, cond, ltb, refl, ap, sym, subst, arith}
+use Rattle.std.proofs.Common.{◌≡◌, ℕ, ◌+◌, ◌-◌, ◌<◌, ◌≤◌, true, false, cond, ltb, refl, ap, sym, subst, ◌∙◌}
+use Rattle.std.proofs.Common.{arith}
 use Rattle.std.specs.Prelude.{Option, Some, None}
 use Rattle.pm_words.specs.Images.{Row}
+use Rattle.pm_words.specs.Rows.{CanAct, acted, got}
 use Rattle.pm_words.specs.Turns.{GoesBelow, turn_of}
+use Rattle.pm_words.specs.declared.action.Action.{Action}
 use Rattle.pm_words.specs.declared.machine.Turn.{Turn}
 use Rattle.pm_words.specs.declared.machine.Turn.TheVariants.{Go, Done}
-use Rattle.pm_words.specs.declared.fence.Fence.{Fence}
 use Rattle.pm_words.specs.Fences.{fence_next}
+use Rattle.data_node.specs.Bits.{lowest_clear}
 use Rattle.call_stages.specs.declared.once.Once.{Once}
 use Rattle.call_stages.specs.declared.once.Placed.{Placed}
-use Rattle.machine_runs.specs.Runs.{AddsNothing, Holds, Bursts, MayGo}
+use Rattle.machine_runs.specs.Runs.{Holds, Bursts, IsOnRun, MayGo}
 use Rattle.machine_runs.proofs.Inside.{part_may, part_bursts}
+use Rattle.machine_runs.proofs.Running.{burst_behind, burst_goes, run_begins, run_can, run_goes, run_may, run_takes}
 use Rattle.node_ops.specs.declared.call.Call.{Call}
 use Rattle.node_ops.specs.declared.lookup.Found.{Found}
 use Rattle.node_ops.specs.declared.lookup.Lookup.{Lookup}
 use Rattle.node_ops.specs.declared.lookup.Looked.{Looked}
 use Rattle.node_ops.specs.declared.lookup.Looked.TheVariants as looked_as
 use Rattle.node_ops.specs.declared.lookup.Hit.{Hit}
+use Rattle.node_ops.specs.declared.lookup.Hold.{Hold}
 use Rattle.node_ops.specs.declared.fill.Fill.{Fill}
 use Rattle.node_ops.specs.declared.fill.FillAt.{FillAt}
 use Rattle.node_ops.specs.declared.fill.FillAt.TheVariants as fill_at
 use Rattle.node_ops.specs.declared.finish.Finish.{Finish}
-use Rattle.node_ops.specs.declared.finish.FinishAt.{FinishAt}
-use Rattle.node_ops.specs.declared.finish.FinishAt.TheVariants as finish_at
 use Rattle.node_ops.specs.declared.put.Put.{Put}
 use Rattle.node_ops.specs.declared.put.Put.TheVariants.{Single}
 use Rattle.node_ops.specs.declared.single_put.SinglePut.{SinglePut}
-use Rattle.node_ops.specs.declared.single_put.SinglePut.TheVariants.{Looking, Filling, Finishing}
+use Rattle.node_ops.specs.declared.single_put.SinglePut.TheVariants.{Looking, Filling, Replacing, Finishing}
 use Rattle.node_ops.specs.Calls.{IsCall}
 use Rattle.node_ops.specs.LookupSteps.{IsFoundBy, lookup_asks, lookup_turned, lookup_left, lookup_takes}
 use Rattle.node_ops.specs.FillSteps.{filled, fill_asks, fill_turned, fill_left, fill_takes}
 use Rattle.node_ops.specs.FillSteps.{fill_at_left, fill_at_turned, fills_on, print_fenced, slot_fenced}
-use Rattle.node_ops.specs.FinishSteps.{finish_asks, finish_at_asks, finish_turned, finish_left, finish_takes}
+use Rattle.node_ops.specs.FinishSteps.{finish_asks, finish_turned, finish_left, finish_takes}
 use Rattle.node_ops.specs.PutSteps.{put_asks, put_turned, put_left, put_takes}
-use Rattle.node_ops.specs.PutSteps.{put_filled, put_finished, put_full, put_into, put_looked}
+use Rattle.node_ops.specs.PutSteps.{IsReplacing, put_filled, put_finished, put_full, put_into, put_looked}
+use Rattle.node_ops.specs.PutSteps.{replaced, replaced_hit}
 use Rattle.node_ops.specs.Bursts.{LookupBursts}
-use Rattle.node_ops.proofs.CallBursts.{fence_adds_nothing, looked_call, looked_found, looking_bursts}
-
--- the end of a write that makes its line durable adds to no word
-pub finish_fence_adds_nothing : (finish : Finish) (line : ℕ) (fence : Fence) → finish.at ≡ finish_at.Fence line fence
-    → AddsNothing (finish_asks finish)
-finish_fence_adds_nothing finish line fence is =
-    subst (λ (a : FinishAt). AddsNothing (finish_at_asks finish a)) (sym is) (fence_adds_nothing _ fence.at)
+use Rattle.node_ops.proofs.CallBursts.{looked_call, looked_found, looking_bursts}
 
 -- a turn of what a put does leaves the put fewer actions where it leaves that fewer
 put_into_below : (call : Call) (found : Found) (value bound : ℕ) (clear : Option ℕ)
@@ -178,6 +176,77 @@ pub put_finishing_bursts : (s : SinglePut) (finish : Finish) → s ≡ Finishing
 put_finishing_bursts s finish is may last answer b =
     part_bursts finishing_put (ap (λ (x : SinglePut). Single x) is) may b (ap put_finished (sym b.ends))
 
-pub put_finishing_adds : (s : SinglePut) (finish : Finish) → s ≡ Finishing finish
-    → AddsNothing (put_asks (Single s)) → AddsNothing (finish_asks finish)
-put_finishing_adds s finish is = subst (λ (x : SinglePut). AddsNothing (put_asks (Single x))) is
+-- a put that has found a slot whose value it replaces, and goes on from there
+found_replaces : (call : Call) (found : Found) (value : ℕ) (clear : Option ℕ) (hit : Hit)
+    → replaced_hit clear found.hit ≡ Some hit
+    → put_into call found value clear ≡ Single (Replacing call found.hold found.directory.bitmap hit value)
+found_replaces call found value (Some slot) hit is = absurd (cc)
+found_replaces call found value None hit is =
+    ap (λ (o : Option Hit). put_full call found.hold found.directory.bitmap o value) is
+
+module _ (s : SinglePut) (lookup : Lookup) (value : ℕ) (is : s ≡ Looking lookup value) {old : Row}
+    (may : MayGo put_asks put_turned put_left put_takes old.layout old.words (Single s)) {now : Row} {last : Lookup}
+    {looked : Looked} {begun steps : ℕ} (found : Found) (hit : Hit)
+    (b : LookupBursts old now lookup last (Some looked) begun steps) (is_found : looked ≡ looked_as.Found found)
+    (replaces : replaced_hit (lowest_clear found.directory.bitmap last.call.view.layout.slots) found.hit ≡ Some hit)
+  where
+    replacing_run : IsOnRun put_asks put_turned put_left old now (Single s)
+        (Single (Replacing last.call found.hold found.directory.bitmap hit value)) begun steps
+    replacing_run =
+        burst_goes (put_looking_bursts s lookup value is may b
+        (ap (λ (f : Looked). put_looked last.call value (Done f)) is_found
+        ∙ ap (λ (p : Put). Go p) (found_replaces last.call found value _ hit replaces))) refl
+
+    pub put_replacing_may : MayGo put_asks put_turned put_left put_takes now.layout now.words
+        (Single (Replacing last.call found.hold found.directory.bitmap hit value))
+    put_replacing_may = run_may put_takes may replacing_run
+
+    pub put_replacing_bursts : {after : Row} {end : Turn Put (Once Placed)} {later : ℕ}
+        → Bursts put_asks put_turned put_left now after
+        (Single (Replacing last.call found.hold found.directory.bitmap hit value)) end steps later
+        → Bursts put_asks put_turned put_left old after (Single s) end begun later
+    put_replacing_bursts more = burst_behind replacing_run more
+
+-- it stores the value, and makes it durable
+module _ (call : Call) (hold : Hold) (bitmap : ℕ) (hit : Hit) (value : ℕ) {old : Row}
+    (may : MayGo put_asks put_turned put_left put_takes old.layout old.words
+    (Single (Replacing call hold bitmap hit value))) where
+  pub replacing_sound : IsReplacing call hold bitmap hit value
+  replacing_sound =
+      (run_takes put_takes may (run_begins old (Single (Replacing call hold bitmap hit value)) 0) refl refl).0
+
+  pub replacing_slot : hit.slot < 64
+  replacing_slot =
+      let within : hit.slot < call.view.layout.slots = replacing_sound.hit.within in
+      let limit : call.view.layout.slots ≤ 64 = replacing_sound.call.view.layout.slots.1 in
+      omega arith
+
+  module _ {action : Action} (asked : action ≡ put_asks (Single (Replacing call hold bitmap hit value))) where
+    pub replacing_can : CanAct old.layout old.words action
+    replacing_can =
+        run_can put_takes may (run_begins old (Single (Replacing call hold bitmap hit value)) 0) asked
+
+    module _ {now : Row} {number : ℕ} (acts : now ≡ record old { words = acted old.layout old.words action })
+        (given : number ≡ got old.layout old.words action) where
+      stored_run : (begun steps : ℕ) → steps ≡ begun + 1
+          → IsOnRun put_asks put_turned put_left old now (Single (Replacing call hold bitmap hit value))
+          (Single (Finishing (replaced call hold hit value))) begun steps
+      stored_run begun steps ticks =
+          run_goes (run_begins old (Single (Replacing call hold bitmap hit value)) begun) tt asked acts given ticks
+          (omega arith) refl
+
+      stored_may : MayGo put_asks put_turned put_left put_takes now.layout now.words
+          (Single (Finishing (replaced call hold hit value)))
+      stored_may = run_may put_takes may (stored_run 0 1 (omega arith))
+
+      pub replaced_may : MayGo finish_asks finish_turned finish_left finish_takes now.layout now.words
+          (replaced call hold hit value)
+      replaced_may = part_may finishing_put refl stored_may
+
+      pub replaced_bursts : {after : Row} {last : Finish} {begun steps later : ℕ} → steps ≡ begun + 1
+          → Bursts finish_asks finish_turned finish_left now after (replaced call hold hit value) (Go last) steps later
+          → Bursts put_asks put_turned put_left old after (Single (Replacing call hold bitmap hit value))
+          (Go (Single (Finishing last))) begun later
+      replaced_bursts {begun = begun} {steps = steps} ticks b =
+          burst_behind (stored_run begun steps ticks)
+          (part_bursts finishing_put refl stored_may b (ap put_finished (sym b.ends)))

@@ -19,3 +19,4 @@ pub mod Landings
 pub mod Costs
 pub mod Laws
 pub mod Bursts
+pub mod Looking

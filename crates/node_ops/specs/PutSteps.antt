@@ -64,6 +64,11 @@ put_full call hold bitmap (Some hit) value = Single (Replacing call hold bitmap 
 put_full call hold bitmap None value =
     Splitting call hold bitmap value (split_from call.view call.node hold.locked)
 
+-- the slot whose value is replaced: where none is clear, the one that has the name
+abbrev pub replaced_hit : Option ℕ → Option Hit → Option Hit
+replaced_hit (Some slot) hit = None
+replaced_hit None hit = hit
+
 -- the lowest clear slot takes the name, if there is one
 abbrev pub put_into : Call → Found → ℕ → Option ℕ → Put
 put_into call found value (Some slot) = Single (Filling (record {

@@ -1,11 +1,13 @@
 //! What stays the same while a call is made.
 
-ghost use Rattle.std.specs.Prelude.{◌≡◌, ◌^◌, ◌<◌, ◌≤◌, IfSome};
+ghost use Rattle.std.specs.Prelude.{◌≡◌, ◌↔◌, ◌^◌, ◌<◌, ◌≤◌, IfSome, IsFalse};
 ghost use Rattle.pm_words.specs.Locations.{node_words};
 ghost use Rattle.data_node.specs.Spots.{slot_offset, print_offset};
+ghost use Rattle.machine_runs.specs.Runs.{AddsNothing};
 
 use call_stages::View;
 use cat_key::{Name, WORDS};
+use pm_words::Action;
 use pm_words::offsets::node;
 
 /// What a call has: the node that it works on and how many hops its walk made to it, which stay the same once it is
@@ -46,10 +48,7 @@ impl Call {
         requires { IsCall self.now }
         ensures { result ≡ name_in self.now }
     {
-        match Name::of_words(self.name) {
-            Some(name) => name,
-            None => unreachable!(),
-        }
+        Name::kept_in(self.name)
     }
 
     /// The address of a word of its node.
@@ -77,4 +76,14 @@ pub(crate) fn print_word(slot: u64) -> u64
     ensures { result ≡ print_offset slot }
 {
     node::PRINTS + slot / 8
+}
+
+/// Whether an action adds to a word.
+pub(crate) fn adds(action: Action) -> bool
+    ensures { IsFalse result ↔ AddsNothing action }
+{
+    match action {
+        Action::Add(_) => true,
+        _ => false,
+    }
 }

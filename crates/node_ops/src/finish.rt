@@ -9,7 +9,7 @@ use call_stages::{Once, Placed};
 use cat_history::{Change, NameOp};
 use pm_words::offsets::node;
 use pm_words::offsets::shared::CLOCK;
-use pm_words::{Action, Fence, Machine, Memory, Steps, Turn};
+use pm_words::{Action, Fence, FenceAt, LINE_WORDS, Machine, Memory, Steps, Turn};
 use std::sync::ledger::Ledger;
 use version_lock::freed_of;
 
@@ -69,7 +69,9 @@ impl Machine for Finish {
 }
 
 impl Finish {
-    ghost use Rattle.std.specs.Prelude.{◌≡◌};
+    ghost use Rattle.std.specs.Prelude.{◌≡◌, ◌↔◌, IfSome, IsFalse};
+    ghost use Rattle.pm_words.specs.declared.machine.Turn.TheVariants.{Go};
+    ghost use Rattle.pm_words.specs.Fences.{fence_start};
     ghost use Rattle.pm_words.specs.Turns.{GoesBelow};
     ghost use Rattle.pm_words.specs.Turns.{AdvancesTo, turn_of};
     ghost use Rattle.machine_runs.specs.Runs.{AddsNothing, Bursts, MayGo};
@@ -117,14 +119,51 @@ impl Finish {
         ensures { Bursts finish_asks finish_turned finish_left memory.entry.now memory.exit.now self.entry.now
             (turn_of self.exit.now result) steps.entry.now steps.exit.now }
     {
-        'turns: loop {
+        let Some(line) = self.line_to_flush() else {
             let got = memory.act(self.action(), steps);
-            if let Some(answer) = self.advance(got) {
-                return Some(answer);
-            }
-            let FinishAt::Fence { .. } = &self.at else {
-                return None;
-            };
+            return self.advance(got);
+        };
+        self.flush(line, memory, steps);
+        None
+    }
+
+    /// The first word of its line, where it has yet to begin to make that durable.
+    fn line_to_flush(&self) -> Option<u64>
+        ensures { IfSome result (λ line. self.now.at ≡ FinishAt.Fence line fence_start) }
+    {
+        let FinishAt::Fence { line, fence } = &self.at else {
+            return None;
+        };
+        let FenceAt::Load = &fence.at else {
+            return None;
+        };
+        if fence.word == 0 { Some(*line) } else { None }
+    }
+
+    /// Makes the line durable that begins at this offset, word by word, with nothing between. It is to be counted then.
+    pub(crate) fn flush<L: Ledger>(&mut self, line: u64, memory: &mut Memory, steps: &mut Steps<L>)
+        requires may { MayGo finish_asks finish_turned finish_left finish_takes memory.now.layout memory.now.words
+            self.now }
+        requires begins { self.now.at ≡ FinishAt.Fence line fence_start }
+        ensures bursts { Bursts finish_asks finish_turned finish_left memory.entry.now memory.exit.now self.entry.now
+            (Go self.exit.now) steps.entry.now steps.exit.now }
+        ensures durable { self.exit.now ≡ record self.entry.now { at = FinishAt.Add } }
+    {
+        for word in 0..LINE_WORDS {
+            let address = self.call.address(line + word);
+            let value = memory.act(Action::Load(address), steps);
+            memory.act(Action::Drain(address, value), steps);
+        }
+        self.at = FinishAt::Add;
+    }
+
+    /// Whether its next action counts its change in the clock.
+    pub(crate) fn is_counted_next(&self) -> bool
+        ensures { IsFalse result ↔ AddsNothing (finish_asks self.now) }
+    {
+        match &self.at {
+            FinishAt::Add => true,
+            FinishAt::Fence { .. } | FinishAt::Unlock { .. } => false,
         }
     }
 

@@ -86,7 +86,7 @@ impl Machine for Get {
     fn action(&self) -> Action {
         match self {
             Get::Looking { lookup } => lookup.action(),
-            Get::Checking { call, .. } => Action::Load(call.address(node::VERSION)),
+            Get::Checking { call, .. } => Get::checks(call),
         }
     }
 
@@ -101,11 +101,13 @@ impl Machine for Get {
 
 impl Get {
     ghost use Rattle.std.specs.Prelude.{◌≡◌};
+    ghost use Rattle.pm_words.specs.declared.action.Action.TheVariants.{Load};
     ghost use Rattle.pm_words.specs.Turns.{GoesBelow};
     ghost use Rattle.pm_words.specs.Turns.{AdvancesTo, turn_of};
     ghost use Rattle.machine_runs.specs.Runs.{Bursts, MayGo};
+    ghost use Rattle.node_ops.specs.Calls.{IsCall, call_address};
     ghost use Rattle.node_ops.specs.LookupSteps.{lookup_turned};
-    ghost use Rattle.node_ops.specs.GetSteps.{get_asks, get_left, get_looked, get_takes, get_turned};
+    ghost use Rattle.node_ops.specs.GetSteps.{checked, get_asks, get_left, get_looked, get_takes, get_turned};
 
     /// Tells it in place the number that its action gave. It goes on, or is done where there is an answer.
     pub(crate) fn advance(&mut self, got: u64) -> Option<Once<Placed>>
@@ -115,24 +117,12 @@ impl Get {
     {
         match self {
             Get::Looking { .. } => self.looked(got),
-            Get::Checking { call, hold, old } => Some(if got == hold.locked {
-                Once::Done(Placed {
-                    old: *old,
-                    place: hold.clock,
-                    hops: call.hops,
-                })
-            } else {
-                Once::Again(Again::Moved {
-                    node: call.node,
-                    first: hold.locked,
-                    second: got,
-                })
-            }),
+            Get::Checking { call, hold, old } => Some(Get::checked(call, *hold, *old, got)),
         }
     }
 
-    /// Does what it asks for, and goes on so as long as one part of it does, with nothing between. It goes on, or is
-    /// done where there is an answer. `steps` counts the events.
+    /// Does what it asks for, and goes on so as long as its floor or its walk does, and from there on to its end, with
+    /// nothing between. It goes on, or is done where there is an answer. `steps` counts the events.
     pub(crate) fn burst<L: Ledger>(
         &mut self,
         memory: &mut Memory,
@@ -150,12 +140,9 @@ impl Get {
             Looked::Early(answer) => return Some(answer),
             Looked::Found(found) => found,
         };
-        *self = Get::Checking {
-            call: lookup.call,
-            hold: found.hold,
-            old: Hit::value_of(found.hit),
-        };
-        None
+        let call = &lookup.call;
+        let again = memory.act(Get::checks(call), steps);
+        Some(Get::checked(call, found.hold, Hit::value_of(found.hit), again))
     }
 
     /// Where it looks, it has one number more, and once it has looked it checks.
@@ -179,6 +166,33 @@ impl Get {
                 };
                 None
             }
+        }
+    }
+
+    /// It loads the version word again.
+    fn checks(call: &Call) -> Action
+        requires { IsCall call.now }
+        ensures { result ≡ Load (call_address call.now 0) }
+    {
+        Action::Load(call.address(node::VERSION))
+    }
+
+    /// Its answer, once it has loaded the version word again.
+    fn checked(call: &Call, hold: Hold, old: Option<u64>, got: u64) -> Once<Placed>
+        ensures { result ≡ checked call.now hold old got }
+    {
+        if got == hold.locked {
+            Once::Done(Placed {
+                old,
+                place: hold.clock,
+                hops: call.hops,
+            })
+        } else {
+            Once::Again(Again::Moved {
+                node: call.node,
+                first: hold.locked,
+                second: got,
+            })
         }
     }
 }

@@ -183,7 +183,7 @@ impl Machine for Lookup {
 }
 
 impl Lookup {
-    ghost use Rattle.std.specs.Prelude.{◌≡◌, ℕ, ◌+◌, ◌^◌, ◌<◌, ◌≤◌, List, Some, IfSome, IsTrue, IsFalse};
+    ghost use Rattle.std.specs.Prelude.{◌≡◌, ℕ, ◌+◌, ◌^◌, ◌<◌, ◌≤◌, List, Some, IfSome};
     ghost use Rattle.std.specs.Prelude.{replicate, slice_set};
     ghost use Rattle.pm_words.specs.Turns.{GoesBelow};
     ghost use Rattle.pm_words.specs.Layouts.{IsLayout};
@@ -197,7 +197,9 @@ impl Lookup {
     ghost use Rattle.node_ops.specs.LookupSteps.{IsLookup, starts, floored, walked_on, came_to, tried_lock, saw_clock};
     ghost use Rattle.node_ops.specs.LookupSteps.{saw_prints, saw_directory, saw_name, next_candidate, goes_to, finds};
     ghost use Rattle.node_ops.specs.LookupSteps.{lookup_asks, lookup_left, lookup_takes, lookup_turned};
-    ghost use Rattle.machine_runs.specs.Runs.{IsOnRun, MayGo};
+    ghost use Rattle.machine_runs.specs.Runs.{MayGo};
+    ghost use Rattle.node_ops.specs.Looking.{LooksFrom, MayLookFrom, LoadsPrints, MayLoadPrints, Compares, MayCompare};
+    ghost use Rattle.node_ops.specs.Looking.{ComparesIn, MayCompareIn, Locks, MayLock, MayWork, Works};
     ghost use Rattle.node_ops.specs.Bursts.{LookupBursts};
 
     pub(crate) fn new(call: Call) -> Lookup
@@ -249,8 +251,8 @@ impl Lookup {
         }
     }
 
-    /// Does what it asks for, and goes on so as long as one part of it does, with nothing between: as its floor, as its
-    /// walk, or with all that is left. It goes on, or is done where there is an answer. `steps` counts the events.
+    /// Does what it asks for with nothing between: where it begins, until it has its answer, else one turn. It goes on,
+    /// or is done where there is an answer. `steps` counts the events.
     pub(crate) fn burst<L: Ledger>(
         &mut self,
         memory: &mut Memory,
@@ -260,73 +262,172 @@ impl Lookup {
             self.old }
         ensures { LookupBursts memory.old memory.new self.old self.new result steps.old steps.new }
     {
-        match &mut self.at {
-            LookupAt::Floor { floor } => {
-                let node = floor.run(memory, steps);
-                self.floored(node)
-            }
-            LookupAt::Walk { walk } => match walk.run(memory, steps) {
-                Walked::Again(why) => Some(Looked::Early(Once::Again(why))),
-                Walked::Target(target) => self.came_to(target),
-            },
-            _ => Some(self.run(memory, steps)),
-        }
-    }
-
-    /// Does what it asks for until it has its answer, with nothing between.
-    fn run<L: Ledger>(&mut self, memory: &mut Memory, steps: &mut Steps<L>) -> Looked
-        requires { MayGo lookup_asks lookup_turned lookup_left lookup_takes memory.old.layout memory.old.words
-            self.old }
-        ensures { LookupBursts memory.old memory.new self.old self.new (Some result) steps.old steps.new }
-    {
-        'turns: loop {
-            self.load_prints(memory, steps);
-            let got = memory.act(self.action(), steps);
-            if !self.reads_on(got) {
-                if let Some(looked) = self.advance(got) {
-                    return looked;
-                }
-            }
-        }
-    }
-
-    /// Where it loads fingerprints, it loads all words of them but the last, with nothing between.
-    fn load_prints<L: Ledger>(&mut self, memory: &mut Memory, steps: &mut Steps<L>)
-        requires { MayGo lookup_asks lookup_turned lookup_left lookup_takes memory.old.layout memory.old.words
-            self.old }
-        ensures { IsOnRun lookup_asks lookup_turned lookup_left memory.old memory.new self.old self.new steps.old
-            steps.new }
-    {
-        'words: loop {
-            let LookupAt::Prints { at, .. } = &self.at else {
-                return;
-            };
-            let at = *at;
-            if at + 1 >= PRINT_WORDS as u64 {
-                return;
-            }
-            let word = memory.act(Action::Load(self.call.address(node::PRINTS + at)), steps);
-            self.has_print(word);
-        }
-    }
-
-    /// Where it compares a word of the name that isn't the last, and the slot's is that one, it goes on to the next.
-    /// Answers whether it did.
-    fn reads_on(&mut self, got: u64) -> bool
-        requires here { IsLookup self.old }
-        ensures on { IsTrue result → lookup_turned self.old got ≡ Go self.new }
-        ensures stays { IsFalse result → self.new ≡ self.old }
-        ensures fewer { IsTrue result → lookup_left self.new < lookup_left self.old }
-    {
-        let LookupAt::Name { at, .. } = &self.at else {
-            return false;
+        let LookupAt::Floor { floor } = &mut self.at else {
+            return self.turns(memory, steps);
         };
-        let at = *at;
-        if at + 1 >= WORDS as u64 || got != self.call.name[at as usize] {
-            return false;
+        let node = floor.run(memory, steps);
+        Some(self.walks(node, memory, steps))
+    }
+
+    /// One turn.
+    fn turns<L: Ledger>(&mut self, memory: &mut Memory, steps: &mut Steps<L>) -> Option<Looked>
+        requires { MayGo lookup_asks lookup_turned lookup_left lookup_takes memory.old.layout memory.old.words
+            self.old }
+        ensures { LookupBursts memory.old memory.new self.old self.new result steps.old steps.new }
+    {
+        let got = memory.act(self.action(), steps);
+        self.advance(got)
+    }
+
+    /// It walks from the node that the layer leads to, and looks its name up at the node of that.
+    fn walks<L: Ledger>(&mut self, node: u64, memory: &mut Memory, steps: &mut Steps<L>) -> Looked
+        requires layout { IsLayout self.old.call.view.layout }
+        requires node { node < self.old.call.view.layout.nodes }
+        requires may { MayLookFrom memory.old (floored self.old.call (Done node)) }
+        ensures { LooksFrom memory.old memory.new self.old.call (floored self.old.call (Done node)) self.new.call result
+            steps.old steps.new }
+    {
+        let view = self.call.view;
+        let mut walk = Walk::new(view.layout, view.generation, node, self.call.name);
+        match walk.comes(memory, steps) {
+            Err(why) => Looked::Early(Once::Again(why)),
+            Ok(version) => self.works(walk.node(), walk.hops(), version, memory, steps),
         }
-        if let LookupAt::Name { at, .. } = &mut self.at {
-            *at += 1;
+    }
+
+    /// It is at the node of its name, which a write locks first.
+    fn works<L: Ledger>(
+        &mut self,
+        node: u64,
+        hops: u64,
+        version: u64,
+        memory: &mut Memory,
+        steps: &mut Steps<L>,
+    ) -> Looked
+        requires known { generation_of version ≤ self.old.call.view.generation }
+        requires free { IsFree version self.old.call.view.generation }
+        requires in_range { self.old.call.view.generation < 2 ^ 24 }
+        requires may { MayWork memory.old self.old.call node hops version }
+        ensures { Works memory.old memory.new self.old.call node hops version self.new.call result steps.old steps.new }
+    {
+        let Some(limit) = self.call.limit else {
+            self.call.node = node;
+            self.call.hops = hops;
+            let clock = memory.act(Action::Load(CLOCK), steps);
+            let locked = version;
+            return self.finds(Hold { locked, clock }, memory, steps);
+        };
+        let Some(locked) = locked_of(version, self.call.view.generation) else {
+            return Looked::Early(Once::Worn {
+                node,
+                word: version,
+            });
+        };
+        self.call.node = node;
+        self.call.hops = hops;
+        self.locks(version, locked, limit, memory, steps)
+    }
+
+    /// It locks its node, and loads the clock: where that has reached the limit, it gives the node back.
+    fn locks<L: Ledger>(
+        &self,
+        version: u64,
+        locked: u64,
+        limit: u64,
+        memory: &mut Memory,
+        steps: &mut Steps<L>,
+    ) -> Looked
+        requires limit { self.now.call.limit ≡ Some limit }
+        requires may { MayLock memory.old self.now.call version locked }
+        ensures { Locks memory.old memory.new self.now.call version locked result steps.old steps.new }
+    {
+        let address = self.call.address(node::VERSION);
+        let found = memory.act(Action::Exchange(address, version, locked), steps);
+        if found != version {
+            return Looked::Early(Once::Again(Again::Moved {
+                node: self.call.node,
+                first: version,
+                second: found,
+            }));
+        }
+        let clock = memory.act(Action::Load(CLOCK), steps);
+        if clock >= limit {
+            memory.act(Action::Store(address, freed_of(locked)), steps);
+            return Looked::Early(Once::Spent { clock });
+        }
+        self.finds(Hold { locked, clock }, memory, steps)
+    }
+
+    /// It looks for the live slot with its name.
+    fn finds<L: Ledger>(&self, hold: Hold, memory: &mut Memory, steps: &mut Steps<L>) -> Looked
+        requires { MayLookFrom memory.old (goes_to self.now.call (LookupAt.Bitmap hold)) }
+        ensures { LooksFrom memory.old memory.new self.now.call (goes_to self.now.call (LookupAt.Bitmap hold))
+            self.now.call result steps.old steps.new }
+    {
+        let bitmap = memory.act(Action::Load(self.call.address(node::BITMAP)), steps);
+        let prints = self.loads_prints(memory, steps);
+        let slots = self.call.view.layout.slots();
+        let left = candidates(bitmap, &prints, self.call.print, slots);
+        let hit = self.compares(left, memory, steps);
+        let directory = Directory { bitmap, prints };
+        Looked::Found(Found {
+            hold,
+            directory,
+            hit,
+        })
+    }
+
+    /// It loads all fingerprints.
+    fn loads_prints<L: Ledger>(
+        &self,
+        memory: &mut Memory,
+        steps: &mut Steps<L>,
+    ) -> [u64; PRINT_WORDS]
+        requires { MayLoadPrints memory.old self.now.call }
+        ensures { LoadsPrints memory.old memory.new self.now.call result steps.old steps.new }
+    {
+        let first = self.call.address(node::PRINTS);
+        let mut prints = [0; PRINT_WORDS];
+        for at in 0..PRINT_WORDS {
+            prints[at] = memory.act(Action::Load(first + at as u64), steps);
+        }
+        prints
+    }
+
+    /// It compares its name with those of the candidates, and loads the value of the one that has it.
+    fn compares<L: Ledger>(
+        &self,
+        candidates: u64,
+        memory: &mut Memory,
+        steps: &mut Steps<L>,
+    ) -> Option<Hit>
+        requires { MayCompare memory.old self.now.call candidates }
+        ensures { Compares memory.old memory.new self.now.call candidates result steps.old steps.new }
+    {
+        let mut left = candidates;
+        'slots: loop {
+            let Some(slot) = lowest_live(left) else {
+                return None;
+            };
+            if self.has_name_in(slot, memory, steps) {
+                let address = self.call.address(slot_word(slot, WORDS as u64));
+                let value = memory.act(Action::Load(address), steps);
+                return Some(Hit { slot, value });
+            }
+            left = without_live(left, slot);
+        }
+    }
+
+    /// Whether the slot has its name, of which it loads the words up to the first that differs.
+    fn has_name_in<L: Ledger>(&self, slot: u64, memory: &mut Memory, steps: &mut Steps<L>) -> bool
+        requires { MayCompareIn memory.old self.now.call slot }
+        ensures { ComparesIn memory.old memory.new self.now.call slot result steps.old steps.new }
+    {
+        let first = self.call.address(slot_word(slot, 0));
+        for at in 0..WORDS {
+            if memory.act(Action::Load(first + at as u64), steps) != self.call.name[at] {
+                return false;
+            }
         }
         true
     }

@@ -3,7 +3,7 @@
 
 ghost use Rattle.std.specs.Prelude.{◌≡◌, ℕ};
 
-use crate::call::Call;
+use crate::call::{Call, adds};
 use crate::lookup::{Hold, Lookup};
 use crate::single_put::{FullNode, SinglePut, SinglePutDone};
 use call_stages::{Once, Placed, View};
@@ -99,8 +99,10 @@ impl Put {
 }
 
 impl Put {
+    ghost use Rattle.std.specs.Prelude.{◌↔◌, IsFalse};
     ghost use Rattle.call_stages.specs.Stages.{counted, placed_in};
-    ghost use Rattle.node_ops.specs.PutSteps.{IsPut, put_call};
+    ghost use Rattle.machine_runs.specs.Runs.{AddsNothing};
+    ghost use Rattle.node_ops.specs.PutSteps.{IsPut, put_asks, put_call};
     ghost use Rattle.node_ops.specs.Asked.{put_op};
     ghost use Rattle.node_ops.specs.CallStages.{put_stage};
 
@@ -135,6 +137,17 @@ impl Put {
         match self {
             Put::Single(single) => single.place(),
             Put::Splitting { .. } => None,
+        }
+    }
+
+    /// Whether its next action counts its change in the clock.
+    pub(crate) fn is_counted_next(&self) -> bool
+        requires { IsPut self.now }
+        ensures { IsFalse result ↔ AddsNothing (put_asks self.now) }
+    {
+        match self {
+            Put::Single(single) => single.is_counted_next(),
+            Put::Splitting { split, .. } => adds(split.action()),
         }
     }
 

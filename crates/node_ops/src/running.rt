@@ -2,6 +2,7 @@
 
 ghost use Rattle.std.specs.Prelude.{◌≡◌, ℕ};
 
+use crate::call::adds;
 use crate::del::Del;
 use crate::get::Get;
 use crate::part::{Part, PartWords};
@@ -111,7 +112,7 @@ impl Running {
 }
 
 impl Running {
-    ghost use Rattle.std.specs.Prelude.{◌≡◌, ◌↔◌, IsSome, IsTrue};
+    ghost use Rattle.std.specs.Prelude.{◌≡◌, ◌↔◌, IsFalse, IsSome, IsTrue};
     ghost use Rattle.call_stages.specs.Stages.{counted, placed_in};
     ghost use Rattle.pm_words.specs.Turns.{GoesBelow};
     ghost use Rattle.pm_words.specs.Turns.{AdvancesTo, turn_of};
@@ -238,6 +239,19 @@ impl Running {
             Running::Putting(put) => put.place(),
             Running::Deleting(del) => del.place(),
             Running::Getting(_) | Running::Parting(_) => None,
+        }
+    }
+
+    /// Whether its next action counts its change in the clock.
+    pub fn is_counted_next(&self) -> bool
+        requires { IsRunning self.now }
+        ensures { IsFalse result ↔ AddsNothing (running_asks self.now) }
+    {
+        match self {
+            Running::Getting(_) => false,
+            Running::Putting(put) => put.is_counted_next(),
+            Running::Deleting(del) => adds(del.action()),
+            Running::Parting(part) => adds(part.action()),
         }
     }
 

@@ -59,16 +59,17 @@ pub enum SinglePutDone {
 }
 
 impl SinglePut {
-    ghost use Rattle.std.specs.Prelude.{◌≡◌, ℕ};
+    ghost use Rattle.std.specs.Prelude.{◌≡◌, ℕ, ◌<◌};
     ghost use Rattle.pm_words.specs.Turns.{GoesBelow};
     ghost use Rattle.pm_words.specs.declared.machine.Turn.TheVariants.{Go};
     ghost use Rattle.node_ops.specs.declared.put.Put.TheVariants as Put;
     ghost use Rattle.node_ops.specs.Calls.{IsCall};
     ghost use Rattle.node_ops.specs.LookupSteps.{IsFoundBy, lookup_turned};
     ghost use Rattle.node_ops.specs.FillSteps.{filled};
-    ghost use Rattle.machine_runs.specs.Runs.{AddsNothing, MayGo};
+    ghost use Rattle.data_node.specs.Bits.{lowest_clear};
+    ghost use Rattle.machine_runs.specs.Runs.{AddsNothing, Bursts, MayGo};
     ghost use Rattle.node_ops.specs.PutSteps.{IsPut, SinglePutTurns, put_asks, put_found, put_left, put_looked};
-    ghost use Rattle.node_ops.specs.PutSteps.{put_takes, put_turned, replaced};
+    ghost use Rattle.node_ops.specs.PutSteps.{put_takes, put_turned, replaced, replaced_hit};
     ghost use Rattle.node_ops.specs.Bursts.{SinglePutBursts};
 
     /// Tells it in place the number that its action gave. It goes on, or its work on the node is done.
@@ -96,8 +97,9 @@ impl SinglePut {
         }
     }
 
-    /// Does what it asks for, and goes on so as long as one part of it does, with nothing between. It goes on, or its
-    /// work on the node is done. `steps` counts the events.
+    /// Does what it asks for, and goes on so as long as one part of it does, with nothing between; where it comes to
+    /// replace a value, it goes on until its change is to be counted. It goes on, or its work on the node is done.
+    /// `steps` counts the events.
     pub(crate) fn burst<L: Ledger>(
         &mut self,
         memory: &mut Memory,
@@ -113,7 +115,12 @@ impl SinglePut {
                 Looked::Early(answer) => Some(SinglePutDone::Answered(answer)),
                 Looked::Found(found) => {
                     let (call, value) = (lookup.call, *value);
-                    self.found(call, found, value)
+                    let Some(hit) = SinglePut::replaced_hit(&call, &found) else {
+                        return self.found(call, found, value);
+                    };
+                    let finish = SinglePut::replaces(call, &found, hit, value, memory, steps);
+                    *self = SinglePut::Finishing { finish };
+                    None
                 }
             },
             SinglePut::Filling { fill } => {
@@ -225,22 +232,67 @@ impl SinglePut {
         else {
             return;
         };
-        let finish = Finish {
-            call: *call,
-            hold: *hold,
+        let finish = SinglePut::stored(*call, *hold, *hit, *value);
+        *self = SinglePut::Finishing { finish };
+    }
+
+    /// What is left to do once the value is stored in place.
+    fn stored(call: Call, hold: Hold, hit: Hit, value: u64) -> Finish
+        requires { hit.slot < 64 }
+        ensures { result ≡ replaced call hold hit value }
+    {
+        Finish {
+            call,
+            hold,
             old: Some(hit.value),
-            new: Some(*value),
+            new: Some(value),
             at: FinishAt::Fence {
                 line: line_of(slot_word(hit.slot, WORDS as u64)),
                 fence: Fence::new(),
             },
-        };
-        *self = SinglePut::Finishing { finish };
+        }
+    }
+
+    /// The slot whose value it replaces: where none is clear, the one that has the name.
+    fn replaced_hit(call: &Call, found: &Found) -> Option<Hit>
+        requires { IsCall call.now }
+        ensures { result ≡ replaced_hit (lowest_clear found.now.directory.bitmap call.now.view.layout.slots)
+            found.now.hit }
+    {
+        match clear_slot(found.directory.bitmap, call.view.layout.slots()) {
+            Some(_) => None,
+            None => found.hit,
+        }
+    }
+
+    /// Stores the value in the slot that has the name, and makes it durable, with nothing between. Returns what is left
+    /// to do.
+    fn replaces<L: Ledger>(
+        call: Call,
+        found: &Found,
+        hit: Hit,
+        value: u64,
+        memory: &mut Memory,
+        steps: &mut Steps<L>,
+    ) -> Finish
+        requires { MayGo put_asks put_turned put_left put_takes memory.old.layout memory.old.words
+            (Put.Single (SinglePut.Replacing call found.now.hold found.now.directory.bitmap hit value)) }
+        ensures { Bursts put_asks put_turned put_left memory.old memory.new
+            (Put.Single (SinglePut.Replacing call found.now.hold found.now.directory.bitmap hit value))
+            (Go (Put.Single (SinglePut.Finishing result))) steps.old steps.new }
+    {
+        let offset = slot_word(hit.slot, WORDS as u64);
+        memory.act(Action::Store(call.address(offset), value), steps);
+        let mut finish = SinglePut::stored(call, found.hold, hit, value);
+        finish.flush(line_of(offset), memory, steps);
+        finish
     }
 }
 
 impl SinglePut {
+    ghost use Rattle.std.specs.Prelude.{◌↔◌, IsFalse};
     ghost use Rattle.call_stages.specs.Stages.{counted, placed_in};
+    ghost use Rattle.machine_runs.specs.Runs.{AddsNothing};
     ghost use Rattle.node_ops.specs.declared.put.Put.TheVariants as Put;
     ghost use Rattle.node_ops.specs.Asked.{put_op};
     ghost use Rattle.node_ops.specs.CallStages.{put_stage};
@@ -300,6 +352,16 @@ impl SinglePut {
         match self {
             SinglePut::Finishing { finish } => finish.place(),
             _ => None,
+        }
+    }
+
+    /// Whether its next action counts its change in the clock.
+    pub(crate) fn is_counted_next(&self) -> bool
+        ensures { IsFalse result ↔ AddsNothing (put_asks (Put.Single self.now)) }
+    {
+        match self {
+            SinglePut::Finishing { finish } => finish.is_counted_next(),
+            _ => false,
         }
     }
 

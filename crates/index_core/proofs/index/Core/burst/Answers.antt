@@ -1,4 +1,4 @@
-use Rattle.std.proofs.Common.{ℕ, ◌+◌, ◌-◌, slice_set, subst, arith}
+use Rattle.std.proofs.Common.{ℕ, ◌+◌, ◌-◌, slice_set, refl, subst, arith}
 use Rattle.index_core.specs.Bursts.{BurstsTo}
 use Rattle.index_core.specs.Cores.{index_of}
 use Rattle.index_core.specs.Indexes.{Index}
@@ -17,13 +17,13 @@ running-requires g c =
     core_flies c.self.inside c.args.self.now c.args.party c.requires.flies c.self.view_is
     c.index.result.now c.index.ensures
 
-pub action-action-requires : goal.action-action-requires
-action-action-requires g c =
+pub is_counted_next-requires : goal.is_counted_next-requires
+is_counted_next-requires g c =
     core_runs c.self.inside c.args.self.now c.args.party c.requires.flies c.self.view_is c.self.invariant
     c.index.result.now c.running.result.now c.index.ensures c.running.ensures
 
-pub returns-in-Add-clause-bursts : goal.returns-in-Add-clause-bursts
-returns-in-Add-clause-bursts g c =
+pub returns-then-is_counted_next-clause-bursts : goal.returns-then-is_counted_next-clause-bursts
+returns-then-is_counted_next-clause-bursts g c =
     let e = c.step_call.ensures in one_turn e.turned e.index e.spare e.tick
 
 pub index_mut-requires : goal.index_mut-requires
@@ -34,8 +34,8 @@ index_mut-requires g c =
 pub burst-requires : goal.burst-requires
 burst-requires g c =
     core_may c.self.inside c.args.self.now c.args.party c.requires.flies c.self.view_is c.self.invariant
-    c.index.result.now c.index_mut.result.now c.running.result.now c.action-action.result
-    c.index.ensures c.running.ensures c.action-action.ensures c.in_default.not-Add c.index_mut.ensures.value
+    c.index.result.now c.index_mut.result.now c.running.result.now c.index.ensures c.running.ensures
+    (c.if-is_counted_next.ensures.0 refl) c.index_mut.ensures.value
 
 pub invariant_of-self : goal.invariant_of-self
 invariant_of-self g c =

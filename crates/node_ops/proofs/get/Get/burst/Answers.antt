@@ -1,12 +1,15 @@
 use Rattle.std.proofs.Common.{ℕ, sym, refl, ap, ◌∙◌}
 use Rattle.std.specs.Prelude.{Option}
 use Rattle.pm_words.specs.Turns.{turn_of}
-use Rattle.pm_words.specs.declared.machine.Turn.TheVariants.{Go, Done}
+use Rattle.pm_words.specs.declared.machine.Turn.TheVariants.{Done}
+use Rattle.call_stages.specs.declared.once.Once.{Once}
+use Rattle.call_stages.specs.declared.once.Placed.{Placed}
 use Rattle.machine_runs.proofs.Running.{run_begins, run_can, run_ends, run_takes}
 use Rattle.node_ops.specs.declared.lookup.Looked.{Looked}
-use Rattle.node_ops.specs.declared.get.Get.TheVariants.{Looking, Checking}
-use Rattle.node_ops.specs.GetSteps.{get_takes, get_looked}
-use Rattle.node_ops.proofs.CallBursts.{get_adds_nothing, get_looking_may, get_looking_bursts}
+use Rattle.node_ops.specs.declared.get.Get.TheVariants.{Looking}
+use Rattle.node_ops.specs.GetSteps.{checked, get_takes, get_looked}
+use Rattle.node_ops.proofs.CallBursts.{get_adds_nothing, get_found_run, get_looked_call, get_looking_may}
+use Rattle.node_ops.proofs.CallBursts.{get_looking_bursts}
 use Rattle.node_ops.proofs.get.Get.burst.Goals as goal
 
 pub action-requires : goal.action-requires
@@ -42,8 +45,25 @@ returns-in-Early g c =
     get_looking_bursts c.args.self.now c.in-Looking.lookup c.in-Looking.is c.requires c.in_ok-answer.ensures
     (ap (λ (f : Looked). get_looked c.burst.new.self.call (Done f)) c.in-Early.is)
 
+pub checks-requires : goal.checks-requires
+checks-requires g c =
+    get_looked_call c.args.self.now c.in-Looking.lookup c.in-Looking.is {old = c.args.memory.now} c.requires
+    c.in_ok-answer.ensures
+
+pub act-again-requires : goal.act-again-requires
+act-again-requires g c =
+    run_can get_takes c.requires
+    (get_found_run c.args.self.now c.in-Looking.lookup c.in-Looking.is c.in-Found.found c.requires
+    c.in_ok-answer.ensures c.in-Found.is)
+    c.checks.ensures
+
 pub returns : goal.returns
 returns g c =
-    get_looking_bursts c.args.self.now c.in-Looking.lookup c.in-Looking.is c.requires c.in_ok-answer.ensures
-    (ap (λ (f : Looked). get_looked c.burst.new.self.call (Done f)) c.in-Found.is
-    ∙ ap (λ (o : Option ℕ). Go (Checking c.burst.new.self.call c.in-Found.found.hold o)) (sym c.value_of.ensures))
+    run_ends
+    (get_found_run c.args.self.now c.in-Looking.lookup c.in-Looking.is c.in-Found.found c.requires
+    c.in_ok-answer.ensures c.in-Found.is)
+    tt c.checks.ensures c.act-again.ensures.row
+    c.act-again.ensures.got c.act-again.ensures.tick tt
+    (ap (λ (o : Option ℕ). Done (checked c.burst.new.self.call c.in-Found.found.hold o c.act-again.result))
+    (sym c.value_of.ensures)
+    ∙ ap (λ (a : Once Placed). Done a) (sym c.checked.ensures))

@@ -1,4 +1,4 @@
-use Rattle.std.proofs.Common.{sym, refl, ap, subst}
+use Rattle.std.proofs.Common.{sym, refl, ap, subst, ◌∙◌}
 use Rattle.std.specs.Prelude.{Some, None}
 use Rattle.pm_words.specs.declared.machine.Turn.TheVariants.{Go, Done}
 use Rattle.machine_runs.proofs.Running.{run_begins, run_can, run_ends, run_takes}
@@ -10,7 +10,7 @@ use Rattle.node_ops.specs.FillSteps.{filled}
 use Rattle.node_ops.specs.PutSteps.{SinglePutTurns, put_found, put_looked, put_takes, put_turned}
 use Rattle.node_ops.proofs.PutBursts.{put_looking_may, put_looked_call, put_looked_found, put_looking_bursts}
 use Rattle.node_ops.proofs.PutBursts.{put_filling_may, put_filling_bursts, put_finishing_may}
-use Rattle.node_ops.proofs.PutBursts.{put_finishing_bursts}
+use Rattle.node_ops.proofs.PutBursts.{put_finishing_bursts, put_replacing_bursts, put_replacing_may}
 use Rattle.node_ops.proofs.single_put.SinglePut.burst.Goals as goal
 
 pub burst-requires : goal.burst-requires
@@ -27,6 +27,26 @@ pub found-requires-clause-found : goal.found-requires-clause-found
 found-requires-clause-found g c =
     put_looked_found c.args.self.now c.in-Looking.lookup c.in-Looking.value c.in-Looking.is {old = c.args.memory.now}
     c.requires.may c.in-Found.found c.in_ok-answer-in-Looking.ensures c.in-Found.is
+
+pub replaced_hit-requires : goal.replaced_hit-requires
+replaced_hit-requires g c =
+    put_looked_call c.args.self.now c.in-Looking.lookup c.in-Looking.value c.in-Looking.is {old = c.args.memory.now}
+    c.requires.may c.in_ok-answer-in-Looking.ensures
+
+pub replaces-finish-requires : goal.replaces-finish-requires
+replaces-finish-requires g c =
+    put_replacing_may c.args.self.now c.in-Looking.lookup c.in-Looking.value c.in-Looking.is {old = c.args.memory.now}
+    c.requires.may c.in-Found.found c.in-Some.hit c.in_ok-answer-in-Looking.ensures c.in-Found.is
+    (sym c.replaced_hit.ensures ∙ c.in-Some.is)
+
+pub returns-in-Some : goal.returns-in-Some
+returns-in-Some g c = record {
+  end = Go (Single (Finishing c.replaces-finish.result));
+  burst = put_replacing_bursts c.args.self.now c.in-Looking.lookup c.in-Looking.value c.in-Looking.is
+      {old = c.args.memory.now} c.requires.may c.in-Found.found c.in-Some.hit c.in_ok-answer-in-Looking.ensures
+      c.in-Found.is (sym c.replaced_hit.ensures ∙ c.in-Some.is) c.replaces-finish.ensures;
+  turns = refl;
+}
 
 pub returns-in_err-answer-in-Looking : goal.returns-in_err-answer-in-Looking
 returns-in_err-answer-in-Looking g c = record {
@@ -46,8 +66,8 @@ returns-in-Early g c = record {
   turns = refl;
 }
 
-pub returns-in-Found : goal.returns-in-Found
-returns-in-Found g c = record {
+pub returns-in_default : goal.returns-in_default
+returns-in_default g c = record {
   end = Go (put_found c.burst.new.self.call c.in-Found.found c.in-Looking.value);
   burst = put_looking_bursts c.args.self.now c.in-Looking.lookup c.in-Looking.value c.in-Looking.is c.requires.may
       c.in_ok-answer-in-Looking.ensures
