@@ -1,19 +1,7 @@
 -- Each turn leaves fewer actions to come.
 use Rattle.std.proofs.Common.{◌≡◌, ℕ, ◌+◌, ◌-◌, ◌*◌, ◌<◌, ◌≤◌, ◌==◌, true, false, cond, ltb, Some, None, refl, arith}
 use Rattle.std.proofs.lemmas.Bool.{ltb-true}
-use Rattle.pm_words.specs.declared.layout.Layout.{Layout}
-use Rattle.pm_words.specs.declared.machine.Turn.{Turn}
-use Rattle.pm_words.specs.declared.machine.Turn.TheVariants.{Go, Done}
 use Rattle.pm_words.specs.Turns.{GoesBelow}
-use Rattle.pm_alloc.specs.declared.claim.Claim.{Claim}
-use Rattle.pm_alloc.specs.declared.claim.ClaimAt.TheVariants as claim_at
-use Rattle.pm_alloc.specs.declared.claim.Claimed.{Claimed}
-use Rattle.pm_alloc.specs.declared.claim.Claimed.TheVariants as was
-use Rattle.pm_alloc.specs.Claims.{claim_from, claim_left}
-use Rattle.smo_log.specs.declared.take.Take.{Take}
-use Rattle.smo_log.specs.declared.take.Taken.{Taken}
-use Rattle.smo_log.specs.declared.take.Taken.TheVariants as got
-use Rattle.smo_log.specs.Takes.{take_left}
 use Rattle.pm_words.specs.declared.fence.Fence.{Fence}
 use Rattle.pm_words.specs.declared.fence.FenceAt.{FenceAt}
 use Rattle.pm_words.specs.declared.fence.FenceAt.TheVariants as fence_at
@@ -21,10 +9,7 @@ use Rattle.smo_log.specs.declared.open.OpenAt.TheVariants as open_at
 use Rattle.pm_words.specs.Fences.{IsFence, fence_start, fence_next, fence_at_next, fence_at_left}
 use Rattle.split_merge.specs.declared.moving.Move.{Move}
 use Rattle.split_merge.specs.declared.moving.MoveAt.TheVariants as at
-use Rattle.split_merge.specs.declared.splitting.Split.{Split}
-use Rattle.split_merge.specs.declared.splitting.SplitDone.{SplitDone}
 use Rattle.split_merge.specs.Plans.{next_in, entry_in}
-use Rattle.split_merge.specs.Splits.{taken, claimed, split_left}
 use Rattle.split_merge.specs.Moves.{filled_end, after_fence, after_switch, moves_on, move_left}
 
 pub fresh_fewer : (move : Move) (first : ℕ) (fence : Fence) (x : ℕ) → first < filled_end move.plan → filled_end move.plan ≤ 272 → IsFence fence
@@ -67,23 +52,3 @@ switch_fewer move fence x is = leads fence.at
                 | false ↦ λ some. omega arith
               ] refl
         ] refl
-
-claim_start : (l : Layout) (g : ℕ) → l.nodes ≤ 4096 → claim_left (claim_from l g) ≤ 12300
-claim_start l g few =
-    elim (l.nodes == 1) as (λ b. claim_left (cond b (record { layout = l; generation = g; node = 0; at = claim_at.Nowhere }) (record { layout = l; generation = g; node = 1; at = claim_at.Version })) ≤ 12300) [
-      | true ↦ omega arith
-      | false ↦ omega arith
-    ]
-
-pub take_fewer : (split : Split) (next : ℕ) (take : Take) (turn : Turn Take Taken) → split.view.layout.nodes ≤ 4096 → GoesBelow {A = Taken} take_left (take_left take) turn
-    → GoesBelow {A = SplitDone} split_left (20000 + take_left take) (taken split next turn)
-take_fewer split next take (Go take') few below = omega arith
-take_fewer split next take (Done (got.Line line)) few below = let start = claim_start split.view.layout split.view.generation few in omega arith
-take_fewer split next take (Done got.Full) few below = omega arith
-
-pub claim_fewer : (split : Split) (next line : ℕ) (claim : Claim) (turn : Turn Claim Claimed) → split.view.layout.slots ≤ 64 → GoesBelow {A = Claimed} claim_left (claim_left claim) turn
-    → GoesBelow {A = SplitDone} split_left (3000 + claim_left claim) (claimed split next line turn)
-claim_fewer split next line claim (Go claim') few below = omega arith
-claim_fewer split next line claim (Done (was.Node n word)) few below = omega arith
-claim_fewer split next line claim (Done was.NoFree) few below = omega arith
-claim_fewer split next line claim (Done (was.Again why)) few below = omega arith

@@ -120,6 +120,7 @@ impl Split {
     ghost use Rattle.pm_words.specs.Turns.{AdvancesTo};
     ghost use Rattle.split_merge.specs.Splits.{IsSplit, split_from, split_left, split_takes, split_turned};
     ghost use Rattle.split_merge.specs.Splits.{taken, claimed, has_read};
+    ghost use Rattle.pm_words.specs.declared.machine.Turn.TheVariants as Turn;
 
     /// A split of this node, which is full, and which its party has locked with this word.
     pub fn new(view: View, node: u64, word: u64) -> Split
@@ -148,7 +149,8 @@ impl Split {
         layout.cached(layout.node_word(self.node, offset))
     }
 
-    /// Tells it in place the number that its action gave. It goes on, or is done where there is an answer.
+    /// Tells it in place the number that its action gave. It goes on, or is done where there is an answer. While it
+    /// stays in a state it changes that in place, since a new state clears the room of a full node behind it.
     pub fn advance(&mut self, got: u64) -> Option<SplitDone>
         requires { split_takes self.old got }
         ensures turned { AdvancesTo (split_turned self.old got) self.new result }
@@ -158,28 +160,33 @@ impl Split {
             SplitAt::Next => {
                 let take = Take::new(self.view.layout, self.view.caller);
                 self.at = SplitAt::Take { next: got, take };
-                None
             }
-            SplitAt::Take { next, take } => {
-                let (next, turn) = (*next, take.resume(got));
-                self.taken(next, turn)
-            }
-            SplitAt::Claim { next, line, claim } => {
-                let (next, line, turn) = (*next, *line, claim.resume(got));
-                self.claimed(next, line, turn)
-            }
-            SplitAt::Read { .. } => self.has_read(got),
-            SplitAt::Move { moving } => match moving.next(got) {
-                Some(at) => {
-                    moving.at = at;
-                    None
+            SplitAt::Take { next, take } => match take.resume(got) {
+                Turn::Go(further) => *take = further,
+                Turn::Done(answer) => {
+                    let next = *next;
+                    self.taken(next, answer);
                 }
-                None => Some(SplitDone::Done {
-                    fresh: moving.plan.fresh,
-                }),
             },
-            SplitAt::Refuse { why, .. } => Some(SplitDone::Again(*why)),
+            SplitAt::Claim { next, line, claim } => match claim.resume(got) {
+                Turn::Go(further) => *claim = further,
+                Turn::Done(answer) => {
+                    let (next, line) = (*next, *line);
+                    self.claimed(next, line, answer);
+                }
+            },
+            SplitAt::Read { .. } => return self.has_read(got),
+            SplitAt::Move { moving } => match moving.next(got) {
+                Some(at) => moving.at = at,
+                None => {
+                    return Some(SplitDone::Done {
+                        fresh: moving.plan.fresh,
+                    });
+                }
+            },
+            SplitAt::Refuse { why, .. } => return Some(SplitDone::Again(*why)),
         }
+        None
     }
 
     /// Where it reads, it has this word more of the full node, and after the last it knows what to do.
@@ -211,33 +218,30 @@ impl Split {
         None
     }
 
-    /// After a turn of the look for a line.
-    fn taken(&mut self, next: u64, turn: Turn<Take, Taken>) -> Option<SplitDone>
+    /// The look for a line has ended so.
+    fn taken(&mut self, next: u64, answer: Taken)
         requires { IsView self.old.view }
-        ensures { AdvancesTo (taken self.old next turn) self.new result }
+        ensures { taken self.old next (Turn.Done answer) ≡ Turn.Go self.new }
     {
-        self.at = match turn {
-            Turn::Go(take) => SplitAt::Take { next, take },
-            Turn::Done(Taken::Line { line }) => SplitAt::Claim {
+        self.at = match answer {
+            Taken::Line { line } => SplitAt::Claim {
                 next,
                 line,
                 claim: Claim::new(self.view.layout, self.view.generation),
             },
-            Turn::Done(Taken::Full) => SplitAt::Refuse {
+            Taken::Full => SplitAt::Refuse {
                 next,
                 why: Again::LogFull,
             },
         };
-        None
     }
 
-    /// After a turn of the claim.
-    fn claimed(&mut self, next: u64, line: u64, turn: Turn<Claim, Claimed>) -> Option<SplitDone>
-        ensures { AdvancesTo (claimed self.old next line turn) self.new result }
+    /// The claim has ended so.
+    fn claimed(&mut self, next: u64, line: u64, answer: Claimed)
+        ensures { claimed self.old next line (Turn.Done answer) ≡ Turn.Go self.new }
     {
-        self.at = match turn {
-            Turn::Go(claim) => SplitAt::Claim { next, line, claim },
-            Turn::Done(Claimed::Node { node, word }) => {
+        self.at = match answer {
+            Claimed::Node { node, word } => {
                 // Of the full node's words it has only where the node leads.
                 let mut full = [0; NODE_WORDS];
                 full[node::NEXT as usize] = next;
@@ -251,13 +255,12 @@ impl Split {
                     count: 0,
                 }
             }
-            Turn::Done(Claimed::NoFree) => SplitAt::Refuse {
+            Claimed::NoFree => SplitAt::Refuse {
                 next,
                 why: Again::NoFree,
             },
-            Turn::Done(Claimed::Again(why)) => SplitAt::Refuse { next, why },
+            Claimed::Again(why) => SplitAt::Refuse { next, why },
         };
-        None
     }
 }
 

@@ -201,37 +201,29 @@ impl Change {
         requires { change_takes self.old got }
         ensures { AdvancesTo (change_turned self.old got) self.new result }
     {
-        match self.at {
-            ChangeAt::Looking { look } => self.looks(look, got),
-            ChangeAt::TakingLeaf { take, site } => self.takes_leaf(take, site, got),
-            ChangeAt::FillingLeaf { fill, site } => self.fills_leaf(fill, site, got),
-            ChangeAt::FindingRoom { find, spot, leaf } => self.finds_room(find, spot, leaf, got),
-            ChangeAt::ReadingCell {
-                read,
-                spot,
-                byte,
-                leaf,
-            } => self.reads_cell(read, spot, byte, leaf, got),
-            ChangeAt::TakingCell { take, new } => self.takes_cell(take, new, got),
-            ChangeAt::FillingCell { fill, spot, free } => self.fills_cell(fill, spot, free, got),
+        match &mut self.at {
+            ChangeAt::Looking { .. } => self.looks(got),
+            ChangeAt::TakingLeaf { .. } => self.takes_leaf(got),
+            ChangeAt::FillingLeaf { .. } => self.fills_leaf(got),
+            ChangeAt::FindingRoom { .. } => self.finds_room(got),
+            ChangeAt::ReadingCell { .. } => self.reads_cell(got),
+            ChangeAt::TakingCell { .. } => self.takes_cell(got),
+            ChangeAt::FillingCell { .. } => self.fills_cell(got),
             ChangeAt::ReadingDepth { leaf, outer, inner } => {
+                let (leaf, outer, inner) = (*leaf, *outer, *inner);
                 self.reads_depth(leaf, outer, inner, got)
             }
-            ChangeAt::Counting {
-                count,
-                leaf,
-                outer,
-                inner,
-            } => self.counts(count, leaf, outer, inner, got),
-            ChangeAt::ReadingIndex { cell, byte, leaf } => self.reads_index(cell, byte, leaf, got),
-            ChangeAt::Finishing { finish } => match finish.resume(got) {
-                Turn::Go(finish) => self.goes_to(ChangeAt::Finishing { finish }),
-                Turn::Done(()) => Some(Ended::Made),
-            },
+            ChangeAt::Counting { .. } => self.counts(got),
+            ChangeAt::ReadingIndex { cell, byte, leaf } => {
+                let (cell, byte, leaf) = (*cell, *byte, *leaf);
+                self.reads_index(cell, byte, leaf, got)
+            }
+            ChangeAt::Finishing { finish } => finish.advance(got).map(|()| Ended::Made),
         }
     }
 
-    /// It goes on there.
+    /// It goes on there. A new state clears the room of a cell behind it, so while a change stays in one state, it
+    /// changes that in place.
     pub(crate) fn goes_to(&mut self, at: ChangeAt) -> Option<Ended>
         ensures { AdvancesTo (change_to self.old at) self.new result }
     {

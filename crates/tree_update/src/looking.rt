@@ -4,31 +4,33 @@ ghost use Rattle.std.specs.Prelude.{◌≡◌, ◌≢◌, ◌<◌, ◌≤◌, �
 
 use crate::change::{Change, ChangeAt, Ended, Site};
 use pm_words::codes::reference::LEAF;
-use pm_words::{Machine, Turn};
 use radix_nodes::KEY_BYTES;
 use tree_change::{Finish, Take, Target, TargetStore};
 use tree_floor::{KEY_WORDS, byte_of};
-use tree_look::{Look, Looked, Spot};
+use tree_look::{Looked, Spot};
 
 impl Change {
     ghost use Rattle.std.specs.Prelude.{◌≡◌, ◌≢◌, ◌≤◌, ◌<◌, ◌^◌};
     ghost use Rattle.pm_words.specs.Turns.{AdvancesTo};
     ghost use Rattle.pm_words.specs.Layouts.{IsLayout};
     ghost use Rattle.pm_words.specs.Locations.{leaf_count};
-    ghost use Rattle.tree_look.specs.Looks.{look_takes};
+    ghost use Rattle.tree_look.specs.declared.look.Look.{Look};
     ghost use Rattle.tree_look.specs.LookLaws.{IsInRange};
     ghost use Rattle.tree_change.specs.Finishes.{IsTarget, IsMarked};
-    ghost use Rattle.tree_update.specs.Changes.{looks, has_looked, at_leaf, no_leaf, change_finishes};
+    ghost use Rattle.tree_update.specs.declared.change.ChangeAt.TheVariants as ChangeAt;
+    ghost use Rattle.tree_update.specs.Changes.{change_takes, looks, has_looked, at_leaf, no_leaf, change_finishes};
 
-    pub(crate) fn looks(&mut self, look: Look, got: u64) -> Option<Ended>
-        requires look { look_takes look got }
-        requires layout { look.layout ≡ self.old.layout }
-        ensures { AdvancesTo (looks self.old look got) self.new result }
+    /// A word of the key's way, which ends with the last one.
+    pub(crate) fn looks(&mut self, got: u64) -> Option<Ended>
+        requires { change_takes self.old got }
+        ensures { (look : Look) → self.old.at ≡ ChangeAt.Looking look
+            → AdvancesTo (looks self.old look got) self.new result }
     {
-        match look.resume(got) {
-            Turn::Go(look) => self.goes_to(ChangeAt::Looking { look }),
-            Turn::Done(looked) => self.has_looked(looked),
-        }
+        let ChangeAt::Looking { look } = &mut self.at else {
+            return None;
+        };
+        let looked = look.advance(got)?;
+        self.has_looked(looked)
     }
 
     /// The way has ended there.

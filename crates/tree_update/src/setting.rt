@@ -26,48 +26,68 @@ const PLACES: u64 = 40;
 const ENTRY: u64 = 1 << 32;
 
 impl Change {
-    ghost use Rattle.std.specs.Prelude.{◌≡◌, ◌≢◌, ◌≤◌, ◌<◌};
+    ghost use Rattle.std.specs.Prelude.{◌≡◌, ◌≢◌, ◌≤◌, ◌<◌, ℕ};
     ghost use Rattle.pm_words.specs.Turns.{AdvancesTo};
     ghost use Rattle.pm_words.specs.Layouts.{IsLayout};
     ghost use Rattle.pm_words.specs.Locations.{leaf_count};
-    ghost use Rattle.radix_nodes.specs.Fills.{fill_leaf_takes, fill_cell_takes};
+    ghost use Rattle.pm_words.specs.declared.machine.Turn.TheVariants as Turn;
     ghost use Rattle.tree_law.specs.Words.{kind_of};
     ghost use Rattle.tree_floor.specs.Floors.{IsCellOf};
-    ghost use Rattle.tree_look.specs.Looks.{IsSpot};
-    ghost use Rattle.tree_change.specs.Takes.{take_takes};
-    ghost use Rattle.tree_change.specs.FindRooms.{find_room_takes};
-    ghost use Rattle.tree_change.specs.Reads.{read_takes};
-    ghost use Rattle.tree_change.specs.Finishes.{IsMarked};
-    ghost use Rattle.tree_update.specs.Changes.{takes_leaf, fills_leaf, leaf_filled, finds_room, room_found};
-    ghost use Rattle.tree_update.specs.Changes.{reads_cell, wants_cell, takes_cell, fills_cell};
-    ghost use Rattle.tree_update.specs.Changes.{IsSite, IsFormRead, IsRoomFound};
+    ghost use Rattle.tree_change.specs.Takes.{IsTakenIn};
+    ghost use Rattle.tree_update.specs.declared.change.ChangeAt.TheVariants as ChangeAt;
+    ghost use Rattle.tree_update.specs.Changes.{change_takes, takes_leaf, leaf_goes, fills_leaf, leaf_filled};
+    ghost use Rattle.tree_update.specs.Changes.{finds_room, room_found, reads_cell, wants_cell, takes_cell, cell_goes};
+    ghost use Rattle.tree_update.specs.Changes.{fills_cell, IsSite, IsRoomFound};
 
-    pub(crate) fn takes_leaf(&mut self, take: Take, site: Site, got: u64) -> Option<Ended>
-        requires take { take_takes take got }
-        requires layout { take.layout ≡ self.old.layout }
+    /// A mark, as it takes a leaf: with the last one it has it, or there is none.
+    pub(crate) fn takes_leaf(&mut self, got: u64) -> Option<Ended>
+        requires { change_takes self.old got }
+        ensures { (take : Take) (site : Site) → self.old.at ≡ ChangeAt.TakingLeaf take site
+            → AdvancesTo (takes_leaf self.old take site got) self.new result }
+    {
+        let ChangeAt::TakingLeaf { take, site } = &mut self.at else {
+            return None;
+        };
+        let taken = take.advance(got)?;
+        let site = *site;
+        self.leaf_taken(taken, site)
+    }
+
+    /// It has a leaf to fill, or there is none.
+    fn leaf_taken(&mut self, taken: Taken, site: Site) -> Option<Ended>
+        requires layout { IsLayout self.old.layout }
         requires word { self.old.word ≢ 0 }
         requires most { self.old.word ≤ self.old.layout.nodes }
-        ensures { AdvancesTo (takes_leaf self.old take site got) self.new result }
+        requires taken { IsTakenIn self.old.layout taken }
+        ensures { AdvancesTo (leaf_goes self.old site (Turn.Done taken)) self.new result }
     {
-        match take.resume(got) {
-            Turn::Go(take) => self.goes_to(ChangeAt::TakingLeaf { take, site }),
-            Turn::Done(Taken::One { number }) => {
+        match taken {
+            Taken::One { number } => {
                 let fill = FillLeaf::new(self.layout, number, self.key, self.word - 1);
                 self.goes_to(ChangeAt::FillingLeaf { fill, site })
             }
-            Turn::Done(Taken::Absent) => Some(Ended::NoRoom),
+            Taken::Absent => Some(Ended::NoRoom),
         }
     }
 
-    pub(crate) fn fills_leaf(&mut self, fill: FillLeaf, site: Site, got: u64) -> Option<Ended>
-        requires fill { fill_leaf_takes fill got }
-        requires layout { fill.layout ≡ self.old.layout }
-        requires site { IsSite self.old.layout self.old.key site }
-        ensures { AdvancesTo (fills_leaf self.old fill site got) self.new result }
+    /// An action of the leaf's fill, with the last of which it is filled and durable.
+    pub(crate) fn fills_leaf(&mut self, got: u64) -> Option<Ended>
+        requires { change_takes self.old got }
+        ensures { (fill : FillLeaf) (site : Site) → self.old.at ≡ ChangeAt.FillingLeaf fill site
+            → AdvancesTo (fills_leaf self.old fill site got) self.new result }
     {
+        let ChangeAt::FillingLeaf { fill, site } = &mut self.at else {
+            return None;
+        };
         match fill.resume(got) {
-            Turn::Go(fill) => self.goes_to(ChangeAt::FillingLeaf { fill, site }),
-            Turn::Done(()) => self.leaf_filled(fill.number, site),
+            Turn::Go(filling) => {
+                *fill = filling;
+                None
+            }
+            Turn::Done(()) => {
+                let (leaf, site) = (fill.number, *site);
+                self.leaf_filled(leaf, site)
+            }
         }
     }
 
@@ -105,22 +125,24 @@ impl Change {
         }
     }
 
-    pub(crate) fn finds_room(
-        &mut self,
-        find: FindRoom,
-        spot: Spot,
-        leaf: u64,
-        got: u64,
-    ) -> Option<Ended>
-        requires find { find_room_takes find got }
-        requires layout { find.layout ≡ self.old.layout }
-        requires form { kind_of find.cell ≤ 4 }
-        requires leaf { leaf < leaf_count self.old.layout }
-        ensures { AdvancesTo (finds_room self.old find spot leaf got) self.new result }
+    /// A word of the cell in which it looks for room: with the last one it has found some, or there is none.
+    pub(crate) fn finds_room(&mut self, got: u64) -> Option<Ended>
+        requires { change_takes self.old got }
+        ensures { (find : FindRoom) (spot : Spot) (leaf : ℕ) → self.old.at ≡ ChangeAt.FindingRoom find spot leaf
+            → AdvancesTo (finds_room self.old find spot leaf got) self.new result }
     {
+        let ChangeAt::FindingRoom { find, spot, leaf } = &mut self.at else {
+            return None;
+        };
         match find.resume(got) {
-            Turn::Go(find) => self.goes_to(ChangeAt::FindingRoom { find, spot, leaf }),
-            Turn::Done(room) => self.room_found(find, spot, leaf, room),
+            Turn::Go(next) => {
+                *find = next;
+                None
+            }
+            Turn::Done(room) => {
+                let (find, spot, leaf) = (*find, *spot, *leaf);
+                self.room_found(find, spot, leaf, room)
+            }
         }
     }
 
@@ -159,34 +181,30 @@ impl Change {
         }
     }
 
-    pub(crate) fn reads_cell(
-        &mut self,
-        read: ReadCell,
-        spot: Spot,
-        byte: u64,
-        leaf: u64,
-        got: u64,
-    ) -> Option<Ended>
-        requires read { read_takes read got }
-        requires layout { read.layout ≡ self.old.layout }
-        requires form { IsFormRead read }
-        requires byte { byte < 256 }
-        requires leaf { leaf < leaf_count self.old.layout }
-        ensures { AdvancesTo (reads_cell self.old read spot byte leaf got) self.new result }
+    /// A word of the cell that is full: with the last one it wants a larger one.
+    pub(crate) fn reads_cell(&mut self, got: u64) -> Option<Ended>
+        requires { change_takes self.old got }
+        ensures { (read : ReadCell) (spot : Spot) (byte leaf : ℕ)
+            → self.old.at ≡ ChangeAt.ReadingCell read spot byte leaf
+            → AdvancesTo (reads_cell self.old read spot byte leaf got) self.new result }
     {
-        match read.resume(got) {
-            Turn::Go(read) => self.goes_to(ChangeAt::ReadingCell {
-                read,
-                spot,
-                byte,
-                leaf,
-            }),
-            Turn::Done(cell) => self.wants_cell(NewCell {
-                cell: larger(&cell, byte as u8, KIND + leaf),
-                spot,
-                free: read.reference,
-            }),
-        }
+        let ChangeAt::ReadingCell {
+            read,
+            spot,
+            byte,
+            leaf,
+        } = &mut self.at
+        else {
+            return None;
+        };
+        let free = read.reference;
+        let cell = read.advance(got)?;
+        let (spot, byte, leaf) = (*spot, *byte, *leaf);
+        self.wants_cell(NewCell {
+            cell: larger(&cell, byte as u8, KIND + leaf),
+            spot,
+            free,
+        })
     }
 
     /// It takes a cell, which is to have these words.
@@ -200,15 +218,29 @@ impl Change {
         self.goes_to(ChangeAt::TakingCell { take, new })
     }
 
-    pub(crate) fn takes_cell(&mut self, take: Take, new: NewCell, got: u64) -> Option<Ended>
-        requires take { take_takes take got }
-        requires layout { take.layout ≡ self.old.layout }
-        requires kind { (2 ≤ new.cell.kind) × (new.cell.kind ≤ 5) }
-        ensures { AdvancesTo (takes_cell self.old take new got) self.new result }
+    /// A mark, as it takes a cell: with the last one it has it, or there is none.
+    pub(crate) fn takes_cell(&mut self, got: u64) -> Option<Ended>
+        requires { change_takes self.old got }
+        ensures { (take : Take) (new : NewCell) → self.old.at ≡ ChangeAt.TakingCell take new
+            → AdvancesTo (takes_cell self.old take new got) self.new result }
     {
-        match take.resume(got) {
-            Turn::Go(take) => self.goes_to(ChangeAt::TakingCell { take, new }),
-            Turn::Done(Taken::One { number }) => {
+        let ChangeAt::TakingCell { take, new } = &mut self.at else {
+            return None;
+        };
+        let taken = take.advance(got)?;
+        let new = *new;
+        self.cell_taken(taken, new)
+    }
+
+    /// It has a cell to fill, or there is none.
+    fn cell_taken(&mut self, taken: Taken, new: NewCell) -> Option<Ended>
+        requires layout { IsLayout self.old.layout }
+        requires kind { (2 ≤ new.cell.kind) × (new.cell.kind ≤ 5) }
+        requires taken { IsTakenIn self.old.layout taken }
+        ensures { AdvancesTo (cell_goes self.old new (Turn.Done taken)) self.new result }
+    {
+        match taken {
+            Taken::One { number } => {
                 let fill = FillCell::new(self.layout, number, new.cell);
                 self.goes_to(ChangeAt::FillingCell {
                     fill,
@@ -216,27 +248,27 @@ impl Change {
                     free: new.free,
                 })
             }
-            Turn::Done(Taken::Absent) => Some(Ended::NoRoom),
+            Taken::Absent => Some(Ended::NoRoom),
         }
     }
 
-    pub(crate) fn fills_cell(
-        &mut self,
-        fill: FillCell,
-        spot: Spot,
-        free: u64,
-        got: u64,
-    ) -> Option<Ended>
-        requires fill { fill_cell_takes fill got }
-        requires layout { fill.layout ≡ self.old.layout }
-        requires spot { IsSpot self.old.layout spot }
-        requires free { free ≢ 0 → IsMarked self.old.layout free }
-        ensures { AdvancesTo (fills_cell self.old fill spot free got) self.new result }
+    /// An action of the cell's fill, with the last of which it is filled and durable.
+    pub(crate) fn fills_cell(&mut self, got: u64) -> Option<Ended>
+        requires { change_takes self.old got }
+        ensures { (fill : FillCell) (spot : Spot) (free : ℕ) → self.old.at ≡ ChangeAt.FillingCell fill spot free
+            → AdvancesTo (fills_cell self.old fill spot free got) self.new result }
     {
+        let ChangeAt::FillingCell { fill, spot, free } = &mut self.at else {
+            return None;
+        };
         match fill.resume(got) {
-            Turn::Go(fill) => self.goes_to(ChangeAt::FillingCell { fill, spot, free }),
+            Turn::Go(next) => {
+                *fill = next;
+                None
+            }
             Turn::Done(()) => {
                 let reference = fill.cell.kind * KIND + fill.number;
+                let (spot, free) = (*spot, *free);
                 self.finishes(spot_target(spot), spot.high + reference, free, 0)
             }
         }

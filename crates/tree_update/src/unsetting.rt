@@ -20,15 +20,15 @@ const INDEX: u64 = 8;
 const REFERENCES: u64 = 1 << 32;
 
 impl Change {
-    ghost use Rattle.std.specs.Prelude.{◌≡◌, ◌≢◌, ◌≤◌, ◌<◌, ◌^◌};
+    ghost use Rattle.std.specs.Prelude.{◌≡◌, ◌≢◌, ◌≤◌, ◌<◌, ◌^◌, ℕ};
     ghost use Rattle.pm_words.specs.Turns.{AdvancesTo};
     ghost use Rattle.pm_words.specs.Layouts.{IsLayout};
     ghost use Rattle.pm_words.specs.Locations.{leaf_count};
     ghost use Rattle.tree_law.specs.Words.{kind_of};
     ghost use Rattle.tree_floor.specs.Floors.{IsCellOf};
     ghost use Rattle.tree_look.specs.Looks.{IsSpot};
-    ghost use Rattle.tree_change.specs.Counts.{count_takes};
-    ghost use Rattle.tree_update.specs.Changes.{reads_depth, counts, counted, reads_index};
+    ghost use Rattle.tree_update.specs.declared.change.ChangeAt.TheVariants as ChangeAt;
+    ghost use Rattle.tree_update.specs.Changes.{change_takes, reads_depth, counts, counted, reads_index};
 
     pub(crate) fn reads_depth(
         &mut self,
@@ -53,30 +53,31 @@ impl Change {
         })
     }
 
-    pub(crate) fn counts(
-        &mut self,
-        count: Count,
-        leaf: u64,
-        outer: Spot,
-        inner: Spot,
-        got: u64,
-    ) -> Option<Ended>
-        requires count { count_takes count got }
-        requires layout { count.layout ≡ self.old.layout }
-        requires cell { count.cell ≡ inner.cell }
-        requires leaf { leaf < leaf_count self.old.layout }
-        requires outer { IsSpot self.old.layout outer }
-        requires inner { IsSpot self.old.layout inner }
-        ensures { AdvancesTo (counts self.old count leaf outer inner got) self.new result }
+    /// A word of the cell, as it counts the other children.
+    pub(crate) fn counts(&mut self, got: u64) -> Option<Ended>
+        requires { change_takes self.old got }
+        ensures { (count : Count) (leaf : ℕ) (outer inner : Spot)
+            → self.old.at ≡ ChangeAt.Counting count leaf outer inner
+            → AdvancesTo (counts self.old count leaf outer inner got) self.new result }
     {
+        let ChangeAt::Counting {
+            count,
+            leaf,
+            outer,
+            inner,
+        } = &mut self.at
+        else {
+            return None;
+        };
         match count.resume(got) {
-            Turn::Go(count) => self.goes_to(ChangeAt::Counting {
-                count,
-                leaf,
-                outer,
-                inner,
-            }),
-            Turn::Done(children) => self.counted(count, leaf, outer, inner, children),
+            Turn::Go(next) => {
+                *count = next;
+                None
+            }
+            Turn::Done(children) => {
+                let (count, leaf, outer, inner) = (*count, *leaf, *outer, *inner);
+                self.counted(count, leaf, outer, inner, children)
+            }
         }
     }
 
