@@ -53,6 +53,8 @@ pub mod FreedRuns
 pub mod Rechecks
 pub mod TurnReading
 pub mod LoneTurning
+pub mod Passing
+pub mod CorePasses
 pub mod SteppedTurns
 pub mod Opening
 pub mod RestImages

@@ -50,7 +50,7 @@ use Rattle.index_core.specs.PartyStates.{resting, turning_of, turn_after, turn_r
 use Rattle.index_core.specs.Indexes.{Index, IsIndex, IsTurning, footed, layered, world}
 use Rattle.index_core.specs.Lone.{HasNoCalls, HoldsLock, IsQuiet}
 use Rattle.index_core.specs.Costs.{turn_actions}
-use Rattle.index_core.specs.Turns.{KeepsNodes, StartsTurn, TurnSteps, TurnsAlone, turn_told, turned_index}
+use Rattle.index_core.specs.Turns.{KeepsNodes, StartsTurn, TurnAlong, at_first, one_more, TurnSteps, TurnsAlone, turn_told, turned_index}
 use Rattle.index_core.proofs.Layering.{turn_of, rest_turns, at_rest}
 use Rattle.index_core.proofs.Lists.{map_there, set_twice}
 use Rattle.index_core.proofs.Quiet.{idle_lines, quiet_parties}
@@ -400,3 +400,12 @@ module _ (s0 s s' : Index) (i stamp release : ℕ) (o : LoneTurn s0 s i stamp re
                 record { lone = stands; is = same; weighs = lone_turn_weighs s0 s' stamp release answer stands (ap (λ (v : Index). v.layout) same) }),
             quiet_then after,
           )
+
+-- Where it has come by steps that went on.
+pub lone_turn_passes : {s0 s : Index} {i stamp release : ℕ} {s' : Index} {turns : ℕ} → LoneTurn s0 s i stamp release
+    → TurnAlong s i s' turns → LoneTurn s0 s' i stamp release × (turn_left_at s' i + turns ≤ turn_left_at s i)
+lone_turn_passes o at_first = (o, omega arith)
+lone_turn_passes {s0 = s0} {i = i} {stamp = stamp} {release = release} o (one_more {now = now} {next = next} before t is) =
+    let was = lone_turn_passes o before in
+    let go = lone_turn_goes s0 now next i stamp release was.0 None t is refl in
+    (go.0, omega (arith, go.1, was.1))

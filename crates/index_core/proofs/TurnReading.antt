@@ -21,7 +21,7 @@ pub record TurnRead (s : Index) (i : ℕ) (e r : PartyState) (m read : MakeTurn)
   pub sound : IsMaking m
   pub law : TurnLaw s i e m
 
-some_making : {m n : MakeTurn} → Some m ≡ Some n → m ≡ n
+pub some_making : {m n : MakeTurn} → Some m ≡ Some n → m ≡ n
 some_making e = cc
 
 pub turn_reads : (s old : Index) (i : ℕ) (f : IsTurning old i) (r : PartyState) (read : MakeTurn) → s.states ≡ old.states → IsIndex s → r ≡ get_or s.states i r → r.turn ≡ Some read → TurnRead s i f.state r f.making read

@@ -1,5 +1,5 @@
 -- Turns of the updater in the core: how one begins, what each step of it changes, and how it is answered.
-use Rattle.std.specs.Prelude.{◌≡◌, ◌≢◌, ℕ, ◌*◌, ◌/◌, ◌<◌, ◌≤◌, ◌^◌, ◌⊎◌, true, slice_set, Option, Some, None}
+use Rattle.std.specs.Prelude.{◌≡◌, ◌≢◌, ℕ, zero, suc, ◌+◌, ◌*◌, ◌/◌, ◌<◌, ◌≤◌, ◌^◌, ◌⊎◌, true, slice_set, Option, Some, None}
 use mathlib.Core.Option.{some}
 use lib.ListN.{get_elem?}
 use Rattle.pm_words.specs.Codes.{free_status, gone_status}
@@ -87,6 +87,18 @@ pub record TurnSteps (old : Index) (party : ℕ) (new : Index) (result : Option 
   pub freed : FreesReleased old making new
   -- it has fewer actions left
   pub fewer : GoesBelow making_left (making_left making) (making_turned making (turn_told old making))
+
+-- So many steps of the party's turn that go on, one after another.
+pub data TurnAlong (old : Index) (party : ℕ) : Index → ℕ → Type 0 where
+  at_first : TurnAlong old party old zero
+  one_more : {now next : Index} {turns : ℕ} → TurnAlong old party now turns → TurnSteps now party next None →
+      IsIndex next → TurnAlong old party next (suc turns)
+
+-- Some steps of the party's turn that go on, or none. Each takes one event.
+pub record TurnPasses (old : Index) (party : ℕ) (new : Index) (begun ended : ℕ) : Type 0 where
+  pub turns : ℕ
+  pub along : TurnAlong old party new turns
+  pub steps : ended ≡ begun + turns
 
 -- One step of the party's turn, and what it comes to.
 pub record TurnStepsTo (old : Index) (party : ℕ) (new : Index) (result : Stepped) : Type 0 where

@@ -4,7 +4,7 @@ ghost use Rattle.std.specs.Prelude.{◌≡◌, ◌+◌, ◌<◌, ◌≤◌, ◌�
 ghost use Rattle.index_core.specs.Costs.{turn_actions};
 ghost use Rattle.index_core.specs.Indexes.{IsBusy, IsIndex, IsTurning};
 ghost use Rattle.index_core.specs.Lone.{HasShortWays, IsQuiet};
-ghost use Rattle.index_core.specs.Turns.{StartsTurn, TurnSteps, TurnsAlone};
+ghost use Rattle.index_core.specs.Turns.{StartsTurn, TurnPasses, TurnSteps, TurnsAlone};
 
 use crate::index::Core;
 use crate::party::InFlight;
@@ -63,6 +63,7 @@ impl Core {
             unreachable!()
         };
         'steps: loop {
+            self.pass_nodes(party, steps);
             if let Some(reply) = self.step_turn(party, steps) {
                 let TurnReply::Turned(turned) = reply else {
                     unreachable!()
@@ -70,6 +71,19 @@ impl Core {
                 return turned;
             }
         }
+    }
+
+    /// Where the party's turn goes over nodes, takes the steps that it makes so in a loop over them, with nothing
+    /// between. This spares what `step_turn` does beside each: to find the turn, and what it is about to do.
+    fn pass_nodes<L: Ledger>(&mut self, party: u64, steps: &mut Steps<L>)
+        requires turns { IsTurning self.old party }
+        ensures passes { TurnPasses self.old party self.new steps.old steps.new }
+        ensures index { IsIndex self.new }
+    {
+        let Some(making) = &mut self.states[party as usize].turn else {
+            unreachable!()
+        };
+        making.passes(&mut self.memory, steps);
     }
 
     /// Takes one step of the party's turn of the updater, as `Core::step` does. Returns its answer, if that ends it.

@@ -1,6 +1,7 @@
--- With each turn of its floor or of its change a turn of the updater has less left.
-use Rattle.std.proofs.Common.{◌≡◌, ℕ, ◌+◌, ◌^◌, ◌<◌, ◌≤◌, ◌==◌, Bool, true, false, cond, subst, sym, arith}
-use Rattle.pm_words.specs.Codes.{merge_kind}
+-- With each turn of its floor or of its change, and with each node, a turn of the updater has less left.
+use Rattle.std.proofs.Common.{◌≡◌, ℕ, ◌+◌, ◌^◌, ◌<◌, ◌≤◌, ◌==◌, ◌-◌, ◌&&◌, not, Bool, true, false, cond, ltb, refl, subst, sym, arith}
+use Rattle.std.proofs.lemmas.Bool.{ltb-true}
+use Rattle.pm_words.specs.Codes.{free_status, gone_status, merge_kind}
 use Rattle.pm_words.specs.declared.machine.Turn.{Turn}
 use Rattle.pm_words.specs.declared.machine.Turn.TheVariants.{Go, Done}
 use Rattle.pm_words.specs.Turns.{GoesBelow}
@@ -18,10 +19,10 @@ use Rattle.smo_log.specs.declared.line.Entry.{Entry}
 use Rattle.updater.specs.declared.work.Work.{Work}
 use Rattle.updater.specs.declared.work.WorkAt.{WorkAt}
 use Rattle.updater.specs.declared.work.WorkAt.TheVariants as at
-use Rattle.updater.specs.Works.{IsWork, IsWorkAt, changed, clears, has_landed, has_set, has_unset, lines_left, on, work_at_left, work_at_turned, work_left, work_turned}
+use Rattle.updater.specs.Works.{IsWork, IsWorkAt, changed, clears, has_landed, has_set, has_unset, lines_left, nodes_left, on, work_at_left, work_at_turned, work_left, work_turned}
 
 -- what it keeps at its state
-here_at : (work : Work) (a : WorkAt) → IsWork work → work.at ≡ a → IsWorkAt work.terms work.tally a
+pub here_at : (work : Work) (a : WorkAt) → IsWork work → work.at ≡ a → IsWorkAt work.terms work.tally a
 here_at work a is place = subst (λ (b : WorkAt). IsWorkAt work.terms work.tally b) place is.here
 
 -- what is shown at its state is so of the whole turn
@@ -69,3 +70,31 @@ unsetting_fewer work line entry unset x is place fits =
     below : (t : Turn Change Ended) → GoesBelow change_left (unset_left unset) t → work_left (has_unset work line entry (unset_of t)) < work_at_left work.terms.layout (at.Unsetting line entry unset)
     below (Go next) fewer = omega (arith, fewer)
     below (Done ended) fewer = let after = changed_below work line entry in omega (arith, after)
+
+pub status_fewer : (work : Work) (node x : ℕ) → work.at ≡ at.Status node
+    → GoesBelow work_left (work_left work) (work_turned work x)
+status_fewer work node x place = whole work (at.Status node) x place (below (x == gone_status) (ltb (node + 1) nodes) refl)
+  where
+    nodes : ℕ
+    nodes = work.terms.layout.nodes
+
+    below : (gone more : Bool) → ltb (node + 1) nodes ≡ more
+        → work_at_left work.terms.layout (cond gone (at.Stamp node) (cond more (at.Status (node + 1)) (at.Counting 0 true)))
+        < nodes_left work.terms.layout node + 5
+    below true more is = omega arith
+    below false true is = omega (arith, ltb-true _ _ is)
+    below false false is = omega arith
+
+pub count_fewer : (work : Work) (node x : ℕ) (none : Bool) → IsWork work → work.at ≡ at.Counting node none
+    → GoesBelow work_left (work_left work) (work_turned work x)
+count_fewer work node x none is place =
+    let within = (here_at work (at.Counting node none) is place).0 in
+    whole work (at.Counting node none) x place (below within (none && not (x == free_status)) (ltb (node + 1) nodes) refl)
+  where
+    nodes : ℕ
+    nodes = work.terms.layout.nodes
+
+    below : node < nodes → (so_far more : Bool) → ltb (node + 1) nodes ≡ more
+        → work_at_left work.terms.layout (cond more (at.Counting (node + 1) so_far) (at.Leaving so_far)) < (nodes - node) + 1
+    below within so_far true is = omega (arith, ltb-true _ _ is)
+    below within so_far false is = omega arith

@@ -8,3 +8,4 @@ pub mod WatchLaw
 pub mod FootLaw
 pub mod MakingLaw
 pub mod Fewer
+pub mod Passing

@@ -3,7 +3,8 @@ ghost use Rattle.std.specs.Prelude.{◌≡◌, ◌≤◌};
 use crate::taking::{TakeTurn, Took};
 use crate::terms::{Terms, Turned};
 use crate::work::Work;
-use pm_words::{Action, Layout, Machine, Turn};
+use pm_words::{Action, Layout, Machine, Memory, Steps, Turn};
+use std::sync::ledger::Ledger;
 
 /// A whole turn of the updater: it takes the updater lock, if no party has it, and works under it.
 #[derive(Clone, Copy)]
@@ -56,7 +57,9 @@ impl MakeTurn {
     ghost use Rattle.pm_words.specs.Layouts.{IsLayout};
     ghost use Rattle.pm_words.specs.Turns.{GoesBelow};
     ghost use Rattle.pm_words.specs.Turns.{AdvancesTo};
-    ghost use Rattle.updater.specs.Makings.{IsMaking, making_from, making_left, making_takes, making_turned};
+    ghost use Rattle.machine_runs.specs.Runs.{IsOnRun, MayGo};
+    ghost use Rattle.updater.specs.Makings.{IsMaking, making_from, making_asks, making_left, making_takes};
+    ghost use Rattle.updater.specs.Makings.{making_turned};
 
     /// A turn with this stamp and release, in the generation of this run.
     pub fn new(layout: Layout, generation: u64, stamp: u64, release: u64) -> MakeTurn
@@ -72,6 +75,19 @@ impl MakeTurn {
                 stamp,
                 release,
             },
+        }
+    }
+
+    /// Where it goes over nodes, it loads the status of one after another in a loop, with nothing between. So a turn
+    /// that is alone needn't find out at each node what to do. `steps` counts the events.
+    pub fn passes<L: Ledger>(&mut self, memory: &mut Memory, steps: &mut Steps<L>)
+        requires { MayGo making_asks making_turned making_left making_takes memory.old.layout memory.old.words
+            self.old }
+        ensures { IsOnRun making_asks making_turned making_left memory.old memory.new self.old self.new steps.old
+            steps.new }
+    {
+        if let MakeTurn::Working { work } = self {
+            work.passes(memory, steps);
         }
     }
 

@@ -28,9 +28,10 @@ use pm_words::codes::status::{FREE, GONE};
 use pm_words::codes::updater_lock::UNTAKEN;
 use pm_words::offsets::shared::UPDATER;
 use pm_words::offsets::{node, volatile};
-use pm_words::{Action, LOG_LINES, Layout, Machine, Turn};
+use pm_words::{Action, LOG_LINES, Layout, Machine, Memory, Steps, Turn};
 use search_layer::{Floor, Set, Unset};
 use smo_log::{Clear, Entry, ReadLine};
+use std::sync::ledger::Ledger;
 
 /// A turn of the updater, which has taken the updater lock for it.
 #[derive(Clone, Copy)]
@@ -225,6 +226,56 @@ impl Work {
             WorkAt::Leaving { none_free } => return Some(self.answer(*none_free)),
         }
         None
+    }
+}
+
+// Where it goes over nodes, it does so in a loop.
+impl Work {
+    ghost use Rattle.machine_runs.specs.Runs.{IsOnRun, MayGo};
+    ghost use Rattle.updater.specs.Works.{work_asks, work_left, work_takes, work_turned};
+
+    /// Where it loads the status of nodes, it loads that of node after node in a loop, with nothing between, up to the
+    /// first that is GONE or the last; where it counts, up to the last. So a turn that is alone needn't find out at
+    /// each node what to do. `steps` counts the events.
+    pub fn passes<L: Ledger>(&mut self, memory: &mut Memory, steps: &mut Steps<L>)
+        requires { MayGo work_asks work_turned work_left work_takes memory.old.layout memory.old.words self.old }
+        ensures { IsOnRun work_asks work_turned work_left memory.old memory.new self.old self.new steps.old steps.new }
+    {
+        match &self.at {
+            WorkAt::Status { .. } => self.passes_status(memory, steps),
+            WorkAt::Counting { .. } => self.passes_count(memory, steps),
+            _ => {}
+        }
+    }
+
+    /// It goes over nodes that aren't GONE.
+    fn passes_status<L: Ledger>(&mut self, memory: &mut Memory, steps: &mut Steps<L>)
+        requires { MayGo work_asks work_turned work_left work_takes memory.old.layout memory.old.words self.old }
+        ensures { IsOnRun work_asks work_turned work_left memory.old memory.new self.old self.new steps.old steps.new }
+    {
+        'nodes: loop {
+            let WorkAt::Status { node } = &self.at else {
+                return;
+            };
+            let address = self.terms.layout.node_volatile(*node, volatile::STATUS);
+            let status = memory.act(Action::Load(address), steps);
+            self.told_status(status);
+        }
+    }
+
+    /// It counts nodes.
+    fn passes_count<L: Ledger>(&mut self, memory: &mut Memory, steps: &mut Steps<L>)
+        requires { MayGo work_asks work_turned work_left work_takes memory.old.layout memory.old.words self.old }
+        ensures { IsOnRun work_asks work_turned work_left memory.old memory.new self.old self.new steps.old steps.new }
+    {
+        'nodes: loop {
+            let WorkAt::Counting { node, .. } = &self.at else {
+                return;
+            };
+            let address = self.terms.layout.node_volatile(*node, volatile::STATUS);
+            let status = memory.act(Action::Load(address), steps);
+            self.told_count(status);
+        }
     }
 }
 
