@@ -9,6 +9,9 @@ use index_core::CoreCall;
 /// How many names each caller has of its own, or all have in common.
 const NAMES: u64 = 64;
 
+/// Whose names there are, where each caller has names of its own.
+const OWNERS: u64 = 4;
+
 /// No history here is as long.
 pub const LIMIT: u64 = 1 << 62;
 
@@ -19,6 +22,14 @@ pub enum Mix {
     Own,
     /// So many gets of a hundred calls, the others puts, of names that all callers have in common.
     Common { gets: u64 },
+}
+
+/// How many names the callers have in all.
+pub fn names(mix: Mix) -> u64 {
+    match mix {
+        Mix::Own => OWNERS * NAMES,
+        Mix::Common { .. } => NAMES,
+    }
 }
 
 /// Whether the call of this number is a put; the others are gets.
@@ -57,5 +68,18 @@ pub fn call_of(mix: Mix, caller: u64, number: u64) -> Option<CoreCall>
         }
     } else {
         CoreCall::Get { name }
+    })
+}
+
+/// The put that makes the name of this number be there, of all that the callers have.
+pub fn first_put(mix: Mix, number: u64) -> Option<CoreCall>
+    ensures { IfSome result (λ call. MayBegin call × (most_writes call ≤ 1)) }
+{
+    // Two calls are about each name.
+    let name = name_of(mix, number / NAMES, number % NAMES * 2)?;
+    Some(CoreCall::Put {
+        name,
+        value: number,
+        limit: LIMIT,
     })
 }

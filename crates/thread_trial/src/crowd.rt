@@ -1,7 +1,6 @@
 //! Callers on threads of their own.
 
 ghost use Rattle.std.specs.Prelude.{◌≡◌, ◌<◌, [], length, IfOk};
-ghost use Rattle.pm_words.specs.Layouts.{IsLayout};
 ghost use Rattle.index_core.specs.Lone.{IsQuiet};
 ghost use Rattle.pac_index.specs.Callers.{IsCallerOf, HasCallers};
 
@@ -9,27 +8,26 @@ use crate::calls::{LIMIT, Mix, is_put, name_of};
 use call_stages::Once;
 use index_core::Core;
 use pac_index::{Caller, Shared, Tried, have_steps};
-use pm_words::{Layout, NoMemory};
-use recovery::open_fresh;
+use pm_words::NoMemory;
 use std::alloc::Global;
 use std::thread::{Threads, map_vec, yield_now};
 
 /// How often a call is made again at most, while it is turned back.
 const TRIES: u64 = 10_000_000;
 
-/// Each of the first `active` callers of a fresh index makes so many calls on a thread of its own, all at once. Returns
-/// the core in which they meet.
+/// Each of the first `active` callers of an index makes so many calls on a thread of its own, all at once. Returns the
+/// core in which they meet.
 pub fn meet<R: Threads + Sync>(
     rt: &R,
     alloc: Global,
-    layout: Layout,
+    core: Core,
     active: u64,
     calls: u64,
     mix: Mix,
 ) -> Result<Core, NoMemory>
-    requires { IsLayout layout }
+    requires quiet { IsQuiet core }
+    requires start { core.history ≡ [] }
 {
-    let core = fresh(alloc, layout)?;
     let (shared, callers) = Shared::new(alloc, core)?;
     let callers = all_play(rt, &shared, callers, active, calls, mix)?;
     // No caller has a bound on its steps, so each has one left.
@@ -37,15 +35,6 @@ pub fn meet<R: Threads + Sync>(
         return Err(NoMemory);
     }
     shared.close(alloc, callers)
-}
-
-/// An index without names.
-pub fn fresh(alloc: Global, layout: Layout) -> Result<Core, NoMemory>
-    requires { IsLayout layout }
-    ensures { IfOk result (λ core. IsQuiet core × (core.history ≡ []) × (core.layout ≡ layout)) }
-{
-    let core = open_fresh(alloc, layout)?;
-    Ok(core)
 }
 
 /// All callers at once.

@@ -8,7 +8,7 @@ mod crowd;
 ghost use Rattle.std.specs.Prelude.{IfOk};
 ghost use Rattle.pm_words.specs.Layouts.{IsLayout};
 
-use alone::play_alone;
+use alone::{filled, play_alone};
 use anyhow::{Result, anyhow, bail};
 use calls::Mix;
 use crowd::meet;
@@ -47,11 +47,12 @@ fn main(rt: HostRuntime) -> Result<()> {
         _ => bail!("{USAGE}"),
     };
     let calls = number(calls.as_str())?;
+    let mut core = filled(rt.alloc(), layout()?, mix)?;
     let start = Instant::now(&rt)?;
-    let core = match callers.as_str() {
-        "alone" => play_alone(rt.alloc(), layout()?, calls, mix)?,
-        callers => meet(&rt, rt.alloc(), layout()?, number(callers)?, calls, mix)?,
-    };
+    match callers.as_str() {
+        "alone" => play_alone(&mut core, calls, mix)?,
+        callers => core = meet(&rt, rt.alloc(), core, number(callers)?, calls, mix)?,
+    }
     let micros = start.elapsed(&rt)?.as_micros();
     let writes = core.history().len();
     match verb.as_str() {
