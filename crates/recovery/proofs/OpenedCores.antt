@@ -1,5 +1,5 @@
 -- Cores of fresh images, and of a core's own image.
-use Rattle.std.proofs.Common.{◌≡◌, ℕ, suc, ◌*◌, ◌≤◌, ◌/◌, List, [], ◌∷◌, length, refl, sym, ap, ◌∙◌, subst, arith}
+use Rattle.std.proofs.Common.{◌≡◌, ℕ, suc, ◌*◌, ◌≤◌, ◌/◌, List, [], ◌∷◌, length, sym, ap, ◌∙◌, subst, arith}
 use Rattle.std.specs.FinMap.{empty, len, len-empty}
 use Rattle.std.specs.Prelude.{Result, Ok, Err, IfOk}
 use Rattle.cat_key.specs.Names.{name_cmp}

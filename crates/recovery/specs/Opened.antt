@@ -9,7 +9,7 @@ use Rattle.version_lock.specs.declared.TheConstants.{LAST_COUNT}
 use Rattle.image_rules.specs.Rules.{header_generation}
 use Rattle.image_rules.specs.Sound.{IsMapOf, image_map}
 use Rattle.image_rules.specs.Weights.{image_weight}
-use Rattle.image_layer_rules.specs.Sound.{IsFirstOfAll, IsSoundByAll}
+use Rattle.image_layer_rules.specs.Sound.{IsSoundByAll}
 use Rattle.index_law.specs.Anchors.{anchors_in, gone_nodes, image_anchors}
 use Rattle.index_law.specs.Weights.{index_weight}
 use Rattle.index_law.specs.Worlds.{facts}
