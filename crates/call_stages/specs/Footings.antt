@@ -4,7 +4,7 @@ use Rattle.std.specs.Prelude.{◌≡◌, ◌≢◌, ℕ, ◌⊎◌, true, false,
 use Rattle.pm_words.specs.declared.layout.Layout.{Layout}
 use Rattle.pm_words.specs.declared.action.Action.{Action}
 use Rattle.pm_words.specs.declared.action.Action.TheVariants.{Load}
-use Rattle.cat_key.specs.Names.{AreNameWords}
+use Rattle.layer_map.specs.cat_key.specs.Names.{AreNameWords}
 use Rattle.data_node.specs.Spots.{Spot}
 use Rattle.data_node.specs.Lists.{anchor_in}
 use Rattle.call_stages.specs.declared.once.Once.{Once}

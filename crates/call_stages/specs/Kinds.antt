@@ -11,10 +11,10 @@ use Rattle.pm_words.specs.Codes.{free_status, live_status, gone_status}
 use Rattle.pm_words.specs.Locations.{address_of, node_words, Cached, Node, Clock, Volatile}
 use Rattle.pm_words.specs.Offsets.{prev_offset, status_offset}
 use Rattle.version_lock.specs.Versions.{generation_of, kept_count, locked_word, IsFree, IsWorn}
-use Rattle.cat_key.specs.Names.{IsName}
-use Rattle.cat_history.specs.Maps.{Map, at}
-use Rattle.cat_history.specs.Writes.{changed, name_of}
-use Rattle.cat_history.specs.declared.op.Change.{Change}
+use Rattle.layer_map.specs.cat_key.specs.Names.{IsName}
+use Rattle.data_node.specs.cat_history.specs.Maps.{Map, at}
+use Rattle.data_node.specs.cat_history.specs.Writes.{changed, name_of}
+use Rattle.data_node.specs.cat_history.specs.declared.op.Change.{Change}
 use Rattle.data_node.specs.Slots.{AreAllLive}
 use Rattle.data_node.specs.Spots.{Spot, IsTidy, Means, updated, bitmap_offset}
 use Rattle.data_node.specs.Lists.{next_offset, key_of, anchor_in, IsBetween, StaysIn}

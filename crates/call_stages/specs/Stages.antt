@@ -2,10 +2,10 @@
 use Rattle.std.specs.Prelude.{◌≡◌, ◌≢◌, ℕ, ◌+◌, ◌<◌, ◌≤◌, ◌⊎◌, Bool, true, false, List, [], ◌∷◌, Option, Some, None}
 use Rattle.std.specs.Prelude.{IfSome}
 use Rattle.std.specs.List.{AllByRecursion}
-use Rattle.cat_key.specs.Names.{words_of}
-use Rattle.cat_history.specs.Maps.{Map}
-use Rattle.cat_history.specs.Writes.{changed}
-use Rattle.cat_history.specs.declared.op.Change.{Change}
+use Rattle.layer_map.specs.cat_key.specs.Names.{words_of}
+use Rattle.data_node.specs.cat_history.specs.Maps.{Map}
+use Rattle.data_node.specs.cat_history.specs.Writes.{changed}
+use Rattle.data_node.specs.cat_history.specs.declared.op.Change.{Change}
 use Rattle.data_node.specs.Slots.{IsLive}
 use Rattle.data_node.specs.Spots.{Spot, IsLiveIn, name_words}
 use Rattle.data_node.specs.Lists.{next_offset}

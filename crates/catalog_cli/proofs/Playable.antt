@@ -1,5 +1,6 @@
 -- The rounds of a script that is accepted: what calls they have, how crashes end them, and that there is one at least.
-use Rattle.std.proofs.Common.{◌≡◌, ℕ, ◌+◌, ◌<◌, ◌≤◌, ◌^◌, List, [], ◌∷◌, ◌++◌, length, refl, sym, ap, subst, arith, inl, inr, length-append}
+use Rattle.std.proofs.Common.{◌≡◌, ℕ, ◌+◌, ◌<◌, ◌≤◌, ◌^◌, List, [], ◌∷◌, ◌++◌, length, refl, sym, ap, subst, arith}
+use Rattle.std.proofs.Common.{inl, inr, length-append}
 use Rattle.std.specs.Prelude.{All, IfSome, Option, None}
 use Rattle.std.specs.List.{AllByRecursion, AllZip}
 use Rattle.std.proofs.lemmas.List.Elements.{All-from_recursion, recursion_from_All}
@@ -19,7 +20,7 @@ use Rattle.cat_script.specs.declared.line.Reason.TheVariants as reason
 use Rattle.cat_script.specs.declared.script.Script.{Script}
 use Rattle.cat_text.specs.ReportGrammar.{IsReportOp}
 use Rattle.shapes.proofs.NameLists.{all_append, all_first, all_second}
-use Rattle.core_rounds.specs.LoneCalls.{AreReportCalls, IsReportCall}
+use Rattle.crowd_rounds.specs.core_rounds.specs.LoneCalls.{AreReportCalls, IsReportCall}
 use Rattle.crowd_rounds.specs.Segments.{HasBudgets}
 use Rattle.catalog_cli.specs.Reports.{IsAccepted}
 

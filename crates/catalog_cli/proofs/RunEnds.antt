@@ -14,21 +14,22 @@ use Rattle.image_rules.specs.Sound.{image_map}
 use Rattle.image_rules.specs.Weights.{image_weight}
 use Rattle.version_lock.specs.Versions.{IsGeneration}
 use Rattle.index_law.specs.Anchors.{anchors_in, image_anchors}
-use Rattle.index_core.specs.Indexes.{Index, map_of_index, world}
-use Rattle.index_core.specs.Weights.{weight_of}
-use Rattle.image_recovery.specs.Recovered.{IsOpenFault}
-use Rattle.recovery.specs.Opened.{IsOpenedFrom}
-use Rattle.image_recovery.specs.declared.recovering.OpenFault.{OpenFault}
-use Rattle.image_recovery.specs.declared.recovering.OpenFault.TheVariants as opening
-use Rattle.core_rounds.specs.CoreMaps.{HasNoLines, ImageWaits, IsImageOf, Waits}
-use Rattle.core_rounds.specs.CrashWork.{CrashRoundsWork}
-use Rattle.core_rounds.specs.LoneCalls.{AreJoined, AreLoneRounds, restarts}
-use Rattle.core_rounds.specs.Rounds.{ArePlayed, RoundsEndWithTurn}
-use Rattle.core_rounds.specs.Waiting.{HaveNoTurns, changes_made, puts_asked, writes_asked}
-use Rattle.core_rounds.proofs.CoreMaps.{opened_is_map}
+use Rattle.crowd_rounds.specs.index_core.specs.Indexes.{Index, map_of_index, world}
+use Rattle.crowd_rounds.specs.index_core.specs.Weights.{weight_of}
+use Rattle.crowd_rounds.specs.image_recovery.specs.Recovered.{IsOpenFault}
+use Rattle.crowd_rounds.specs.recovery.specs.Opened.{IsOpenedFrom}
+use Rattle.crowd_rounds.specs.image_recovery.specs.declared.recovering.OpenFault.{OpenFault}
+use Rattle.crowd_rounds.specs.image_recovery.specs.declared.recovering.OpenFault.TheVariants as opening
+use Rattle.crowd_rounds.specs.core_rounds.specs.CoreMaps.{HasNoLines, ImageWaits, IsImageOf, Waits}
+use Rattle.crowd_rounds.specs.core_rounds.specs.CrashWork.{CrashRoundsWork}
+use Rattle.crowd_rounds.specs.core_rounds.specs.LoneCalls.{AreJoined, AreLoneRounds, restarts}
+use Rattle.crowd_rounds.specs.core_rounds.specs.Rounds.{ArePlayed, RoundsEndWithTurn}
+use Rattle.crowd_rounds.specs.core_rounds.specs.Waiting.{HaveNoTurns, changes_made, puts_asked, writes_asked}
+use Rattle.crowd_rounds.specs.core_rounds.proofs.CoreMaps.{opened_is_map}
 use Rattle.crowd_rounds.specs.Segments.{WorkOn}
 use Rattle.catalog_cli.specs.Reports.{IsAccepted, IsRefusedBy}
-use Rattle.catalog_cli.specs.Runs.{IsOpenable, IsPlayRefused, IsRunOn, IsTooLate, LinesWait, NeedNoTurns, generation_after}
+use Rattle.catalog_cli.specs.Runs.{IsOpenable, IsPlayRefused, IsRunOn, IsTooLate, LinesWait, NeedNoTurns}
+use Rattle.catalog_cli.specs.Runs.{generation_after}
 use Rattle.catalog_cli.specs.Statuses.{status_of_open}
 use Rattle.catalog_cli.specs.declared.status.Status.{Status}
 use Rattle.catalog_cli.specs.declared.status.Status.TheVariants as status

@@ -1,5 +1,6 @@
 -- How many calls a script has, and how many rounds.
-use Rattle.std.proofs.Common.{◌≡◌, ℕ, ◌+◌, ◌≤◌, List, [], ◌∷◌, ◌++◌, length, sum_by, refl, ap, ◌∙◌, arith, inl, inr, length-append}
+use Rattle.std.proofs.Common.{◌≡◌, ℕ, ◌+◌, ◌≤◌, List, [], ◌∷◌, ◌++◌, length, sum_by, refl, ap, ◌∙◌, arith, inl, inr}
+use Rattle.std.proofs.Common.{length-append}
 use Rattle.std.proofs.lemmas.List.Sums.{sum_by-append, sum_by-cons, sum_by_push}
 use Rattle.std.specs.Prelude.{Option}
 use Rattle.cat_history.specs.declared.plan.CrashPlan.{CrashPlan}
@@ -10,7 +11,7 @@ use Rattle.cat_script.specs.Scripts.{IsScript}
 use Rattle.cat_script.specs.declared.line.Line.{Line}
 use Rattle.cat_script.specs.declared.line.Line.TheVariants.{Blank, Call, Join, Crash, Updater, Limit}
 use Rattle.cat_script.specs.declared.script.Script.{Script}
-use Rattle.core_rounds.specs.LoneCalls.{calls_in}
+use Rattle.crowd_rounds.specs.core_rounds.specs.LoneCalls.{calls_in}
 
 abbrev ops_count : RoundPlan → ℕ
 ops_count plan = length plan.ops

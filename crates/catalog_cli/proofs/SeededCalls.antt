@@ -1,6 +1,7 @@
 -- Generated calls are those of a report, each caller's about names of its own; and what a round does of them where none is
 -- refused.
-use Rattle.std.proofs.Common.{◌≡◌, ℕ, suc, ◌+◌, ◌*◌, ◌/◌, ◌%◌, ◌<◌, ◌≤◌, ◌^◌, Bool, true, false, cond, nat_lt, List, [], ◌∷◌, ◌++◌, length, get_or, refl, sym, ap, ◌∙◌, subst, arith}
+use Rattle.std.proofs.Common.{◌≡◌, ℕ, suc, ◌+◌, ◌*◌, ◌/◌, ◌%◌, ◌<◌, ◌≤◌, ◌^◌, Bool, true, false, cond, nat_lt, List}
+use Rattle.std.proofs.Common.{[], ◌∷◌, ◌++◌, length, get_or, refl, sym, ap, ◌∙◌, subst, arith}
 use Rattle.std.specs.Prelude.{Option, Some, None, All, IfSome}
 use Rattle.std.specs.List.{AllByRecursion, cons_option}
 use Rattle.std.specs.FinMap.{empty}
@@ -16,7 +17,8 @@ use Rattle.cat_key.specs.Names.{IsName, IsNameByte}
 use Rattle.cat_history.specs.CrashEnds.{after_changes}
 use Rattle.cat_history.specs.Maps.{Map}
 use Rattle.cat_history.specs.Writes.{name_of}
-use Rattle.cat_history.specs.Records.{call_of, change_asked, interval_told, numbered, numbered_after, placed_write, placed_writes}
+use Rattle.cat_history.specs.Records.{call_of, change_asked, interval_told, numbered, numbered_after, placed_write}
+use Rattle.cat_history.specs.Records.{placed_writes}
 use Rattle.cat_history.specs.Rounds.{IsAnswer, IsAnswered, IsJoinedRound}
 use Rattle.cat_history.specs.declared.op.CallerOp.{CallerOp}
 use Rattle.cat_history.specs.declared.op.Change.{Change}
@@ -28,7 +30,8 @@ use Rattle.cat_history.specs.declared.plan.RoundPlan.{RoundPlan}
 use Rattle.cat_history.specs.declared.record.Record.{Record}
 use Rattle.cat_history.specs.declared.record.Reply.{Reply}
 use Rattle.cat_history.specs.declared.record.Reply.TheVariants.{Old, Parts, Full, Spent, Cut, Unstarted}
-use Rattle.cat_script.specs.Generators.{drawn, generated_name, chosen_op, generated_call, generated_calls, generated_plan}
+use Rattle.cat_script.specs.Generators.{drawn, generated_name, chosen_op, generated_call, generated_calls}
+use Rattle.cat_script.specs.Generators.{generated_plan}
 use Rattle.cat_text.specs.ReportGrammar.{IsReportOp}
 use Rattle.cat_text.specs.Summaries.{summary_line}
 use Rattle.cat_text.specs.declared.report.RoundReport.{RoundReport}
@@ -36,11 +39,11 @@ use Rattle.cat_text.specs.declared.summary.Summary.{Summary}
 use Rattle.shapes.specs.Anchors.{Anchors}
 use Rattle.caller_rounds.specs.Apart.{AreApart, TookPlace, changes_asked}
 use Rattle.caller_rounds.proofs.LoneOrder.{lone_is_in_order}
-use Rattle.core_rounds.specs.LoneCalls.{AreReportCalls, IsReportCall, calls_in}
-use Rattle.core_rounds.specs.Rounds.{ArePlayed, IsRoundTo}
-use Rattle.core_rounds.specs.Rounds.ArePlayed.{ends, lone, crowd, lone_crash, crowd_crash}
-use Rattle.core_rounds.specs.Summaries.{IsWithin, full_in, is_full, summary_of}
-use Rattle.core_rounds.proofs.Played.{each_is_reported, only_round_is_legal}
+use Rattle.crowd_rounds.specs.core_rounds.specs.LoneCalls.{AreReportCalls, IsReportCall, calls_in}
+use Rattle.crowd_rounds.specs.core_rounds.specs.Rounds.{ArePlayed, IsRoundTo}
+use Rattle.crowd_rounds.specs.core_rounds.specs.Rounds.ArePlayed.{ends, lone, crowd, lone_crash, crowd_crash}
+use Rattle.crowd_rounds.specs.core_rounds.specs.Summaries.{IsWithin, full_in, is_full, summary_of}
+use Rattle.crowd_rounds.specs.core_rounds.proofs.Played.{each_is_reported, only_round_is_legal}
 use Rattle.catalog_cli.specs.Headline.{done, all_done, IsSummaryOf}
 
 -- ---- what the calls are

@@ -23,11 +23,11 @@ use Rattle.pm_words.specs.declared.layout.Layout.{Layout}
 use Rattle.catalog_cli.specs.Files.{Formats, FormatsSome, HasBytes, HasFile, HasImage, HasNoFile, ListsSome}
 use Rattle.catalog_cli.specs.Files.{ListsWords, MakesFile, NamesFile, RunsScript, file_of, formatted_line, lines_told}
 use Rattle.catalog_cli.specs.Reports.{IsAccepted, IsRefusedBy, IsReportOf, empty_opening}
-use Rattle.core_rounds.specs.Rounds.{ArePlayed}
+use Rattle.crowd_rounds.specs.core_rounds.specs.Rounds.{ArePlayed}
 use Rattle.shapes.specs.Anchors.{Anchors}
 use Rattle.catalog_cli.specs.Runs.{AreBytesLeft, HasScript, IsFileAfterRun, IsNoScript, IsOpenable}
 use Rattle.catalog_cli.specs.Runs.{IsRefusedOnFile, IsRunFileCause, IsRunOnFile, IsRunRefusal}
-use Rattle.core_rounds.specs.Summaries.{full_in, summary_of}
+use Rattle.crowd_rounds.specs.core_rounds.specs.Summaries.{full_in, summary_of}
 use Rattle.catalog_cli.specs.declared.status.ImageRefusal.{ImageRefusal}
 use Rattle.catalog_cli.specs.declared.status.ImageRefusal.TheVariants as image
 use Rattle.catalog_cli.specs.declared.status.Status.{Status}

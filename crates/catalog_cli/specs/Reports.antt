@@ -16,8 +16,8 @@ use Rattle.image_rules.specs.Sound.{image_map}
 use Rattle.image_rules.specs.Weights.{image_weight}
 use Rattle.shapes.specs.Anchors.{Anchors}
 use Rattle.index_law.specs.Anchors.{image_anchors}
-use Rattle.core_rounds.specs.CrashWork.{CrashRoundsWork}
-use Rattle.core_rounds.specs.Rounds.{ArePlayed}
+use Rattle.crowd_rounds.specs.core_rounds.specs.CrashWork.{CrashRoundsWork}
+use Rattle.crowd_rounds.specs.core_rounds.specs.Rounds.{ArePlayed}
 use Rattle.catalog_cli.specs.declared.status.Status.{Status}
 use Rattle.catalog_cli.specs.declared.status.Status.TheVariants as status
 

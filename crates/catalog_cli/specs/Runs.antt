@@ -14,13 +14,13 @@ use Rattle.image_rules.specs.Rules.{header_generation}
 use Rattle.image_rules.specs.Sound.{IsMapOf, image_map}
 use Rattle.image_layer_rules.specs.Sound.{IsFirstOfAll, IsSoundByAll}
 use Rattle.version_lock.specs.Versions.{IsGeneration}
-use Rattle.core_rounds.specs.CoreMaps.{ImageHasNoLines, ImageWaits}
-use Rattle.core_rounds.specs.Waiting.{HaveNoTurns, changes_made, puts_asked, writes_asked}
+use Rattle.crowd_rounds.specs.core_rounds.specs.CoreMaps.{ImageHasNoLines, ImageWaits}
+use Rattle.crowd_rounds.specs.core_rounds.specs.Waiting.{HaveNoTurns, changes_made, puts_asked, writes_asked}
 use Rattle.cat_history.specs.declared.plan.RoundPlan.{RoundPlan}
 use Rattle.catalog_cli.specs.Files.{HasBytes, HasImage, HasNoFile, SavesImage}
 use Rattle.catalog_cli.specs.Reports.{IsRefusedBy, IsReportOf, image_opening}
-use Rattle.core_rounds.specs.LoneCalls.{AreJoined, AreLoneRounds, restarts}
-use Rattle.core_rounds.specs.Rounds.{RoundsEndWithTurn}
+use Rattle.crowd_rounds.specs.core_rounds.specs.LoneCalls.{AreJoined, AreLoneRounds, restarts}
+use Rattle.crowd_rounds.specs.core_rounds.specs.Rounds.{RoundsEndWithTurn}
 use Rattle.cat_history.specs.Maps.{Map}
 use Rattle.shapes.specs.Anchors.{Anchors}
 use Rattle.catalog_cli.specs.declared.status.ImageRefusal.{ImageRefusal}

@@ -12,8 +12,8 @@ use Rattle.cat_text.specs.declared.outside.shelf.SaveFault.TheVariants as save
 use Rattle.pm_words.specs.declared.bytes.ImageFault.{ImageFault}
 use Rattle.pm_words.specs.declared.bytes.ImageFault.TheVariants as fault
 use Rattle.pm_words.specs.declared.layout.Field.TheVariants as field
-use Rattle.image_recovery.specs.declared.recovering.OpenFault.{OpenFault}
-use Rattle.image_recovery.specs.declared.recovering.OpenFault.TheVariants as opening
+use Rattle.crowd_rounds.specs.image_recovery.specs.declared.recovering.OpenFault.{OpenFault}
+use Rattle.crowd_rounds.specs.image_recovery.specs.declared.recovering.OpenFault.TheVariants as opening
 use Rattle.catalog_cli.specs.declared.status.ImageRefusal.{ImageRefusal}
 use Rattle.catalog_cli.specs.declared.status.ImageRefusal.TheVariants as image
 use Rattle.catalog_cli.specs.declared.status.Status.{Status}

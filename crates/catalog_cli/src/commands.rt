@@ -23,7 +23,7 @@ use crate::status::Status;
 use cat_command::{Command, read_command};
 use cat_script::MOST_BYTES;
 use cat_text::{Shelf, Sink, Source, WriteFault, print_report, read_whole, write_whole};
-use pac_index::Gate;
+use crowd_rounds::pac_index::Gate;
 use pm_words::Layout;
 use std::alloc::Global;
 use std::sync::Wait;

@@ -10,4 +10,5 @@ mod run_file;
 mod status;
 
 pub use commands::catalog;
+pub use crowd_rounds::{index_core, pac_index, recovery};
 pub use status::{ImageRefusal, Status};

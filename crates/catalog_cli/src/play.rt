@@ -7,14 +7,14 @@ ghost use Rattle.pm_words.specs.Layouts.{IsLayout};
 ghost use Rattle.shapes.specs.Anchors.{Anchors};
 ghost use Rattle.cat_text.specs.ReportGrammar.{IsReport};
 ghost use Rattle.catalog_cli.specs.Reports.{IsAccepted};
-ghost use Rattle.core_rounds.specs.CrashWork.{CrashRoundsWork};
-ghost use Rattle.core_rounds.specs.Rounds.{ArePlayed};
+ghost use Rattle.crowd_rounds.specs.core_rounds.specs.CrashWork.{CrashRoundsWork};
+ghost use Rattle.crowd_rounds.specs.core_rounds.specs.Rounds.{ArePlayed};
 
 use cat_history::NoMemory;
 use cat_script::Script;
 use cat_text::Report;
+use crowd_rounds::pac_index::Gate;
 use crowd_rounds::play_plans;
-use pac_index::Gate;
 use pm_words::Layout;
 use std::alloc::Global;
 use std::sync::Wait;

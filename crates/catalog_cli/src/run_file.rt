@@ -3,7 +3,7 @@
 ghost use Rattle.std.specs.Prelude.{◌≡◌, ◌+◌, ◌≤◌, ℕ, List, [], IfErr, IfOk, IfSome, OnOk, Some, length};
 ghost use Rattle.cat_script.specs.Scripts.{IsScript};
 ghost use Rattle.cat_text.specs.Outside.{ConsumesAtMost};
-ghost use Rattle.recovery.specs.Opened.{IsOpenedFrom};
+ghost use Rattle.crowd_rounds.specs.recovery.specs.Opened.{IsOpenedFrom};
 ghost use Rattle.catalog_cli.specs.Headline.{IsAfterReading};
 ghost use Rattle.catalog_cli.specs.Runs.{IsOpenable, IsPlayRefused, IsRunLeft, IsRunOn, IsRunOnFile, IsRunRefused};
 
@@ -13,13 +13,13 @@ use crate::status::{ImageRefusal, Status};
 use cat_history::RoundPlan;
 use cat_script::{MOST_BYTES, Script};
 use cat_text::{Shelf, Source, print_report};
-use core_rounds::{image_of, restarts};
+use crowd_rounds::core_rounds::{image_of, restarts};
+use crowd_rounds::index_core::Core;
+use crowd_rounds::pac_index::Gate;
 use crowd_rounds::play_rounds;
-use index_core::Core;
-use pac_index::Gate;
+use crowd_rounds::recovery::recover;
 use pm_words::Image;
 use pm_words::offsets::header;
-use recovery::recover;
 use std::alloc::Global;
 use std::sync::Wait;
 use std::thread::Threads;

@@ -6,8 +6,8 @@ ghost use Rattle.catalog_cli.specs.Statuses.{code_of, refusal_text, status_text}
 use cat_history::NoMemory;
 use cat_script::ScriptFault;
 use cat_text::{LoadFault, ReadFault, SaveFault};
+use crowd_rounds::recovery::OpenFault;
 use pm_words::{Field, ImageFault};
-use recovery::OpenFault;
 use std::fmt;
 
 /// Why a command was not done on a file.

@@ -1,5 +1,7 @@
 -- The index within budgets, up to a call that is cut off, as a map of names.
-use Rattle.std.proofs.Common.{◌≡◌, ◌≢◌, ℕ, zero, suc, ◌+◌, ◌-◌, ◌<◌, ◌≤◌, ◌==◌, cond, Bool, true, false, List, [], ◌∷◌, ◌++◌, length, ◌⊎◌, ⊎_elim, inl, inr, refl, sym, ap, subst, ◌∙◌, arith, append-nil, length-append}
+use Rattle.std.proofs.Common.{◌≡◌, ◌≢◌, ℕ, zero, suc, ◌+◌, ◌-◌, ◌<◌, ◌≤◌, ◌==◌, cond, Bool, true, false, List, []}
+use Rattle.std.proofs.Common.{◌∷◌, ◌++◌, length, ◌⊎◌, ⊎_elim, inl, inr, refl, sym, ap, subst, ◌∙◌, arith, append-nil}
+use Rattle.std.proofs.Common.{length-append}
 use Rattle.std.specs.Prelude.{min, ◌^◌, ◌||◌, slice_set, Option, Some, None, IfSome, IsSome, Result, Ok, Err, nat_lt}
 use Rattle.std.specs.Option.{is_some}
 use Rattle.std.specs.FinMap.{len}
@@ -20,10 +22,10 @@ use Rattle.call_stages.specs.declared.once.Once.{Once}
 use Rattle.call_stages.specs.declared.once.Once.TheVariants as once
 use Rattle.call_stages.specs.declared.once.Placed.{Placed}
 use Rattle.pm_words.specs.declared.again.Again.{Again}
-use Rattle.node_ops.specs.declared.part.PartWords.{PartWords}
-use Rattle.node_ops.specs.declared.running.Running.{Running}
-use Rattle.node_ops.specs.Asked.{op_in}
-use Rattle.node_ops.specs.CallStages.{stage_of}
+use Rattle.core_rounds.specs.node_ops.specs.declared.part.PartWords.{PartWords}
+use Rattle.core_rounds.specs.node_ops.specs.declared.running.Running.{Running}
+use Rattle.core_rounds.specs.node_ops.specs.Asked.{op_in}
+use Rattle.core_rounds.specs.node_ops.specs.CallStages.{stage_of}
 use Rattle.shapes.specs.Anchors.{Anchors, put_anchors, del_anchors}
 use Rattle.shapes.specs.ShapeRounds.{PutsFull}
 use Rattle.shapes.specs.Weights.{IsShape}
@@ -32,50 +34,55 @@ use Rattle.index_law.specs.Anchors.{anchors_of, anchors_in, gone_nodes, members_
 use Rattle.index_law.proofs.Maps.{after_all-push}
 use Rattle.index_law.specs.Weights.{weight_sum}
 use Rattle.index_law.specs.Worlds.{Party, World, facts, written}
-use Rattle.lone_call_law.specs.Locks.{fewest_locks, locks_of}
-use Rattle.index_core.specs.declared.party.CoreCall.{CoreCall}
-use Rattle.index_core.specs.declared.party.CoreCall.TheVariants as call
+use Rattle.core_rounds.specs.lone_call_law.specs.Locks.{fewest_locks, locks_of}
+use Rattle.core_rounds.specs.index_core.specs.declared.party.CoreCall.{CoreCall}
+use Rattle.core_rounds.specs.index_core.specs.declared.party.CoreCall.TheVariants as call
 use mathlib.Core.Option.{some, some-injective}
 use Rattle.version_lock.specs.Versions.{IsFree}
 use Rattle.data_node.specs.Spots.{Spot, Means}
-use Rattle.call_stages.specs.Stages.{pended, Held, Grip, Pace, Gathered, Joined, Gone, Stage, Idle, Saw, Wears, Reads, Holds, Eyes, Splits, Leaves, Meets, Joins, HoldsNode}
+use Rattle.call_stages.specs.Stages.{pended, Held, Grip, Pace, Gathered, Joined, Gone, Stage, Idle, Saw, Wears, Reads}
+use Rattle.call_stages.specs.Stages.{Holds, Eyes, Splits, Leaves, Meets, Joins, HoldsNode}
 use Rattle.index_law.specs.Facts.{Facts, map_now, range_of, IsListed}
 use Rattle.index_law.specs.Lawful.{IsAtPace, IsHeld, Sure, SureHolds}
 use Rattle.index_law.proofs.Holding.{idle_has_shape, nodes_hold_shape}
 use Rattle.index_law.proofs.Starts.{listed_within}
-use Rattle.index_core.specs.PartyStates.{machine_stage, party_of}
-use Rattle.index_core.proofs.Lists.{map_from}
+use Rattle.core_rounds.specs.index_core.specs.PartyStates.{machine_stage, party_of}
+use Rattle.core_rounds.specs.index_core.proofs.Lists.{map_from}
 use lib.ListN.{get_elem?}
-use Rattle.index_core.specs.declared.party.PartyState.{PartyState}
-use Rattle.index_core.specs.declared.party.Whole.{Whole}
-use Rattle.index_core.specs.declared.party.Whole.TheVariants as whole
-use Rattle.index_core.specs.CoreCalls.{op_of}
-use Rattle.index_core.specs.Crashes.{cut_change, cut_changes, unplaced}
-use Rattle.index_core.specs.Fulls.{HasLowStamps}
-use Rattle.index_core.specs.Indexes.{Index, IsIndex, map_of_index, world}
-use Rattle.index_core.specs.Weights.{put_count}
-use Rattle.index_core.specs.Lone.{FindsNoRoom, HasNoCalls, IsMadeAgain, IsQuiet, IsStill, RunsAlone, state_done, locks_left, TakesLocks, most_tries, whole_of}
-use Rattle.index_core.specs.Withins.{CutsOff, CutsTurnOff, RanAlone, HasWritten, flight_place}
-use Rattle.index_core.specs.Turns.{TurnsAlone}
-use Rattle.updater.specs.declared.terms.Turned.{Turned}
-use Rattle.index_core.proofs.MachineLaw.{none_weigh}
-use Rattle.index_core.proofs.Alone.{target_has}
-use Rattle.index_core.proofs.Quiet.{idle_parties, quiet_is_still, rests}
+use Rattle.core_rounds.specs.index_core.specs.declared.party.PartyState.{PartyState}
+use Rattle.core_rounds.specs.index_core.specs.declared.party.Whole.{Whole}
+use Rattle.core_rounds.specs.index_core.specs.declared.party.Whole.TheVariants as whole
+use Rattle.core_rounds.specs.index_core.specs.CoreCalls.{op_of}
+use Rattle.core_rounds.specs.index_core.specs.Crashes.{cut_change, cut_changes, unplaced}
+use Rattle.core_rounds.specs.index_core.specs.Fulls.{HasLowStamps}
+use Rattle.core_rounds.specs.index_core.specs.Indexes.{Index, IsIndex, map_of_index, world}
+use Rattle.core_rounds.specs.index_core.specs.Weights.{put_count}
+use Rattle.core_rounds.specs.index_core.specs.Lone.{FindsNoRoom, HasNoCalls, IsMadeAgain, IsQuiet, IsStill, RunsAlone}
+use Rattle.core_rounds.specs.index_core.specs.Lone.{state_done, locks_left, TakesLocks, most_tries, whole_of}
+use Rattle.core_rounds.specs.index_core.specs.Withins.{CutsOff, CutsTurnOff, RanAlone, HasWritten, flight_place}
+use Rattle.core_rounds.specs.index_core.specs.Turns.{TurnsAlone}
+use Rattle.core_rounds.specs.updater.specs.declared.terms.Turned.{Turned}
+use Rattle.core_rounds.specs.index_core.proofs.MachineLaw.{none_weigh}
+use Rattle.core_rounds.specs.index_core.proofs.Alone.{target_has}
+use Rattle.core_rounds.specs.index_core.proofs.Quiet.{idle_parties, quiet_is_still, rests}
 use Rattle.index_law.proofs.Parties.{set_else, set_here}
 use Rattle.index_law.proofs.Sizes.{nodes_are_counted}
-use Rattle.lone_call_law.proofs.Shapes.{no_room_is_full}
-use Rattle.lone_updater_law.specs.LoneTurns.{stamp_in}
+use Rattle.core_rounds.specs.lone_call_law.proofs.Shapes.{no_room_is_full}
+use Rattle.core_rounds.specs.lone_updater_law.specs.LoneTurns.{stamp_in}
 use Rattle.shapes.specs.Anchors.{IsFullPut}
 use Rattle.cat_key.specs.Names.{IsName}
-use Rattle.node_ops.specs.Asked.{name_asked}
-use Rattle.index_core.proofs.CutCrashes.{cut_leaves_one, cut_turn_leaves_none}
+use Rattle.core_rounds.specs.node_ops.specs.Asked.{name_asked}
+use Rattle.core_rounds.specs.index_core.proofs.CutCrashes.{cut_leaves_one, cut_turn_leaves_none}
 use Rattle.stopped_rounds.specs.Bounded.{MapState, IsSame, put_added}
 use Rattle.stopped_rounds.specs.declared.bounded_map.Bounded.{Bounded}
 use Rattle.stopped_rounds.specs.declared.bounded_map.Bounded.TheVariants as bounded
 use Rattle.stopped_rounds.specs.MoreCuts.{AreAmong}
 use Rattle.core_rounds.specs.CoreMaps.{calls_left_of, writes_left_of, IsUnlimited, anchors_made}
-use Rattle.core_rounds.proofs.CoreMaps.{full_exactly, full_weighs, no_put_adds, part_weighs, stays_low, told_full, told_map, told_placed, told_weighs, turned_map}
-use Rattle.core_crashes.specs.CrashMaps.{Gave, WasCutBy, added_within, Stoppable, CanTurn, IsGoing, IsStoppable, anchors_by, anchors_changed, anchors_left, calls_of, writes_of, members_by, members_of, state_of}
+use Rattle.core_rounds.proofs.CoreMaps.{full_exactly, full_weighs, no_put_adds, part_weighs, stays_low, told_full}
+use Rattle.core_rounds.proofs.CoreMaps.{told_map, told_placed, told_weighs, turned_map}
+use Rattle.core_crashes.specs.CrashMaps.{Gave, WasCutBy, added_within, Stoppable, CanTurn, IsGoing, IsStoppable}
+use Rattle.core_crashes.specs.CrashMaps.{anchors_by, anchors_changed, anchors_left, calls_of, writes_of, members_by}
+use Rattle.core_crashes.specs.CrashMaps.{members_of, state_of}
 
 clash : {A : Type 0} {x : A} → None ≡ Some x → ⊥
 clash e = false≢true (ap is_some e)

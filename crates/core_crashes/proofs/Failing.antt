@@ -8,15 +8,15 @@ use Rattle.cat_history.specs.Writes.{after_all}
 use Rattle.cat_history.specs.CrashEnds.{IsCrashEnd}
 use Rattle.image_rules.specs.Rules.{header_generation}
 use Rattle.image_rules.proofs.MapLemmas.{has_one_map}
-use Rattle.image_layer_rules.specs.Sound.{IsSoundByAll}
-use Rattle.index_core.specs.declared.party.PartyState.{PartyState}
-use Rattle.index_core.specs.Crashes.{IsCrash, cut_changes}
-use Rattle.index_core.specs.CrashLaws.{chosen_index, crash_image}
+use Rattle.core_rounds.specs.image_layer_rules.specs.Sound.{IsSoundByAll}
+use Rattle.core_rounds.specs.index_core.specs.declared.party.PartyState.{PartyState}
+use Rattle.core_rounds.specs.index_core.specs.Crashes.{IsCrash, cut_changes}
+use Rattle.core_rounds.specs.index_core.specs.CrashLaws.{chosen_index, crash_image}
 use Rattle.index_law.specs.Weights.{weight_sum}
-use Rattle.index_core.specs.Indexes.{Index, IsIndex, map_of_index, world}
-use Rattle.index_core.proofs.CrashLaws.{chosen_weighs, crash_keeps_generation}
+use Rattle.core_rounds.specs.index_core.specs.Indexes.{Index, IsIndex, map_of_index, world}
+use Rattle.core_rounds.specs.index_core.proofs.CrashLaws.{chosen_weighs, crash_keeps_generation}
 use Rattle.core_rounds.proofs.CoreMaps.{opened_is_map}
-use Rattle.recovery.specs.Opened.{IsOpenedFrom}
+use Rattle.core_rounds.specs.recovery.specs.Opened.{IsOpenedFrom}
 use Rattle.core_crashes.specs.Power.{IsBehindCrash}
 
 module _ (s there : Index) (seed : ℕ) (is : there ≡ chosen_index s seed) (index : IsIndex there) (image : Row) (cuts : List PartyState) (crash : IsCrash there image cuts) where

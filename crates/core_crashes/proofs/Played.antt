@@ -1,5 +1,6 @@
 -- A round of one caller that stopped, its crash, and the index that is opened behind it.
-use Rattle.std.proofs.Common.{◌≡◌, ℕ, suc, ◌+◌, ◌<◌, ◌≤◌, ◌^◌, List, [], ◌∷◌, true, false, length, get_or, map, take, All, refl, sym, ap, subst, ◌∙◌, arith}
+use Rattle.std.proofs.Common.{◌≡◌, ℕ, suc, ◌+◌, ◌<◌, ◌≤◌, ◌^◌, List, [], ◌∷◌, true, false, length, get_or, map, take}
+use Rattle.std.proofs.Common.{All, refl, sym, ap, subst, ◌∙◌, arith}
 use Rattle.std.proofs.lemmas.Option.{slice_get-get_or}
 use Rattle.std.specs.Prelude.{Some, slice_get}
 use Rattle.std.specs.FinMap.{len}
@@ -33,30 +34,32 @@ use Rattle.stopped_rounds.specs.Stops.{HasStopped}
 use Rattle.stopped_rounds.specs.declared.crash_round.StoppedRound.{StoppedRound}
 use Rattle.stopped_rounds.proofs.LoneStopLemmas.{answered_are_done, lone_stops_are_stopped}
 use Rattle.stopped_rounds.proofs.MoreCutsLemmas.{more_cuts_are_crash_ends}
-use Rattle.updater_row_law.proofs.RowColumns.{column-same}
-use Rattle.lone_updater_law.specs.LoneTurns.{stamp_in}
+use Rattle.core_rounds.specs.updater_row_law.proofs.RowColumns.{column-same}
+use Rattle.core_rounds.specs.lone_updater_law.specs.LoneTurns.{stamp_in}
 use Rattle.index_law.specs.Anchors.{anchors_in}
 use Rattle.index_law.specs.Weights.{weight_sum}
-use Rattle.index_core.specs.Costs.{turn_actions}
-use Rattle.index_core.specs.CrashLaws.{chosen_index, crash_image}
-use Rattle.index_core.specs.Crashes.{cut_changes}
-use Rattle.index_core.specs.Fulls.{HasLowStamps}
-use Rattle.index_core.specs.Indexes.{Index, IsIndex, map_of_index, world}
-use Rattle.index_core.specs.Lone.{IsQuiet}
-use Rattle.index_core.specs.Rounds.{BeginsRound, round_index}
-use Rattle.index_core.specs.Weights.{weight_of}
-use Rattle.index_core.proofs.MachineLaw.{idle_weigh}
-use Rattle.index_core.proofs.Rounds.{round_is}
+use Rattle.core_rounds.specs.index_core.specs.Costs.{turn_actions}
+use Rattle.core_rounds.specs.index_core.specs.CrashLaws.{chosen_index, crash_image}
+use Rattle.core_rounds.specs.index_core.specs.Crashes.{cut_changes}
+use Rattle.core_rounds.specs.index_core.specs.Fulls.{HasLowStamps}
+use Rattle.core_rounds.specs.index_core.specs.Indexes.{Index, IsIndex, map_of_index, world}
+use Rattle.core_rounds.specs.index_core.specs.Lone.{IsQuiet}
+use Rattle.core_rounds.specs.index_core.specs.Rounds.{BeginsRound, round_index}
+use Rattle.core_rounds.specs.index_core.specs.Weights.{weight_of}
+use Rattle.core_rounds.specs.index_core.proofs.MachineLaw.{idle_weigh}
+use Rattle.core_rounds.specs.index_core.proofs.Rounds.{round_is}
 use Rattle.core_rounds.specs.CoreMaps.{IsCoreMap}
 use Rattle.core_rounds.specs.Rounds.{IsLoneCrash}
 use Rattle.core_rounds.specs.Waiting.{puts_among}
 use Rattle.core_rounds.proofs.CoreMaps.{core_light, core_shape, opened_is_map}
 use Rattle.core_rounds.specs.CrashWork.{most_events}
-use Rattle.core_crashes.specs.CrashMaps.{MakeNoTurns, Stoppable, anchors_by, members_by, members_of, most_between, state_of, weighs_of}
+use Rattle.core_crashes.specs.CrashMaps.{MakeNoTurns, Stoppable, anchors_by, members_by, members_of, most_between}
+use Rattle.core_crashes.specs.CrashMaps.{state_of, weighs_of}
 use Rattle.core_crashes.specs.Power.{IsBehindCrash}
 use Rattle.core_crashes.specs.Rounds.{IsPlayedLoneCrash}
 use Rattle.core_crashes.specs.Stops.{StopsOn}
-use Rattle.core_crashes.proofs.Settled.{added-settled, answered-settled, calls-settled, names-found, paid-settled, told-settled, writes-settled}
+use Rattle.core_crashes.proofs.Settled.{added-settled, answered-settled, calls-settled, names-found, paid-settled}
+use Rattle.core_crashes.proofs.Settled.{told-settled, writes-settled}
 use Rattle.core_crashes.proofs.Turnless.{in_time-of, in_time-settled}
 
 -- ---- a core in which the round begins

@@ -1,5 +1,7 @@
 -- Calls that make no turns of the updater: how many events each takes of its budget, and what it leaves to those behind it.
-use Rattle.std.proofs.Common.{◌≡◌, ◌≢◌, ℕ, zero, suc, ◌+◌, ◌*◌, ◌/◌, ◌<◌, ◌≤◌, ◌==◌, ◌⊎◌, ⊎_elim, Bool, true, false, cond, List, [], ◌∷◌, ◌++◌, drop, take, length, map, All, refl, sym, ap, subst, ◌∙◌, arith}
+use Rattle.std.proofs.Common.{◌≡◌, ◌≢◌, ℕ, zero, suc, ◌+◌, ◌*◌, ◌/◌, ◌<◌, ◌≤◌, ◌==◌, ◌⊎◌, ⊎_elim, Bool, true, false}
+use Rattle.std.proofs.Common.{cond, List, [], ◌∷◌, ◌++◌, drop, take, length, map, All, refl, sym, ap, subst, ◌∙◌}
+use Rattle.std.proofs.Common.{arith}
 use Rattle.std.proofs.lemmas.List.Sums.{sum_by-cons, sum_by-take-drop}
 use Rattle.std.proofs.lemmas.Option.{slice_get-map, slice_get_within}
 use Rattle.std.specs.Prelude.{Option, Some, None, Result, Ok, Err, option_map, slice_get}
@@ -21,37 +23,38 @@ use Rattle.pm_words.proofs.Apart.{at-set_other}
 use Rattle.call_stages.specs.declared.once.Once.{Once}
 use Rattle.call_stages.specs.declared.once.Once.TheVariants as once
 use Rattle.call_stages.specs.declared.once.Placed.{Placed}
-use Rattle.lone_updater_law.specs.CallLogs.{empty_lines, ready_lines}
-use Rattle.lone_updater_law.specs.LoneTurns.{line_state}
-use Rattle.updater_row_law.specs.Columns.{line_count, line_word}
-use Rattle.updater_row_law.proofs.RowColumns.{column-same}
-use Rattle.updater.specs.Events.{how_many}
-use Rattle.index_core.specs.CoreCalls.{most_writes, op_of}
-use Rattle.index_core.specs.Costs.{WithMost, most_actions}
-use Rattle.index_core.specs.Indexes.{Index, IsIndex, map_of_index, world}
-use Rattle.index_core.specs.Lone.{HasShortWays, IsQuiet, IsStill, NeedsNoTurn, RunsAlone, locks_left, taken_nodes, whole_of}
-use Rattle.index_core.specs.Rounds.{BeginsRound, round_index}
-use Rattle.index_core.specs.Withins.{ComesInTime}
-use Rattle.index_core.specs.declared.party.CoreCall.{CoreCall}
-use Rattle.index_core.specs.declared.party.CoreCall.TheVariants as call
-use Rattle.index_core.proofs.Costs.{actions_are_few}
-use Rattle.index_core.proofs.Taken.{del_length, put_length, taken_kept}
+use Rattle.core_rounds.specs.lone_updater_law.specs.CallLogs.{empty_lines, ready_lines}
+use Rattle.core_rounds.specs.lone_updater_law.specs.LoneTurns.{line_state}
+use Rattle.core_rounds.specs.updater_row_law.specs.Columns.{line_count, line_word}
+use Rattle.core_rounds.specs.updater_row_law.proofs.RowColumns.{column-same}
+use Rattle.core_rounds.specs.updater.specs.Events.{how_many}
+use Rattle.core_rounds.specs.index_core.specs.CoreCalls.{most_writes, op_of}
+use Rattle.core_rounds.specs.index_core.specs.Costs.{WithMost, most_actions}
+use Rattle.core_rounds.specs.index_core.specs.Indexes.{Index, IsIndex, map_of_index, world}
+use Rattle.core_rounds.specs.index_core.specs.Lone.{HasShortWays, IsQuiet, IsStill, NeedsNoTurn, RunsAlone}
+use Rattle.core_rounds.specs.index_core.specs.Lone.{locks_left, taken_nodes, whole_of}
+use Rattle.core_rounds.specs.index_core.specs.Rounds.{BeginsRound, round_index}
+use Rattle.core_rounds.specs.index_core.specs.Withins.{ComesInTime}
+use Rattle.core_rounds.specs.index_core.specs.declared.party.CoreCall.{CoreCall}
+use Rattle.core_rounds.specs.index_core.specs.declared.party.CoreCall.TheVariants as call
+use Rattle.core_rounds.specs.index_core.proofs.Costs.{actions_are_few}
+use Rattle.core_rounds.specs.index_core.proofs.Taken.{del_length, put_length, taken_kept}
 use Rattle.version_lock.specs.Versions.{IsWorn}
 use Rattle.shapes.specs.Anchors.{Anchors, del_anchors, merges, middle_of, past, put_anchors, splits, up_to}
 use Rattle.shapes.specs.declared.map.Full.{Full as NoRoom}
 use Rattle.index_law.specs.Anchors.{anchors_in, anchors_of, gone_nodes}
 use Rattle.index_law.specs.Facts.{Facts}
 use Rattle.index_law.specs.Worlds.{facts}
-use Rattle.lone_call_law.specs.Locks.{fewest_locks}
-use Rattle.lone_call_law.proofs.Locks.{worn_has_none}
-use Rattle.lone_updater_law.specs.CallLogs.{is_own_empty}
-use Rattle.lone_updater_law.specs.LoneTurns.{is_ready, stamp_in}
-use Rattle.lone_updater_law.proofs.Ending.{gone_are_held_back}
-use Rattle.updater.specs.declared.terms.Turned.{Turned}
-use Rattle.index_core.specs.Fulls.{HasLowStamps}
-use Rattle.index_core.specs.Indexes.{layered}
-use Rattle.index_core.specs.Turns.{TurnsAlone}
-use Rattle.index_core.proofs.Retrying.{turned_short}
+use Rattle.core_rounds.specs.lone_call_law.specs.Locks.{fewest_locks}
+use Rattle.core_rounds.specs.lone_call_law.proofs.Locks.{worn_has_none}
+use Rattle.core_rounds.specs.lone_updater_law.specs.CallLogs.{is_own_empty}
+use Rattle.core_rounds.specs.lone_updater_law.specs.LoneTurns.{is_ready, stamp_in}
+use Rattle.core_rounds.specs.lone_updater_law.proofs.Ending.{gone_are_held_back}
+use Rattle.core_rounds.specs.updater.specs.declared.terms.Turned.{Turned}
+use Rattle.core_rounds.specs.index_core.specs.Fulls.{HasLowStamps}
+use Rattle.core_rounds.specs.index_core.specs.Indexes.{layered}
+use Rattle.core_rounds.specs.index_core.specs.Turns.{TurnsAlone}
+use Rattle.core_rounds.specs.index_core.proofs.Retrying.{turned_short}
 use Rattle.stopped_rounds.specs.Bounded.{MapState}
 use Rattle.stopped_rounds.specs.InTime.{AreInTime}
 use Rattle.core_rounds.specs.CoreMaps.{IsUnlimited, Waits, calls_left_of, changes_for, puts_for}

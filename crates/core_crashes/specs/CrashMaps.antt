@@ -12,19 +12,19 @@ use Rattle.cat_history.specs.declared.op.Change.TheVariants.{Put, Del}
 use Rattle.cat_history.specs.declared.op.NameOp.{NameOp}
 use Rattle.cat_history.specs.declared.op.Write.{Write}
 use Rattle.call_stages.specs.Stages.{pended}
-use Rattle.node_ops.specs.Asked.{name_asked}
+use Rattle.core_rounds.specs.node_ops.specs.Asked.{name_asked}
 use Rattle.shapes.specs.Anchors.{Anchors, put_anchors, del_anchors}
 use Rattle.shapes.specs.ShapeRounds.{PutsFull}
 use Rattle.shapes.specs.Weights.{IsShape}
 use Rattle.shapes.specs.declared.map.Full.{Full}
 use Rattle.index_law.specs.Anchors.{anchors_in}
-use Rattle.index_core.specs.declared.party.CoreCall.{CoreCall}
-use Rattle.index_core.specs.CoreCalls.{op_of}
-use Rattle.index_core.specs.Crashes.{cut_changes}
-use Rattle.index_core.specs.Fulls.{HasLowStamps}
-use Rattle.index_core.specs.Indexes.{Index, IsIndex, map_of_index, world}
-use Rattle.index_core.specs.Lone.{HasShortWays, IsQuiet, IsStill}
-use Rattle.index_core.specs.Weights.{added_if, put_count}
+use Rattle.core_rounds.specs.index_core.specs.declared.party.CoreCall.{CoreCall}
+use Rattle.core_rounds.specs.index_core.specs.CoreCalls.{op_of}
+use Rattle.core_rounds.specs.index_core.specs.Crashes.{cut_changes}
+use Rattle.core_rounds.specs.index_core.specs.Fulls.{HasLowStamps}
+use Rattle.core_rounds.specs.index_core.specs.Indexes.{Index, IsIndex, map_of_index, world}
+use Rattle.core_rounds.specs.index_core.specs.Lone.{HasShortWays, IsQuiet, IsStill}
+use Rattle.core_rounds.specs.index_core.specs.Weights.{added_if, put_count}
 use Rattle.index_law.specs.Weights.{weight_sum}
 use Rattle.core_rounds.specs.CoreMaps.{Waits, calls_left_of, writes_left_of}
 use Rattle.core_rounds.specs.Waiting.{puts_among, writes_among}

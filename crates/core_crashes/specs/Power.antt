@@ -1,12 +1,12 @@
 -- The index behind a crash.
 use Rattle.std.specs.Prelude.{◌≡◌, ℕ, ◌≤◌, suc}
 use Rattle.cat_history.specs.CrashEnds.{IsCrashEnd}
-use Rattle.index_core.specs.CrashLaws.{chosen_index, crash_image}
-use Rattle.index_core.specs.Crashes.{cut_changes}
+use Rattle.core_rounds.specs.index_core.specs.CrashLaws.{chosen_index, crash_image}
+use Rattle.core_rounds.specs.index_core.specs.Crashes.{cut_changes}
 use Rattle.index_law.specs.Weights.{weight_sum}
-use Rattle.index_core.specs.Indexes.{Index, map_of_index, world}
-use Rattle.index_core.specs.Weights.{weight_of}
-use Rattle.recovery.specs.Opened.{IsOpenedFrom}
+use Rattle.core_rounds.specs.index_core.specs.Indexes.{Index, map_of_index, world}
+use Rattle.core_rounds.specs.index_core.specs.Weights.{weight_of}
+use Rattle.core_rounds.specs.recovery.specs.Opened.{IsOpenedFrom}
 
 -- Power failed once those words were durable that the seed chooses, and the image that was left of the index was
 -- opened, in the next generation. Its map is the one after the whole history and after those of the unplaced writes in

@@ -10,11 +10,11 @@ use Rattle.cat_text.specs.declared.report.RoundReport.{RoundReport}
 use Rattle.pm_words.specs.Images.{Row}
 use Rattle.shapes.specs.ShapeRounds.{puts_added, FullIsPaid, IsShapeWithin}
 use Rattle.index_law.specs.Anchors.{anchors_in}
-use Rattle.index_core.specs.Costs.{turn_actions}
-use Rattle.index_core.specs.CrashLaws.{chosen_index, crash_image}
-use Rattle.index_core.specs.Indexes.{Index, map_of_index, world}
-use Rattle.index_core.specs.Weights.{weight_of}
-use Rattle.recovery.specs.Opened.{IsOpenedFrom}
+use Rattle.core_rounds.specs.index_core.specs.Costs.{turn_actions}
+use Rattle.core_rounds.specs.index_core.specs.CrashLaws.{chosen_index, crash_image}
+use Rattle.core_rounds.specs.index_core.specs.Indexes.{Index, map_of_index, world}
+use Rattle.core_rounds.specs.index_core.specs.Weights.{weight_of}
+use Rattle.core_rounds.specs.recovery.specs.Opened.{IsOpenedFrom}
 use Rattle.stopped_rounds.specs.InTime.{AreInTime, AreOnNames, HasNoTurns, HasTimelyTurns}
 use Rattle.core_rounds.specs.Rounds.{IsCrashedRound, IsLoneCrash}
 use Rattle.core_rounds.specs.Waiting.{puts_among}

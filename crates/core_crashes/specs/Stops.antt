@@ -6,9 +6,9 @@ use Rattle.shapes.specs.Anchors.{Anchors}
 use Rattle.shapes.specs.ShapeRounds.{puts_added}
 use Rattle.index_law.specs.Anchors.{anchors_in}
 use Rattle.index_law.specs.Weights.{weight_sum}
-use Rattle.index_core.specs.Costs.{turn_actions}
-use Rattle.index_core.specs.Crashes.{cut_changes}
-use Rattle.index_core.specs.Indexes.{Index, IsIndex, map_of_index, world}
+use Rattle.core_rounds.specs.index_core.specs.Costs.{turn_actions}
+use Rattle.core_rounds.specs.index_core.specs.Crashes.{cut_changes}
+use Rattle.core_rounds.specs.index_core.specs.Indexes.{Index, IsIndex, map_of_index, world}
 use Rattle.stopped_rounds.specs.InTime.{AreInTime, AreOnNames, HasNoTurns, HasTimelyTurns}
 use Rattle.stopped_rounds.specs.Replies.{SettlesToReport}
 use Rattle.stopped_rounds.specs.Stops.{HasStopped}

@@ -2,25 +2,25 @@
 
 ghost use Rattle.std.specs.Prelude.{◌≡◌, ℕ, ◌+◌, ◌<◌, ◌≤◌, List, [], ◌∷◌, IfOk, false};
 ghost use Rattle.cat_history.specs.Records.{as_op, change_of};
-ghost use Rattle.index_core.specs.CoreCalls.{most_writes, op_of};
-ghost use Rattle.index_core.specs.Indexes.{IsIndex};
-ghost use Rattle.index_core.specs.Listings.{ListsRange};
+ghost use Rattle.core_rounds.specs.index_core.specs.CoreCalls.{most_writes, op_of};
+ghost use Rattle.core_rounds.specs.index_core.specs.Indexes.{IsIndex};
+ghost use Rattle.core_rounds.specs.index_core.specs.Listings.{ListsRange};
 ghost use Rattle.shapes.specs.Anchors.{next_of};
 ghost use Rattle.cat_history.specs.declared.op.CallerOp.{CallerOp};
 ghost use Rattle.stopped_rounds.specs.Bounded.{ComesTo, IsInTime, IsSame};
 ghost use Rattle.core_rounds.specs.CoreMaps.{IsOfRun, IsUnlimited};
 ghost use Rattle.core_rounds.specs.CrashWork.{most_events};
 ghost use Rattle.core_crashes.specs.CrashMaps.{FindRoom, Gave, IsTurnless, WasCutBy, added_within};
-ghost use Rattle.index_core.specs.Fulls.{HasLowStamps};
-ghost use Rattle.index_core.specs.Lone.{IsQuiet};
+ghost use Rattle.core_rounds.specs.index_core.specs.Fulls.{HasLowStamps};
+ghost use Rattle.core_rounds.specs.index_core.specs.Lone.{IsQuiet};
 ghost use Rattle.index_law.specs.Anchors.{anchors_in};
-ghost use Rattle.index_core.specs.Indexes.{world};
+ghost use Rattle.core_rounds.specs.index_core.specs.Indexes.{world};
 
 use call_stages::Once;
 use cat_history::{Items, NoMemory};
 use cat_key::Name;
-use index_core::{Core, CoreCall, LONE_STAMP, listed_pairs};
-use node_ops::PartWords;
+use core_rounds::index_core::{Core, CoreCall, LONE_STAMP, listed_pairs};
+use core_rounds::node_ops::PartWords;
 use pm_words::{MOST_WRITES, Steps};
 use shapes::{Full, MapPart};
 use std::alloc::Global;
@@ -196,7 +196,7 @@ impl<L: Ledger, K: CrashRun> CrashMap<L, K> {
 }
 
 impl<L: Ledger, K: CrashRun> BoundedMap for CrashMap<L, K> {
-    ghost use Rattle.index_core.specs.Costs.{turn_actions};
+    ghost use Rattle.core_rounds.specs.index_core.specs.Costs.{turn_actions};
     ghost use Rattle.core_rounds.specs.CrashWork.{most_events};
     ghost use Rattle.core_crashes.specs.CrashMaps.{FindRoom, IsTurnless, calls_of, most_between, state_of};
     ghost use Rattle.core_crashes.specs.CrashMaps.{weighs_of, writes_of};

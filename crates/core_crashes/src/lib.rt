@@ -10,4 +10,6 @@ mod crash_map;
 mod power;
 mod round;
 
+pub use core_rounds;
+pub use core_rounds::recovery;
 pub use round::{CrashedRound, crash_round};

@@ -2,13 +2,13 @@
 
 ghost use Rattle.std.specs.Prelude.{◌≡◌, IfOk, suc};
 ghost use Rattle.version_lock.specs.Versions.{IsGeneration};
-ghost use Rattle.index_core.specs.CrashLaws.{chosen_index};
-ghost use Rattle.index_core.specs.Indexes.{IsIndex};
+ghost use Rattle.core_rounds.specs.index_core.specs.CrashLaws.{chosen_index};
+ghost use Rattle.core_rounds.specs.index_core.specs.Indexes.{IsIndex};
 ghost use Rattle.core_crashes.specs.Power.{IsBehindCrash};
 
 use cat_history::NoMemory;
-use index_core::{Core, is_chosen};
-use recovery::recover_sound;
+use core_rounds::index_core::{Core, is_chosen};
+use core_rounds::recovery::recover_sound;
 use std::alloc::Global;
 
 /// Makes those image words durable that the seed chooses.

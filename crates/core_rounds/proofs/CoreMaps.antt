@@ -1,6 +1,8 @@
 -- The index as a map of names: its names counted, its calls left, and its shape.
 use native.Mathlib.Nat.{mul-le-mul}
-use Rattle.std.proofs.Common.{◌≡◌, ◌≢◌, ℕ, ◌+◌, ◌-◌, ◌*◌, ◌<◌, ◌≤◌, ◌==◌, ◌&&◌, Bool, true, false, cond, zero, suc, List, [], ◌∷◌, length, ◌⊎◌, ⊎_elim, refl, le_trans, inl, inr, sym, ap, ◌∙◌, subst, arith, length-append, ◌++◌, append-nil}
+use Rattle.std.proofs.Common.{◌≡◌, ◌≢◌, ℕ, ◌+◌, ◌-◌, ◌*◌, ◌<◌, ◌≤◌, ◌==◌, ◌&&◌, Bool, true, false, cond, zero, suc}
+use Rattle.std.proofs.Common.{List, [], ◌∷◌, length, ◌⊎◌, ⊎_elim, refl, le_trans, inl, inr, sym, ap, ◌∙◌, subst}
+use Rattle.std.proofs.Common.{arith, length-append, ◌++◌, append-nil}
 use Rattle.std.specs.Prelude.{Option, ◌↔◌, ◌^◌, is_none, nat_lt, Some, None, OnErr, Result, Ok, Err}
 use Rattle.std.specs.List.{flat_map, AllByRecursion}
 use Rattle.std.specs.Option.{is_some}
@@ -29,9 +31,9 @@ use Rattle.shapes.proofs.Targets.{members_part_names}
 use Rattle.call_stages.specs.declared.once.Once.{Once}
 use Rattle.call_stages.specs.declared.once.Once.TheVariants as once
 use Rattle.call_stages.specs.declared.once.Placed.{Placed}
-use Rattle.node_ops.specs.declared.part.PartWords.{PartWords}
+use Rattle.recovery.specs.node_ops.specs.declared.part.PartWords.{PartWords}
 use Rattle.pm_words.specs.declared.again.Again.{Again}
-use Rattle.node_ops.specs.Asked.{name_asked}
+use Rattle.recovery.specs.node_ops.specs.Asked.{name_asked}
 use Rattle.data_node.specs.Lists.{key_of}
 use Rattle.data_node.proofs.ListLemmas.{chain_closed, target_in}
 use Rattle.shapes.specs.ShapeRounds.{IsShapeWithin}
@@ -39,31 +41,34 @@ use Rattle.index_law.specs.Anchors.{anchors_of, anchors_in}
 use Rattle.index_law.specs.Worlds.{World, facts}
 use Rattle.index_law.proofs.Holding.{idle_has_shape}
 use Rattle.index_law.proofs.Starts.{listed_within}
-use Rattle.lone_call_law.specs.Merging.{NextIsWorn, next_node}
-use Rattle.lone_call_law.proofs.Locks.{worn_has_none}
-use Rattle.index_core.specs.Indexes.{Index, IsIndex, map_of_index, world}
-use Rattle.index_core.specs.Lone.{IsQuiet, FindsNoRoom, FindsWornNode, HasSameList, IsOver, IsWornNode, IsWholeAnswer, RunsAlone, LeavesList, most_tries, SplitsFor, SplitsNothing, MergesFor, MergesNothing, node_for, locks_left, alone_writes, whole_of, part_whole}
-use Rattle.index_core.specs.declared.party.CoreCall.TheVariants as call
-use Rattle.index_core.specs.declared.party.CoreCall.{CoreCall}
-use Rattle.index_core.specs.declared.party.Whole.{Whole}
-use Rattle.index_core.specs.declared.party.Whole.TheVariants as whole
-use Rattle.index_core.specs.CoreCalls.{op_of, most_writes}
-use Rattle.index_core.specs.Fulls.{HasLowStamps}
-use Rattle.index_core.specs.Weights.{added_if, added_whole, put_count, weight_of}
+use Rattle.recovery.specs.lone_call_law.specs.Merging.{NextIsWorn, next_node}
+use Rattle.recovery.specs.lone_call_law.proofs.Locks.{worn_has_none}
+use Rattle.recovery.specs.index_core.specs.Indexes.{Index, IsIndex, map_of_index, world}
+use Rattle.recovery.specs.index_core.specs.Lone.{IsQuiet, FindsNoRoom, FindsWornNode, HasSameList, IsOver, IsWornNode}
+use Rattle.recovery.specs.index_core.specs.Lone.{IsWholeAnswer, RunsAlone, LeavesList, most_tries, SplitsFor}
+use Rattle.recovery.specs.index_core.specs.Lone.{SplitsNothing, MergesFor, MergesNothing, node_for, locks_left}
+use Rattle.recovery.specs.index_core.specs.Lone.{alone_writes, whole_of, part_whole}
+use Rattle.recovery.specs.index_core.specs.declared.party.CoreCall.TheVariants as call
+use Rattle.recovery.specs.index_core.specs.declared.party.CoreCall.{CoreCall}
+use Rattle.recovery.specs.index_core.specs.declared.party.Whole.{Whole}
+use Rattle.recovery.specs.index_core.specs.declared.party.Whole.TheVariants as whole
+use Rattle.recovery.specs.index_core.specs.CoreCalls.{op_of, most_writes}
+use Rattle.recovery.specs.index_core.specs.Fulls.{HasLowStamps}
+use Rattle.recovery.specs.index_core.specs.Weights.{added_if, added_whole, put_count, weight_of}
 use Rattle.cat_history.specs.declared.op.NameOp.{NameOp}
 use Rattle.cat_history.specs.declared.op.NameOp.TheVariants as op
-use Rattle.lone_updater_law.specs.CallLogs.{is_own_empty}
-use Rattle.lone_updater_law.specs.LoneTurns.{is_ready, line_state, stamp_in, stamp_then}
-use Rattle.updater_row_law.specs.Columns.{column, line_count, line_word}
-use Rattle.updater_row_law.proofs.RowColumns.{column-here}
-use Rattle.image_recovery_law.proofs.RowColumns.{word_if-here}
-use Rattle.updater.specs.Events.{how_many}
-use Rattle.updater.specs.declared.terms.Turned.{Turned}
-use Rattle.index_core.specs.Turns.{TurnsAlone}
-use Rattle.index_core.proofs.WornNodes.{worn_target}
-use Rattle.index_core.proofs.Retrying.{stamped_are_gone}
-use Rattle.index_core.proofs.Quiet.{quiet_parties}
-use Rattle.index_core.proofs.Fulls.{no_room_is_full_put}
+use Rattle.recovery.specs.lone_updater_law.specs.CallLogs.{is_own_empty}
+use Rattle.recovery.specs.lone_updater_law.specs.LoneTurns.{is_ready, line_state, stamp_in, stamp_then}
+use Rattle.recovery.specs.updater_row_law.specs.Columns.{column, line_count, line_word}
+use Rattle.recovery.specs.updater_row_law.proofs.RowColumns.{column-here}
+use Rattle.recovery.specs.image_recovery_law.proofs.RowColumns.{word_if-here}
+use Rattle.recovery.specs.updater.specs.Events.{how_many}
+use Rattle.recovery.specs.updater.specs.declared.terms.Turned.{Turned}
+use Rattle.recovery.specs.index_core.specs.Turns.{TurnsAlone}
+use Rattle.recovery.specs.index_core.proofs.WornNodes.{worn_target}
+use Rattle.recovery.specs.index_core.proofs.Retrying.{stamped_are_gone}
+use Rattle.recovery.specs.index_core.proofs.Quiet.{quiet_parties}
+use Rattle.recovery.specs.index_core.proofs.Fulls.{no_room_is_full_put}
 use Rattle.std.proofs.lemmas.List.{length-map}
 use Rattle.std.specs.FinMap.{entries, len-entries}
 use Rattle.cat_history.proofs.ReplayLemmas.{map_of-pairs_of}
@@ -72,7 +77,8 @@ use Rattle.pm_words.specs.Locations.{Cached}
 use Rattle.pm_words.specs.Locations as positions
 use Rattle.image_rules.specs.Sound.{IsMapOf, image_map}
 use Rattle.index_law.specs.Anchors.{image_anchors}
-use Rattle.core_rounds.specs.CoreMaps.{calls_left_of, writes_left_of, IsUnlimited, HasNoLines, IsCoreMap, IsOfRun, OpenedIsMap, Waits, anchors_made}
+use Rattle.core_rounds.specs.CoreMaps.{calls_left_of, writes_left_of, IsUnlimited, HasNoLines, IsCoreMap, IsOfRun}
+use Rattle.core_rounds.specs.CoreMaps.{OpenedIsMap, Waits, anchors_made}
 use Rattle.core_rounds.specs.Waiting.{one_if}
 use Rattle.recovery.specs.Opened.{IsOpenedFrom}
 use Rattle.recovery.proofs.Opened.{with_room}

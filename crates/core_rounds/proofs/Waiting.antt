@@ -1,5 +1,6 @@
 -- What calls on an index leave to the updater.
-use Rattle.std.proofs.Common.{◌≡◌, ℕ, zero, suc, ◌+◌, ◌*◌, ◌<◌, ◌≤◌, ◌==◌, ◌⊎◌, ⊎_elim, inl, inr, Bool, false, cond, List, length, refl, sym, ap, ◌∙◌, subst, arith}
+use Rattle.std.proofs.Common.{◌≡◌, ℕ, zero, suc, ◌+◌, ◌*◌, ◌<◌, ◌≤◌, ◌==◌, ◌⊎◌, ⊎_elim, inl, inr, Bool, false, cond}
+use Rattle.std.proofs.Common.{List, length, refl, sym, ap, ◌∙◌, subst, arith}
 use Rattle.std.proofs.lemmas.Bool.{cases_eq}
 use Rattle.pm_words.specs.Codes.{empty_state, ready_state}
 use Rattle.pm_words.specs.declared.layout.Layout.{Layout}
@@ -7,22 +8,23 @@ use Rattle.shapes.specs.Anchors.{Anchors, merges}
 use Rattle.data_node.specs.Lists.{ListNode}
 use Rattle.call_stages.specs.declared.once.Placed.{Placed}
 use Rattle.index_law.specs.Anchors.{anchors_in, anchors_of}
-use Rattle.lone_call_law.specs.Merging.{NextIsWorn}
+use Rattle.recovery.specs.lone_call_law.specs.Merging.{NextIsWorn}
 use Rattle.index_law.specs.Worlds.{World}
-use Rattle.lone_updater_law.specs.CallLogs.{KeepsLines, MakesReady, empty_lines, is_own_empty}
-use Rattle.lone_updater_law.specs.LoneTurns.{line_state}
-use Rattle.lone_updater_law.proofs.ReadyCounts.{empty_are_counted, ready_are_counted}
+use Rattle.recovery.specs.lone_updater_law.specs.CallLogs.{KeepsLines, MakesReady, empty_lines, is_own_empty}
+use Rattle.recovery.specs.lone_updater_law.specs.LoneTurns.{line_state}
+use Rattle.recovery.specs.lone_updater_law.proofs.ReadyCounts.{empty_are_counted, ready_are_counted}
 use Rattle.updater_law.proofs.Columns.{other}
-use Rattle.updater.specs.Events.{how_many}
-use Rattle.index_core.specs.CoreCalls.{most_writes}
-use Rattle.index_core.specs.Indexes.{Index, IsIndex, map_of_index, world}
-use Rattle.index_core.specs.Lone.{HasNoCalls, HasSameList, LeavesList, MergesFor, MergesNothing, NeedsNoTurn, RunsAlone, SplitsFor, SplitsNothing, taken_nodes}
-use Rattle.index_core.specs.declared.party.CoreCall.{CoreCall}
-use Rattle.index_core.specs.declared.party.CoreCall.TheVariants as call
-use Rattle.index_core.specs.declared.party.Whole.{Whole}
-use Rattle.index_core.specs.declared.party.Whole.TheVariants as whole
-use Rattle.index_core.proofs.Logs.{room_needs_no_turn}
-use Rattle.index_core.proofs.Taken.{del_length, put_length}
+use Rattle.recovery.specs.updater.specs.Events.{how_many}
+use Rattle.recovery.specs.index_core.specs.CoreCalls.{most_writes}
+use Rattle.recovery.specs.index_core.specs.Indexes.{Index, IsIndex, map_of_index, world}
+use Rattle.recovery.specs.index_core.specs.Lone.{HasNoCalls, HasSameList, LeavesList, MergesFor, MergesNothing}
+use Rattle.recovery.specs.index_core.specs.Lone.{NeedsNoTurn, RunsAlone, SplitsFor, SplitsNothing, taken_nodes}
+use Rattle.recovery.specs.index_core.specs.declared.party.CoreCall.{CoreCall}
+use Rattle.recovery.specs.index_core.specs.declared.party.CoreCall.TheVariants as call
+use Rattle.recovery.specs.index_core.specs.declared.party.Whole.{Whole}
+use Rattle.recovery.specs.index_core.specs.declared.party.Whole.TheVariants as whole
+use Rattle.recovery.specs.index_core.proofs.Logs.{room_needs_no_turn}
+use Rattle.recovery.specs.index_core.proofs.Taken.{del_length, put_length}
 use Rattle.core_rounds.specs.CoreMaps.{Waits, calls_left_of, changes_for, puts_for}
 use Rattle.core_rounds.specs.Waiting.{one_if}
 use Rattle.core_rounds.proofs.CoreMaps.{locks_remain, next_unworn}

@@ -11,17 +11,17 @@ use Rattle.shapes.specs.ShapeRounds.{IsShapeWithin}
 use Rattle.image_rules.specs.Rules.{header_generation}
 use Rattle.image_rules.specs.Sound.{IsMapOf, image_map}
 use Rattle.image_rules.specs.Weights.{image_weight}
-use Rattle.image_layer_rules.specs.Sound.{IsSoundByAll}
+use Rattle.recovery.specs.image_layer_rules.specs.Sound.{IsSoundByAll}
 use Rattle.index_law.specs.Anchors.{anchors_in, image_anchors}
-use Rattle.lone_updater_law.specs.CallLogs.{empty_lines, ready_lines}
-use Rattle.lone_updater_law.specs.LoneTurns.{line_state}
-use Rattle.updater.specs.Events.{how_many}
-use Rattle.index_core.specs.declared.party.CoreCall.{CoreCall}
-use Rattle.index_core.specs.declared.party.CoreCall.TheVariants as call
-use Rattle.index_core.specs.Indexes.{Index, IsIndex, map_of_index, world}
-use Rattle.index_core.specs.Lone.{IsQuiet, locks_left, taken_nodes}
-use Rattle.index_core.specs.Fulls.{HasLowStamps}
-use Rattle.index_core.specs.Weights.{weight_of}
+use Rattle.recovery.specs.lone_updater_law.specs.CallLogs.{empty_lines, ready_lines}
+use Rattle.recovery.specs.lone_updater_law.specs.LoneTurns.{line_state}
+use Rattle.recovery.specs.updater.specs.Events.{how_many}
+use Rattle.recovery.specs.index_core.specs.declared.party.CoreCall.{CoreCall}
+use Rattle.recovery.specs.index_core.specs.declared.party.CoreCall.TheVariants as call
+use Rattle.recovery.specs.index_core.specs.Indexes.{Index, IsIndex, map_of_index, world}
+use Rattle.recovery.specs.index_core.specs.Lone.{IsQuiet, locks_left, taken_nodes}
+use Rattle.recovery.specs.index_core.specs.Fulls.{HasLowStamps}
+use Rattle.recovery.specs.index_core.specs.Weights.{weight_of}
 use Rattle.recovery.specs.Opened.{IsOpenedFrom}
 use Rattle.core_rounds.specs.Waiting.{one_if}
 

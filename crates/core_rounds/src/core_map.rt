@@ -5,13 +5,13 @@ ghost use Rattle.cat_history.specs.Maps.{at};
 ghost use Rattle.cat_history.specs.Records.{as_op, change_of};
 ghost use Rattle.call_stages.specs.Stages.{pended};
 ghost use Rattle.pm_words.specs.Images.{Row};
-ghost use Rattle.node_ops.specs.Asked.{name_asked};
-ghost use Rattle.index_core.specs.CoreCalls.{most_writes, op_of};
-ghost use Rattle.index_core.specs.Indexes.{IsIndex, map_of_index, world};
-ghost use Rattle.index_core.specs.Listings.{ListsRange};
-ghost use Rattle.index_core.specs.Fulls.{HasLowStamps};
-ghost use Rattle.index_core.specs.Lone.{IsQuiet};
-ghost use Rattle.index_core.specs.Weights.{added_if, weight_of};
+ghost use Rattle.recovery.specs.node_ops.specs.Asked.{name_asked};
+ghost use Rattle.recovery.specs.index_core.specs.CoreCalls.{most_writes, op_of};
+ghost use Rattle.recovery.specs.index_core.specs.Indexes.{IsIndex, map_of_index, world};
+ghost use Rattle.recovery.specs.index_core.specs.Listings.{ListsRange};
+ghost use Rattle.recovery.specs.index_core.specs.Fulls.{HasLowStamps};
+ghost use Rattle.recovery.specs.index_core.specs.Lone.{IsQuiet};
+ghost use Rattle.recovery.specs.index_core.specs.Weights.{added_if, weight_of};
 ghost use Rattle.index_law.specs.Anchors.{anchors_in};
 ghost use Rattle.shapes.specs.Anchors.{next_of};
 ghost use Rattle.shapes.specs.ShapeRounds.{PutsFull};
@@ -23,9 +23,9 @@ use crate::updated_map::UpdatedMap;
 use call_stages::Once;
 use cat_history::{Items, NoMemory};
 use cat_key::Name;
-use index_core::{Core, CoreCall, LONE_STAMP, listed_pairs};
-use node_ops::PartWords;
 use pm_words::{Image, MOST_WRITES, Steps};
+use recovery::index_core::{Core, CoreCall, LONE_STAMP, listed_pairs};
+use recovery::node_ops::PartWords;
 use shapes::{Full, MapPart};
 use std::alloc::Global;
 use std::marker::{Brand, Model, PhantomData};
@@ -58,7 +58,7 @@ pub struct CoreMap<L: Ledger, K: RunOf> {
 }
 
 impl<L: Ledger, K: RunOf> Model for CoreMap<L, K> {
-    ghost use Rattle.index_core.specs.Indexes.{Index};
+    ghost use Rattle.recovery.specs.index_core.specs.Indexes.{Index};
     ghost use Rattle.core_rounds.specs.CoreMaps.{IsCoreMap, IsOfRun};
 
     ghost Value = { Index };
@@ -106,9 +106,9 @@ pub fn image_of(alloc: Global, core: &Core) -> Result<Image, NoMemory>
 }
 
 impl<L: Ledger, K: RunOf> UpdatedMap for CoreMap<L, K> {
-    ghost use Rattle.index_core.specs.Indexes.{map_of_index, world};
+    ghost use Rattle.recovery.specs.index_core.specs.Indexes.{map_of_index, world};
     ghost use Rattle.index_law.specs.Anchors.{anchors_in};
-    ghost use Rattle.index_core.specs.Weights.{weight_of};
+    ghost use Rattle.recovery.specs.index_core.specs.Weights.{weight_of};
     ghost use Rattle.core_rounds.specs.CoreMaps.{HasNoLines, Waits, calls_left_of, writes_left_of};
 
     ghost contents = { map_of_index };

@@ -15,6 +15,8 @@ mod updated_map;
 
 pub use core_map::{CoreMap, RunOf, image_of};
 pub use playing::{LoneRounds, calls_in, has_restart, is_crowd, play_lone, restarts};
+pub use recovery;
+pub use recovery::{index_core, node_ops};
 pub use round::run_lone_round;
 pub use summary::summarize;
 pub use updated_map::UpdatedMap;

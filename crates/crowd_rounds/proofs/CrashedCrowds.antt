@@ -1,5 +1,6 @@
 -- A round of several callers that a crash ended, behind which the image is opened that it left.
-use Rattle.std.proofs.Common.{◌≡◌, ℕ, suc, ◌+◌, ◌<◌, ◌≤◌, ◌^◌, Bool, List, [], ◌∷◌, true, false, length, refl, sym, ap, ◌∙◌, subst, arith}
+use Rattle.std.proofs.Common.{◌≡◌, ℕ, suc, ◌+◌, ◌<◌, ◌≤◌, ◌^◌, Bool, List, [], ◌∷◌, true, false, length, refl, sym}
+use Rattle.std.proofs.Common.{ap, ◌∙◌, subst, arith}
 use Rattle.std.specs.Prelude.{All, Option, Some, None}
 use Rattle.std.specs.FinMap.{len}
 use Rattle.std.specs.List.{AllByRecursion}
@@ -26,14 +27,14 @@ use Rattle.caller_rounds.proofs.Rising.{crash_names_rise}
 use Rattle.caller_rounds.proofs.Settling.{settled_stay}
 use Rattle.caller_rounds.proofs.Told.{records_are_told}
 use Rattle.index_law.specs.Anchors.{anchors_in}
-use Rattle.index_core.specs.Indexes.{Index, map_of_index, world}
-use Rattle.index_core.specs.Rounds.{BeginsRound}
-use Rattle.index_core.specs.Weights.{weight_of}
-use Rattle.recovery.specs.Opened.{IsOpenedFrom}
-use Rattle.core_rounds.specs.LoneCalls.{AreReportCalls}
-use Rattle.recovery.specs.Cores.{IsReopened}
-use Rattle.core_rounds.specs.Rounds.{IsCrashedRound}
-use Rattle.core_rounds.proofs.CoreMaps.{opened_is_map}
+use Rattle.thread_rounds.specs.index_core.specs.Indexes.{Index, map_of_index, world}
+use Rattle.thread_rounds.specs.index_core.specs.Rounds.{BeginsRound}
+use Rattle.thread_rounds.specs.index_core.specs.Weights.{weight_of}
+use Rattle.core_crashes.specs.recovery.specs.Opened.{IsOpenedFrom}
+use Rattle.core_crashes.specs.core_rounds.specs.LoneCalls.{AreReportCalls}
+use Rattle.core_crashes.specs.recovery.specs.Cores.{IsReopened}
+use Rattle.core_crashes.specs.core_rounds.specs.Rounds.{IsCrashedRound}
+use Rattle.core_crashes.specs.core_rounds.proofs.CoreMaps.{opened_is_map}
 use Rattle.thread_rounds.specs.Played.{IsToldOnceSettled}
 use Rattle.thread_rounds.specs.declared.round.Finish.{Finish}
 use Rattle.thread_rounds.specs.declared.round.Finish.TheVariants.{Crashed, Joined}

@@ -1,5 +1,6 @@
 -- A round of several callers on the map of a core, behind which the image is opened again.
-use Rattle.std.proofs.Common.{◌≡◌, ℕ, suc, ◌+◌, ◌<◌, ◌≤◌, ◌^◌, List, [], false, length, refl, sym, ap, ◌∙◌, subst, arith}
+use Rattle.std.proofs.Common.{◌≡◌, ℕ, suc, ◌+◌, ◌<◌, ◌≤◌, ◌^◌, List, [], false, length, refl, sym, ap, ◌∙◌, subst}
+use Rattle.std.proofs.Common.{arith}
 use Rattle.std.proofs.lemmas.List.{take_all}
 use Rattle.std.specs.FinMap.{len}
 use Rattle.cat_history.specs.Maps.{Map, map_of}
@@ -13,13 +14,13 @@ use Rattle.shapes.specs.ShapeRounds.{puts_added, IsShapeWithin}
 use Rattle.caller_rounds.proofs.Rising.{names_rise}
 use Rattle.caller_rounds.proofs.Told.{records_are_told}
 use Rattle.index_law.specs.Anchors.{anchors_in}
-use Rattle.index_core.specs.Indexes.{Index, map_of_index, world}
-use Rattle.index_core.specs.Rounds.{BeginsRound}
-use Rattle.index_core.specs.Weights.{weight_of}
-use Rattle.core_rounds.specs.LoneCalls.{AreReportCalls}
-use Rattle.recovery.specs.Cores.{IsReopened}
-use Rattle.core_rounds.specs.Rounds.{IsCrowdRound}
-use Rattle.core_rounds.proofs.CoreMaps.{opened_is_map}
+use Rattle.thread_rounds.specs.index_core.specs.Indexes.{Index, map_of_index, world}
+use Rattle.thread_rounds.specs.index_core.specs.Rounds.{BeginsRound}
+use Rattle.thread_rounds.specs.index_core.specs.Weights.{weight_of}
+use Rattle.core_crashes.specs.core_rounds.specs.LoneCalls.{AreReportCalls}
+use Rattle.core_crashes.specs.recovery.specs.Cores.{IsReopened}
+use Rattle.core_crashes.specs.core_rounds.specs.Rounds.{IsCrowdRound}
+use Rattle.core_crashes.specs.core_rounds.proofs.CoreMaps.{opened_is_map}
 use Rattle.thread_rounds.specs.RunRounds.{IsRunRound}
 use Rattle.crowd_rounds.specs.Crowds.{IsPlayedCrowd}
 

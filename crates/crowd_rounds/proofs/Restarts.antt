@@ -9,13 +9,13 @@ use Rattle.cat_history.specs.declared.plan.RoundPlan.{RoundPlan}
 use Rattle.cat_text.specs.declared.report.RoundReport.{RoundReport}
 use Rattle.pm_words.specs.Images.{Row}
 use Rattle.index_law.specs.Anchors.{anchors_in}
-use Rattle.index_core.specs.Indexes.{Index, map_of_index, world}
-use Rattle.index_core.specs.Weights.{weight_of}
-use Rattle.recovery.specs.Opened.{IsOpenedFrom}
-use Rattle.core_rounds.specs.CrashWork.{IsAnsweredInTime}
-use Rattle.core_rounds.specs.LoneCalls.{AreLoneCalls, is_crowd}
-use Rattle.core_rounds.specs.Rounds.{ArePlayed, crowd, crowd_crash, ends, lone_crash}
-use Rattle.core_rounds.proofs.Restarting.{crowd_or_lone}
+use Rattle.thread_rounds.specs.index_core.specs.Indexes.{Index, map_of_index, world}
+use Rattle.thread_rounds.specs.index_core.specs.Weights.{weight_of}
+use Rattle.core_crashes.specs.recovery.specs.Opened.{IsOpenedFrom}
+use Rattle.core_crashes.specs.core_rounds.specs.CrashWork.{IsAnsweredInTime}
+use Rattle.core_crashes.specs.core_rounds.specs.LoneCalls.{AreLoneCalls, is_crowd}
+use Rattle.core_crashes.specs.core_rounds.specs.Rounds.{ArePlayed, crowd, crowd_crash, ends, lone_crash}
+use Rattle.core_crashes.specs.core_rounds.proofs.Restarting.{crowd_or_lone}
 use Rattle.core_crashes.specs.Rounds.{IsPlayedLoneCrash}
 use Rattle.crowd_rounds.specs.Crowds.{IsPlayedAs, IsPlayedCrowd, IsPlayedCrowdCrash}
 use Rattle.crowd_rounds.specs.Segments.{IsPlayedRestart}

@@ -1,5 +1,6 @@
 -- Rounds that are played in stretches, each behind an opening of the index.
-use Rattle.std.proofs.Common.{◌≡◌, ℕ, suc, ◌+◌, ◌<◌, ◌≤◌, ◌^◌, List, [], ◌∷◌, ◌++◌, length, take, drop, get_or, true, false, refl, sym, ap, ◌∙◌, subst, arith, All, length-append}
+use Rattle.std.proofs.Common.{◌≡◌, ℕ, suc, ◌+◌, ◌<◌, ◌≤◌, ◌^◌, List, [], ◌∷◌, ◌++◌, length, take, drop, get_or, true}
+use Rattle.std.proofs.Common.{false, refl, sym, ap, ◌∙◌, subst, arith, All, length-append}
 use Rattle.std.proofs.Math.Seq.{take-add}
 use Rattle.std.proofs.lemmas.List.{get_or-drop, length-drop, length-take-le, take-append-drop, take_all, take_more}
 use Rattle.std.proofs.lemmas.List.Elements.{All-append, All-drop, All-from_recursion}
@@ -13,16 +14,17 @@ use Rattle.pm_words.specs.Images.{Row}
 use Rattle.pm_words.specs.declared.layout.Layout.{Layout}
 use Rattle.version_lock.specs.Versions.{IsGeneration}
 use Rattle.index_law.specs.Anchors.{anchors_in}
-use Rattle.index_core.specs.Indexes.{Index, map_of_index, world}
-use Rattle.index_core.specs.Weights.{weight_of}
-use Rattle.recovery.specs.Opened.{IsOpenedFrom}
-use Rattle.core_rounds.specs.LoneCalls.{AreReportCalls, calls_in, has_restart, restarts}
-use Rattle.core_rounds.specs.Rounds.{ArePlayed, RoundsEndWithTurn, added_in, ends}
-use Rattle.core_rounds.specs.Waiting.{one_if}
-use Rattle.core_rounds.proofs.CoreMaps.{opened_calls, opened_is_map}
-use Rattle.core_rounds.proofs.Restarting.{restarts_add_up}
-use Rattle.core_rounds.proofs.Played.{each_is_reported, more_pays, rounds_go_on}
-use Rattle.crowd_rounds.specs.Segments.{AreFirstPlain, AreFirstPlayed, ArePlainPlayed, ArePlayable, ArePlayedOn, HasBudgets, IsPlayedRestart, WorkOn}
+use Rattle.thread_rounds.specs.index_core.specs.Indexes.{Index, map_of_index, world}
+use Rattle.thread_rounds.specs.index_core.specs.Weights.{weight_of}
+use Rattle.core_crashes.specs.recovery.specs.Opened.{IsOpenedFrom}
+use Rattle.core_crashes.specs.core_rounds.specs.LoneCalls.{AreReportCalls, calls_in, has_restart, restarts}
+use Rattle.core_crashes.specs.core_rounds.specs.Rounds.{ArePlayed, RoundsEndWithTurn, added_in, ends}
+use Rattle.core_crashes.specs.core_rounds.specs.Waiting.{one_if}
+use Rattle.core_crashes.specs.core_rounds.proofs.CoreMaps.{opened_calls, opened_is_map}
+use Rattle.core_crashes.specs.core_rounds.proofs.Restarting.{restarts_add_up}
+use Rattle.core_crashes.specs.core_rounds.proofs.Played.{each_is_reported, more_pays, rounds_go_on}
+use Rattle.crowd_rounds.specs.Segments.{AreFirstPlain, AreFirstPlayed, ArePlainPlayed, ArePlayable, ArePlayedOn}
+use Rattle.crowd_rounds.specs.Segments.{HasBudgets, IsPlayedRestart, WorkOn}
 
 -- the last of rounds behind others is the last of all
 ends-behind : (plans more : List RoundPlan) → 0 < length more → RoundsEndWithTurn (plans ++ more) → RoundsEndWithTurn more

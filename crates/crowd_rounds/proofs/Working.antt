@@ -1,5 +1,6 @@
 -- The crash rounds of stretches do their work, and so do those of all rounds.
-use Rattle.std.proofs.Common.{◌≡◌, ℕ, ◌*◌, ◌/◌, ◌<◌, ◌≤◌, List, [], ◌∷◌, ◌++◌, length, take, drop, get_or, true, refl, sym, ap, ◌∙◌, subst, arith, length-append}
+use Rattle.std.proofs.Common.{◌≡◌, ℕ, ◌*◌, ◌/◌, ◌<◌, ◌≤◌, List, [], ◌∷◌, ◌++◌, length, take, drop, get_or, true, refl}
+use Rattle.std.proofs.Common.{sym, ap, ◌∙◌, subst, arith, length-append}
 use Rattle.std.proofs.Math.Seq.{take-add}
 use Rattle.std.proofs.lemmas.List.{take_more}
 use Rattle.std.specs.FinMap.{len}
@@ -14,15 +15,16 @@ use Rattle.shapes.specs.Weights.{weight}
 use Rattle.shapes.proofs.Agreements.{length-members}
 use Rattle.shapes.proofs.MemberWeights.{each_weighs}
 use Rattle.index_law.specs.Anchors.{anchors_in, image_anchors}
-use Rattle.index_core.specs.Indexes.{Index, map_of_index, world}
-use Rattle.index_core.specs.Weights.{weight_of}
-use Rattle.recovery.specs.Opened.{IsOpenedFrom}
-use Rattle.core_rounds.specs.CrashWork.{CrashRoundsWork, IsAnsweredInTime, IsTurnlessRound}
-use Rattle.core_rounds.specs.Rounds.{ArePlayed, ends, lone, crowd, lone_crash, crowd_crash}
-use Rattle.core_rounds.specs.Waiting.{puts_among, writes_among}
-use Rattle.core_rounds.proofs.CoreMaps.{opened_is_map}
-use Rattle.core_rounds.proofs.CrashWork.{more_weight_works, one_more_works, plain_rounds_work, work_goes_on}
-use Rattle.core_rounds.proofs.Played.{each_is_reported}
+use Rattle.thread_rounds.specs.index_core.specs.Indexes.{Index, map_of_index, world}
+use Rattle.thread_rounds.specs.index_core.specs.Weights.{weight_of}
+use Rattle.core_crashes.specs.recovery.specs.Opened.{IsOpenedFrom}
+use Rattle.core_crashes.specs.core_rounds.specs.CrashWork.{CrashRoundsWork, IsAnsweredInTime, IsTurnlessRound}
+use Rattle.core_crashes.specs.core_rounds.specs.Rounds.{ArePlayed, ends, lone, crowd, lone_crash, crowd_crash}
+use Rattle.core_crashes.specs.core_rounds.specs.Waiting.{puts_among, writes_among}
+use Rattle.core_crashes.specs.core_rounds.proofs.CoreMaps.{opened_is_map}
+use Rattle.core_crashes.specs.core_rounds.proofs.CrashWork.{more_weight_works, one_more_works, plain_rounds_work}
+use Rattle.core_crashes.specs.core_rounds.proofs.CrashWork.{work_goes_on}
+use Rattle.core_crashes.specs.core_rounds.proofs.Played.{each_is_reported}
 use Rattle.core_crashes.specs.CrashMaps.{MakeNoTurns}
 use Rattle.crowd_rounds.specs.Segments.{AreFirstPlain, AreFirstPlayed, ArePlainPlayed, IsPlayedRestart, WorkOn}
 use Rattle.crowd_rounds.proofs.Segmenting.{as-many}

@@ -13,12 +13,12 @@ use Rattle.cat_text.specs.declared.report.RoundReport.{RoundReport}
 use Rattle.pm_words.specs.Images.{Row}
 use Rattle.shapes.specs.ShapeRounds.{puts_added, FullIsPaid, IsShapeWithin}
 use Rattle.index_law.specs.Anchors.{anchors_in}
-use Rattle.index_core.specs.CrashLaws.{chosen_index, crash_image}
-use Rattle.index_core.specs.Indexes.{Index, IsIndex, map_of_index, world}
-use Rattle.index_core.specs.Weights.{weight_of}
-use Rattle.recovery.specs.Opened.{IsOpenedFrom}
-use Rattle.recovery.specs.Cores.{IsReopened}
-use Rattle.core_rounds.specs.Rounds.{IsCrashedRound, IsCrowdRound}
+use Rattle.thread_rounds.specs.index_core.specs.CrashLaws.{chosen_index, crash_image}
+use Rattle.thread_rounds.specs.index_core.specs.Indexes.{Index, IsIndex, map_of_index, world}
+use Rattle.thread_rounds.specs.index_core.specs.Weights.{weight_of}
+use Rattle.core_crashes.specs.recovery.specs.Opened.{IsOpenedFrom}
+use Rattle.core_crashes.specs.recovery.specs.Cores.{IsReopened}
+use Rattle.core_crashes.specs.core_rounds.specs.Rounds.{IsCrashedRound, IsCrowdRound}
 
 -- A round of several callers was played on the map of this core, with these writes, and reported; and the image was
 -- opened again in which they met. That has the map which the writes leave, and a shape that the weight and the names

@@ -9,15 +9,15 @@ use Rattle.pm_words.specs.Images.{Row}
 use Rattle.shapes.specs.ShapeRounds.{puts_added}
 use Rattle.version_lock.specs.Versions.{IsGeneration}
 use Rattle.index_law.specs.Anchors.{anchors_in}
-use Rattle.index_core.specs.Fulls.{HasLowStamps}
-use Rattle.index_core.specs.Indexes.{Index, IsIndex, map_of_index, world}
-use Rattle.index_core.specs.Lone.{IsQuiet}
-use Rattle.index_core.specs.Weights.{weight_of}
-use Rattle.recovery.specs.Opened.{IsOpenedFrom}
-use Rattle.core_rounds.specs.CoreMaps.{HasNoLines, calls_left_of}
-use Rattle.core_rounds.specs.CrashWork.{CrashRoundsWork, IsAnsweredInTime}
-use Rattle.core_rounds.specs.LoneCalls.{AreReportCalls, calls_in, has_restart, restarts}
-use Rattle.core_rounds.specs.Rounds.{ArePlayed, RoundsEndWithTurn, added_in}
+use Rattle.thread_rounds.specs.index_core.specs.Fulls.{HasLowStamps}
+use Rattle.thread_rounds.specs.index_core.specs.Indexes.{Index, IsIndex, map_of_index, world}
+use Rattle.thread_rounds.specs.index_core.specs.Lone.{IsQuiet}
+use Rattle.thread_rounds.specs.index_core.specs.Weights.{weight_of}
+use Rattle.core_crashes.specs.recovery.specs.Opened.{IsOpenedFrom}
+use Rattle.core_crashes.specs.core_rounds.specs.CoreMaps.{HasNoLines, calls_left_of}
+use Rattle.core_crashes.specs.core_rounds.specs.CrashWork.{CrashRoundsWork, IsAnsweredInTime}
+use Rattle.core_crashes.specs.core_rounds.specs.LoneCalls.{AreReportCalls, calls_in, has_restart, restarts}
+use Rattle.core_crashes.specs.core_rounds.specs.Rounds.{ArePlayed, RoundsEndWithTurn, added_in}
 
 -- A crash that ends a round has a budget for each of so many callers.
 abbrev pub HasBudgets : ℕ → RoundPlan → Type 0

@@ -1,9 +1,9 @@
 //! A round of several callers, and the core that an image opens as behind it.
 
 ghost use Rattle.std.specs.Prelude.{◌≡◌, ◌<◌, ◌≤◌, ◌^◌, All, IfOk, length, suc};
-ghost use Rattle.core_rounds.specs.LoneCalls.{AreReportCalls};
-ghost use Rattle.index_core.specs.Lone.{IsQuiet};
-ghost use Rattle.recovery.specs.Opened.{IsOpenedFrom};
+ghost use Rattle.core_crashes.specs.core_rounds.specs.LoneCalls.{AreReportCalls};
+ghost use Rattle.thread_rounds.specs.index_core.specs.Lone.{IsQuiet};
+ghost use Rattle.core_crashes.specs.recovery.specs.Opened.{IsOpenedFrom};
 ghost use Rattle.image_rules.specs.Rules.{header_generation};
 ghost use Rattle.image_layer_rules.specs.Sound.{IsSoundByAll};
 ghost use Rattle.version_lock.specs.Versions.{IsGeneration};
@@ -11,13 +11,13 @@ ghost use Rattle.crowd_rounds.specs.Crowds.{IsPlayedAs, IsReportedBehind, IsRepo
 
 use cat_history::{NoMemory, Records, RoundPlan, settle};
 use cat_text::RoundReport;
-use index_core::Core;
-use pac_index::Gate;
+use core_crashes::recovery::{recover_sound, reopen};
 use pm_words::Image;
-use recovery::{recover_sound, reopen};
 use std::alloc::Global;
 use std::sync::Wait;
 use std::thread::Threads;
+use thread_rounds::index_core::Core;
+use thread_rounds::pac_index::Gate;
 use thread_rounds::{Finish, Round, run_round};
 
 /// A round of several callers that was played: what is reported of it, and the core that an image opens as behind it.

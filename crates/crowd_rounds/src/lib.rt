@@ -8,4 +8,6 @@
 mod crowd;
 mod playing;
 
+pub use core_crashes::{core_rounds, recovery};
 pub use playing::{PlayedRounds, play_plans, play_rounds};
+pub use thread_rounds::{index_core, pac_index};

@@ -8,32 +8,32 @@ ghost use Rattle.pm_words.specs.Images.{Row};
 ghost use Rattle.pm_words.specs.Layouts.{IsLayout};
 ghost use Rattle.version_lock.specs.Versions.{IsGeneration};
 ghost use Rattle.index_law.specs.Anchors.{anchors_in};
-ghost use Rattle.index_core.specs.Fulls.{HasLowStamps};
-ghost use Rattle.index_core.specs.Indexes.{IsIndex, map_of_index, world};
-ghost use Rattle.index_core.specs.Lone.{IsQuiet};
-ghost use Rattle.index_core.specs.Weights.{weight_of};
-ghost use Rattle.recovery.specs.Opened.{IsOpenedFrom};
-ghost use Rattle.core_rounds.specs.CoreMaps.{HasNoLines, Waits, calls_left_of};
-ghost use Rattle.core_rounds.specs.CrashWork.{CrashRoundsWork};
-ghost use Rattle.core_rounds.specs.LoneCalls.{AreJoined, AreLoneRounds, AreReportCalls, calls_in};
-ghost use Rattle.core_rounds.specs.LoneCalls.{has_restart, restarts};
-ghost use Rattle.core_rounds.specs.Rounds.{ArePlayed, RoundsEndWithTurn};
-ghost use Rattle.core_rounds.specs.Waiting.{HaveNoTurns, changes_made, puts_asked, writes_asked};
+ghost use Rattle.thread_rounds.specs.index_core.specs.Fulls.{HasLowStamps};
+ghost use Rattle.thread_rounds.specs.index_core.specs.Indexes.{IsIndex, map_of_index, world};
+ghost use Rattle.thread_rounds.specs.index_core.specs.Lone.{IsQuiet};
+ghost use Rattle.thread_rounds.specs.index_core.specs.Weights.{weight_of};
+ghost use Rattle.core_crashes.specs.recovery.specs.Opened.{IsOpenedFrom};
+ghost use Rattle.core_crashes.specs.core_rounds.specs.CoreMaps.{HasNoLines, Waits, calls_left_of};
+ghost use Rattle.core_crashes.specs.core_rounds.specs.CrashWork.{CrashRoundsWork};
+ghost use Rattle.core_crashes.specs.core_rounds.specs.LoneCalls.{AreJoined, AreLoneRounds, AreReportCalls, calls_in};
+ghost use Rattle.core_crashes.specs.core_rounds.specs.LoneCalls.{has_restart, restarts};
+ghost use Rattle.core_crashes.specs.core_rounds.specs.Rounds.{ArePlayed, RoundsEndWithTurn};
+ghost use Rattle.core_crashes.specs.core_rounds.specs.Waiting.{HaveNoTurns, changes_made, puts_asked, writes_asked};
 ghost use Rattle.crowd_rounds.specs.Segments.{AreFirstPlain, AreFirstPlayed, ArePlainPlayed, ArePlayable};
 ghost use Rattle.crowd_rounds.specs.Segments.{ArePlayedOn, HasBudgets, IsPlayedRestart, WorkOn};
 
 use crate::crowd::{Crowd, play_crowd};
 use cat_history::{Items, NoMemory, RoundPlan};
 use cat_text::{Report, RoundReport};
+use core_crashes::core_rounds::{LoneRounds, has_restart, is_crowd, play_lone, restarts};
+use core_crashes::recovery::open_fresh;
 use core_crashes::{CrashedRound, crash_round};
-use core_rounds::{LoneRounds, has_restart, is_crowd, play_lone, restarts};
-use index_core::Core;
-use pac_index::Gate;
 use pm_words::Layout;
-use recovery::open_fresh;
 use std::alloc::Global;
 use std::sync::Wait;
 use std::thread::Threads;
+use thread_rounds::index_core::Core;
+use thread_rounds::pac_index::Gate;
 
 /// Rounds that were played: their report, and the core that they leave, with no call in flight.
 #[derive(Drop)]

@@ -1,11 +1,13 @@
 -- How many names a map has that a node means: no more than the node has slots, and as many where all its slots are live.
-use Rattle.std.proofs.Common.{◌≡◌, ℕ, zero, suc, ◌+◌, ◌-◌, ◌<◌, ◌≤◌, Bool, true, false, cond, List, Some, None, is_some, inl, inr, refl, sym, subst, ap, ◌∙◌, arith}
-use Rattle.std.specs.FinMap.{empty, remove, len, get-remove, get-empty, len-remove, len-empty, empty_of_len, same_map, slice_cmp-IsAntisymmetric, nat_cmp-IsAntisymmetric}
+use Rattle.std.proofs.Common.{◌≡◌, ℕ, zero, suc, ◌+◌, ◌-◌, ◌<◌, ◌≤◌, Bool, true, false, cond, List, Some, None}
+use Rattle.std.proofs.Common.{is_some, inl, inr, refl, sym, subst, ap, ◌∙◌, arith}
+use Rattle.std.specs.FinMap.{empty, remove, len, get-remove, get-empty, len-remove, len-empty, empty_of_len, same_map}
+use Rattle.std.specs.FinMap.{slice_cmp-IsAntisymmetric, nat_cmp-IsAntisymmetric}
 use Rattle.std.proofs.lemmas.Bool.{cases_eq}
 use Rattle.std.proofs.lemmas.Cmp.{nat_list_cmp_total}
 use Rattle.cat_key.specs.Names.{IsName, name_cmp, words_of, bytes_of}
 use Rattle.cat_key.proofs.Packing.{bytes_of-words_of}
-use Rattle.cat_history.specs.Maps.{Map, at}
+use Rattle.shapes.specs.cat_history.specs.Maps.{Map, at}
 use Rattle.data_node.specs.Slots.{AreAllLive}
 use Rattle.data_node.specs.Spots.{Spot, bitmap_offset, name_words, Finds, Means}
 use Rattle.data_node.specs.Lists.{StaysIn}

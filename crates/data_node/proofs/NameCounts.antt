@@ -1,14 +1,15 @@
 -- How the number of a node's names goes with the map that the node means.
-use Rattle.std.proofs.Common.{◌≡◌, ◌≢◌, ℕ, zero, suc, ◌+◌, ◌<◌, ◌≤◌, ◌==◌, ◌&&◌, not, Bool, true, false, cond, List, Some, None, inl, inr, refl, sym, subst, ap, ◌∙◌, arith}
+use Rattle.std.proofs.Common.{◌≡◌, ◌≢◌, ℕ, zero, suc, ◌+◌, ◌<◌, ◌≤◌, ◌==◌, ◌&&◌, not, Bool, true, false, cond, List}
+use Rattle.std.proofs.Common.{Some, None, inl, inr, refl, sym, subst, ap, ◌∙◌, arith}
 use Rattle.std.specs.Int.{bit_at}
 use Rattle.std.proofs.lemmas.Bool.{cases_eq, eq-eqb, eqb-true, ne_eqb, not-true, eqb-false, and_parts, and_from}
 use Rattle.cat_key.specs.Names.{IsName, words_of, bytes_of}
 use Rattle.cat_key.proofs.Packing.{bytes_of-words_of, words_tell_names}
-use Rattle.cat_history.specs.Maps.{Map, at}
-use Rattle.cat_history.specs.Writes.{changed, name_of}
-use Rattle.cat_history.specs.declared.op.Change.{Change}
-use Rattle.cat_history.specs.declared.op.Change.TheVariants.{Put, Del}
-use Rattle.cat_history.proofs.ChangeLemmas.{at-changed_other, changed_found}
+use Rattle.shapes.specs.cat_history.specs.Maps.{Map, at}
+use Rattle.shapes.specs.cat_history.specs.Writes.{changed, name_of}
+use Rattle.shapes.specs.cat_history.specs.declared.op.Change.{Change}
+use Rattle.shapes.specs.cat_history.specs.declared.op.Change.TheVariants.{Put, Del}
+use Rattle.shapes.specs.cat_history.proofs.ChangeLemmas.{at-changed_other, changed_found}
 use Rattle.data_node.specs.Spots.{Spot, bitmap_offset, IsLiveIn, name_words, value_in, Finds, IsTidy, Means}
 use Rattle.data_node.specs.Lists.{StaysIn}
 use Rattle.data_node.specs.Weights.{has_name_in, names_in}

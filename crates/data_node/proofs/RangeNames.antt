@@ -1,14 +1,16 @@
 -- A node has as many names of a range as the map that it means there.
-use Rattle.std.proofs.Common.{◌≡◌, ℕ, zero, suc, ◌<◌, Bool, true, false, is_some, ◌||◌, ⊎_elim, Option, Some, None, List, [], ◌∷◌, length, get_or, refl, sym, subst, ap, ◌∙◌, arith}
+use Rattle.std.proofs.Common.{◌≡◌, ℕ, zero, suc, ◌<◌, Bool, true, false, is_some, ◌||◌, ⊎_elim, Option, Some, None}
+use Rattle.std.proofs.Common.{List, [], ◌∷◌, length, get_or, refl, sym, subst, ap, ◌∙◌, arith}
 use Rattle.std.specs.FinMap.{keys}
 use Rattle.std.specs.List.{filter, AllByRecursion}
 use Rattle.cat_key.specs.Names.{IsName, words_of}
 use Rattle.cat_key.proofs.Packing.{words_tell_names}
-use Rattle.cat_history.specs.Maps.{Map, at}
+use Rattle.shapes.specs.cat_history.specs.Maps.{Map, at}
 use Rattle.shapes.specs.Anchors.{below, AnchorsRise}
 use Rattle.shapes.specs.Members.{is_among}
 use Rattle.shapes.proofs.Orders.{same, true_or_false, clash, not_itself, same-is, same-itself}
-use Rattle.shapes.proofs.NameLists.{all_by, all-filter, filter-passes, filter-short, filter-keeps, filter-drops, among-filter, rise-filter}
+use Rattle.shapes.proofs.NameLists.{all_by, all-filter, filter-passes, filter-short, filter-keeps, filter-drops}
+use Rattle.shapes.proofs.NameLists.{among-filter, rise-filter}
 use Rattle.shapes.proofs.Keys.{rise-keys, among-keys}
 use Rattle.shapes.proofs.Switches.{position-is}
 use Rattle.shapes.proofs.Agreements.{all-at}

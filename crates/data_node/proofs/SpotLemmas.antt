@@ -1,19 +1,22 @@
 -- What a store into a word of a node does to what the node means.
-use Rattle.std.proofs.Common.{◌≡◌, ℕ, ◌<◌, ◌^◌, ◌⊎◌, Bool, true, false, cond, List, [], ◌∷◌, Option, Some, None, inl, inr, refl, sym, subst, ap, ◌∙◌, arith}
+use Rattle.std.proofs.Common.{◌≡◌, ℕ, ◌<◌, ◌^◌, ◌⊎◌, Bool, true, false, cond, List, [], ◌∷◌, Option, Some, None, inl}
+use Rattle.std.proofs.Common.{inr, refl, sym, subst, ap, ◌∙◌, arith}
 use Rattle.std.specs.declared.cmp.Ordering.TheVariants.{Less, Equal, Greater}
 use Rattle.std.specs.Int.{bit_at}
 use Rattle.std.specs.Ordering.{eq_by_cmp, is_eq}
 use Rattle.std.specs.Cmp.{tied_itself}
-use Rattle.std.specs.FinMap.{empty, get-empty, insert, remove, get-insert, get-remove, same_map, slice_cmp-IsAntisymmetric, nat_cmp-IsAntisymmetric}
+use Rattle.std.specs.FinMap.{empty, get-empty, insert, remove, get-insert, get-remove, same_map}
+use Rattle.std.specs.FinMap.{slice_cmp-IsAntisymmetric, nat_cmp-IsAntisymmetric}
 use Rattle.std.proofs.lemmas.Cmp.{nat_list_cmp_total}
 use Rattle.std.proofs.lemmas.Bool.{cases_eq, cases_lt, eq-eqb, ne_eqb}
 use Rattle.std.proofs.lemmas.Nat.{pow_pos}
 use Rattle.std.proofs.lemmas.Nat.Bits.{bit_at_above, bit_at-zero}
 use Rattle.cat_key.specs.Names.{IsName, AreNameWords, name_cmp, words_of, bytes_of, fingerprint_of}
 use Rattle.cat_key.proofs.Packing.{bytes_of-words_of, words_tell_names}
-use Rattle.cat_history.specs.Maps.{Map, at}
+use Rattle.shapes.specs.cat_history.specs.Maps.{Map, at}
 use Rattle.data_node.specs.Slots.{IsLive}
-use Rattle.data_node.specs.Spots.{Spot, updated, bitmap_offset, slot_offset, IsLiveIn, name_words, value_in, print_in_spot, Finds, IsTidy, Means}
+use Rattle.data_node.specs.Spots.{Spot, updated, bitmap_offset, slot_offset, IsLiveIn, name_words, value_in}
+use Rattle.data_node.specs.Spots.{print_in_spot, Finds, IsTidy, Means}
 
 -- two lists of words are one or not
 pub same_words : (a b : List ℕ) → (a ≡ b) ⊎ (a ≡ b → ⊥)

@@ -1,17 +1,22 @@
 -- The stores of a put and of a delete, and what the node means after each.
-use Rattle.std.proofs.Common.{◌≡◌, ℕ, ◌+◌, ◌/◌, ◌%◌, ◌<◌, ◌≤◌, ◌^◌, Bool, List, get_or, inl, inr, sym, subst, ap, ◌∙◌, arith}
+use Rattle.std.proofs.Common.{◌≡◌, ℕ, ◌+◌, ◌/◌, ◌%◌, ◌<◌, ◌≤◌, ◌^◌, Bool, List, get_or, inl, inr, sym, subst, ap, ◌∙◌}
+use Rattle.std.proofs.Common.{arith}
 use Rattle.std.specs.Int.{bit_at}
 use Rattle.std.specs.FinMap.{insert, remove}
 use Rattle.std.proofs.lemmas.Bool.{cases_eq}
 use Rattle.std.proofs.lemmas.List.{get_or-set_same, get_or-set_other}
 use Rattle.cat_key.specs.Names.{IsName, words_of, bytes_of, fingerprint_of}
 use Rattle.cat_key.proofs.Packing.{bytes_of-words_of}
-use Rattle.cat_history.specs.Maps.{Map}
+use Rattle.shapes.specs.cat_history.specs.Maps.{Map}
 use Rattle.data_node.specs.Slots.{IsLive, IsClear, prints_of}
 use Rattle.data_node.specs.Bits.{with_live, without_live, printed, candidate_bits}
-use Rattle.data_node.specs.Spots.{Spot, updated, bitmap_offset, print_offset, slot_offset, IsLiveIn, name_words, value_in, print_in_spot, IsTidy, Means}
-use Rattle.data_node.proofs.BitLemmas.{with_live-same, with_live-other, with_live_below, without_live-same, without_live-other, without_live_below, prints_of-printed, candidate_bits-marks}
-use Rattle.data_node.proofs.SpotLemmas.{updated-same, updated-other, name_words-updated, live_within, KeepsAll, KeepsOthers, means_kept, means_put, means_del}
+use Rattle.data_node.specs.Spots.{Spot, updated, bitmap_offset, print_offset, slot_offset, IsLiveIn, name_words}
+use Rattle.data_node.specs.Spots.{value_in, print_in_spot, IsTidy, Means}
+use Rattle.data_node.proofs.BitLemmas.{with_live-same, with_live-other, with_live_below, without_live-same}
+use Rattle.data_node.proofs.BitLemmas.{without_live-other, without_live_below, prints_of-printed}
+use Rattle.data_node.proofs.BitLemmas.{candidate_bits-marks}
+use Rattle.data_node.proofs.SpotLemmas.{updated-same, updated-other, name_words-updated, live_within, KeepsAll}
+use Rattle.data_node.proofs.SpotLemmas.{KeepsOthers, means_kept, means_put, means_del}
 
 -- a live slot is not a clear one
 clear_apart : (bitmap slot other : ℕ) → IsClear bitmap slot → IsLive bitmap other → other ≡ slot → ⊥

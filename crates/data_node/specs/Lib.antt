@@ -6,3 +6,5 @@ pub mod Weights
 pub mod RangeNames
 pub mod Orders
 pub mod Lines
+-- crates below, for those above that name them through this one
+pub use Rattle.shapes.specs.cat_history

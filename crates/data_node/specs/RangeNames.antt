@@ -3,7 +3,7 @@ use Rattle.std.specs.Prelude.{◌≡◌, ℕ, Bool, List, Some, length}
 use Rattle.std.specs.FinMap.{keys}
 use Rattle.std.specs.List.{filter}
 use Rattle.cat_key.specs.Names.{IsName}
-use Rattle.cat_history.specs.Maps.{Map, at}
+use Rattle.shapes.specs.cat_history.specs.Maps.{Map, at}
 use Rattle.data_node.specs.Spots.{Spot, Means}
 use Rattle.data_node.specs.Weights.{names_in}
 

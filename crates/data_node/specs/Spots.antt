@@ -2,7 +2,7 @@
 use Rattle.std.specs.Prelude.{◌≡◌, ◌≢◌, ℕ, ◌+◌, ◌*◌, ◌/◌, ◌%◌, ◌<◌, ◌^◌, ◌==◌, Bool, true, if◌then◌else◌, List, [], ◌∷◌}
 use Rattle.std.specs.Prelude.{slice_index, Option, Some, None}
 use Rattle.cat_key.specs.Names.{IsName, AreNameWords, words_of, bytes_of, fingerprint_of}
-use Rattle.cat_history.specs.Maps.{Map, at}
+use Rattle.shapes.specs.cat_history.specs.Maps.{Map, at}
 use Rattle.data_node.specs.Slots.{IsLive, prints_of}
 
 -- The words of one node by offset.

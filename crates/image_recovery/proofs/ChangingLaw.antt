@@ -12,10 +12,10 @@ use Rattle.tree_update.specs.declared.change.Change.{Change}
 use Rattle.tree_update.specs.declared.change.Ended.{Ended}
 use Rattle.tree_update.specs.Changes.{IsChange, change_asks, change_turned}
 use Rattle.tree_update.specs.Stages.{Aim, aim_of}
-use Rattle.search_layer.specs.Rows.{KeepsOthers}
-use Rattle.search_layer.specs.ChangeStages.{ChangeStep, stage_of, stage_after}
-use Rattle.search_layer.specs.Laws.{SoundAfter}
-use Rattle.search_layer.proofs.StepLaw.{changes_are_steps, changes_stay_sound, step_can_act}
+use Rattle.image_recovery_law.specs.search_layer.specs.Rows.{KeepsOthers}
+use Rattle.image_recovery_law.specs.search_layer.specs.ChangeStages.{ChangeStep, stage_of, stage_after}
+use Rattle.image_recovery_law.specs.search_layer.specs.Laws.{SoundAfter}
+use Rattle.image_recovery_law.specs.search_layer.proofs.StepLaw.{changes_are_steps, changes_stay_sound, step_can_act}
 use Rattle.image_recovery_law.specs.Columns.{Columns, IsSound}
 use Rattle.image_recovery_law.specs.Stages.{Unsets, Unsetting, Sets, Setting, aim_at}
 use Rattle.image_recovery_law.specs.RowMoves.{RowSure}

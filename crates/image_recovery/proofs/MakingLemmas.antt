@@ -10,11 +10,12 @@ use Rattle.data_node.specs.Lists.{ListNode}
 use Rattle.data_node.specs.Spots.{bitmap_offset}
 use Rattle.tree_update.specs.Changes.{change_starts}
 use Rattle.tree_update.specs.Stages.{Aim, aim_of}
-use Rattle.search_layer.specs.Kept.{layer_of}
-use Rattle.search_layer.specs.ChangeStages.{stage_of, start_stage}
-use Rattle.updater_row_law.specs.Columns.{line_count, line_word}
+use Rattle.image_recovery_law.specs.search_layer.specs.Kept.{layer_of}
+use Rattle.image_recovery_law.specs.search_layer.specs.ChangeStages.{stage_of, start_stage}
+use Rattle.image_recovery_law.specs.updater_row_law.specs.Columns.{line_count, line_word}
 use Rattle.image_recovery_law.specs.Columns.{Columns, IsSound, MendsNodes}
-use Rattle.image_recovery_law.specs.Stages.{Stage, Begins, Raised, Trims, Trimmed, Unsetting, Setting, Empties, Emptied, nodes_of, aim_at}
+use Rattle.image_recovery_law.specs.Stages.{Stage, Begins, Raised, Trims, Trimmed, Unsetting, Setting, Empties}
+use Rattle.image_recovery_law.specs.Stages.{Emptied, nodes_of, aim_at}
 use Rattle.image_recovery_law.specs.RowMoves.{RowSure, of_generation, of_bits, of_empty}
 use Rattle.image_recovery_law.specs.Rows.{columns_in}
 use Rattle.image_recovery_law.specs.Moves as law
@@ -31,8 +32,11 @@ use Rattle.image_recovery.specs.declared.storing.StoringAt.{StoringAt}
 use Rattle.image_recovery.specs.declared.storing.StoringAt.TheVariants as at
 use Rattle.image_recovery.specs.Plans.{move_of}
 use Rattle.image_recovery.specs.Storings.{fenced_word, IsStoring, IsStoringAt, stores, storing_asks, storing_turned}
-use Rattle.image_recovery.specs.Makings.{IsMaking, MayMake, making_of, making_asks, making_turned, anchor_at, generation_at, of_storing}
-use Rattle.image_recovery.specs.MakingLaw.{IsBetweenMoves, IsClearBeside, SureMaking, sure_stores, sure_unsets, sure_sets, IsStoreOf, SureStoringAt, IsAtMove, IsAfterTurn, MakingsBegin, MakingsGo, MakingsEvict, MakingsAreSure}
+use Rattle.image_recovery.specs.Makings.{IsMaking, MayMake, making_of, making_asks, making_turned, anchor_at}
+use Rattle.image_recovery.specs.Makings.{generation_at, of_storing}
+use Rattle.image_recovery.specs.MakingLaw.{IsBetweenMoves, IsClearBeside, SureMaking, sure_stores, sure_unsets}
+use Rattle.image_recovery.specs.MakingLaw.{sure_sets, IsStoreOf, SureStoringAt, IsAtMove, IsAfterTurn, MakingsBegin}
+use Rattle.image_recovery.specs.MakingLaw.{MakingsGo, MakingsEvict, MakingsAreSure}
 use Rattle.image_recovery.proofs.Evens.{even_still, hand_stays, clear_evicts}
 use Rattle.image_recovery.proofs.StoringLaw.{storing_goes}
 use Rattle.image_recovery.proofs.ChangingLaw.{unset_turn, set_turn}

@@ -1,5 +1,6 @@
 -- How moves are planned, one after another.
-use Rattle.std.proofs.Common.{◌≡◌, ◌≢◌, ℕ, suc, ◌+◌, ◌≤◌, ◌⊎◌, ◌↔◌, Bool, true, false, List, [], ◌∷◌, ◌++◌, length, map, append_assoc, inl, inr, refl, sym, subst, ap, ◌∙◌, Result, Ok, Err, arith}
+use Rattle.std.proofs.Common.{◌≡◌, ◌≢◌, ℕ, suc, ◌+◌, ◌≤◌, ◌⊎◌, ◌↔◌, Bool, true, false, List, [], ◌∷◌, ◌++◌, length}
+use Rattle.std.proofs.Common.{map, append_assoc, inl, inr, refl, sym, subst, ap, ◌∙◌, Result, Ok, Err, arith}
 use Rattle.std.specs.Prelude.{IsTrue, IfOk}
 use Rattle.std.proofs.lemmas.Bool.{cases_eq, false≢true}
 use Rattle.std.proofs.lemmas.List.{map-append, append-nil}
@@ -11,13 +12,15 @@ use Rattle.data_node.proofs.ListLemmas.{members_few}
 use Rattle.data_node.proofs.SpotLemmas.{updated-same, name_words-updated}
 use Rattle.image_rules.specs.Sound.{IsSound}
 use Rattle.image_rules.proofs.TidyLemmas.{sound_keeps}
-use Rattle.updater_row_law.specs.Columns.{line_count}
-use Rattle.image_recovery_law.specs.Stages.{Stage, Begins, Trims, Unsets, Sets, Empties, nodes_behind, HasAnchor, LacksAnchor}
+use Rattle.image_recovery_law.specs.updater_row_law.specs.Columns.{line_count}
+use Rattle.image_recovery_law.specs.Stages.{Stage, Begins, Trims, Unsets, Sets, Empties, nodes_behind, HasAnchor}
+use Rattle.image_recovery_law.specs.Stages.{LacksAnchor}
 use Rattle.image_recovery_law.specs.Moves as law
 use Rattle.image_recovery_law.proofs.SoundColumns.{spots_are}
 use Rattle.image_recovery.specs.declared.moves.Move.{Move}
 use Rattle.image_recovery.specs.declared.moves.Move.TheVariants.{Raise, Trim, Unset, Set, Empty}
-use Rattle.image_recovery.specs.Plans.{columns, list_of, spot_of, move_of, IsPlanFrom, IsPlanOf, PlansTo, IsRaised, TrimsOne, HasAnchorOf}
+use Rattle.image_recovery.specs.Plans.{columns, list_of, spot_of, move_of, IsPlanFrom, IsPlanOf, PlansTo, IsRaised}
+use Rattle.image_recovery.specs.Plans.{TrimsOne, HasAnchorOf}
 
 -- what follows where a call ended well
 pub ok_then : {A E : Type 0} (result : Result A E) (P Q : Type 0) → IfOk result (λ _. P) → (P → Q) → IfOk result (λ _. Q)

@@ -1,26 +1,28 @@
 -- A recovery from its beginning to its end: what is known of the rows between its moves, and after the last.
-use Rattle.std.proofs.Common.{Option, Some, None, true, false, ◌≡◌, ℕ, suc, ◌+◌, ◌<◌, ◌≤◌, List, [], ◌∷◌, map, drop, length, get_or, sym, subst, ap, ◌∙◌}
+use Rattle.std.proofs.Common.{Option, Some, None, true, false, ◌≡◌, ℕ, suc, ◌+◌, ◌<◌, ◌≤◌, List, [], ◌∷◌, map, drop}
+use Rattle.std.proofs.Common.{length, get_or, sym, subst, ap, ◌∙◌}
 use Rattle.std.proofs.lemmas.List.{drop_more, drop_all}
 use Rattle.pm_words.specs.declared.layout.Layout.{Layout}
 use Rattle.pm_words.specs.declared.action.Action.{Action}
 use Rattle.pm_words.specs.declared.machine.Turn.{Turn}
 use Rattle.pm_words.specs.Images.{Row, IsImage}
-use Rattle.pm_words.specs.Locations.{Word, Location, Clock, Updater, Volatile, Mark, Cached, Durable, word_at, at as word_in_row}
+use Rattle.pm_words.specs.Locations.{Word, Location, Clock, Updater, Volatile, Mark, Cached, Durable, word_at}
+use Rattle.pm_words.specs.Locations.{at as word_in_row}
 use Rattle.pm_words.specs.Rows.{IsRow, CanAct, acted, evicted, got, row_of}
 use Rattle.pm_words.proofs.Made.{row_of-at, row_of-at_volatile}
 use Rattle.version_lock.specs.Versions.{IsGeneration}
 use Rattle.image_layer_rules.specs.Sound.{IsSoundByAll}
 use Rattle.image_rules.specs.Nodes.{image_list}
 use Rattle.layer_map.specs.Places.{is_of_layer}
-use Rattle.search_layer.specs.Rows.{layer_words, image_layer_words}
+use Rattle.image_recovery_law.specs.search_layer.specs.Rows.{layer_words, image_layer_words}
 use Rattle.tree_row.specs.RowMarks.{IsNoMark}
-use Rattle.search_layer.specs.Kept.{IsAtRest}
+use Rattle.image_recovery_law.specs.search_layer.specs.Kept.{IsAtRest}
 use Rattle.image_layer_rules.proofs.LayerLaws.{sound_keeps_layer}
 use Rattle.tree_law.specs.Trees.{IsTree}
 use Rattle.tree_marks.specs.Laws.{IsMarked}
 use Rattle.tree_marks.specs.Marked.{row_tree, row_room, MarksFrom, AreMarked}
 use Rattle.tree_marks.proofs.RestLaw.{marked_by_walk, marked_is_at_rest, marking_keeps_others}
-use Rattle.search_layer.proofs.RowLemmas.{even_are_same}
+use Rattle.image_recovery_law.specs.search_layer.proofs.RowLemmas.{even_are_same}
 use Rattle.image_recovery_law.specs.Columns.{Columns, IsSound}
 use Rattle.image_recovery_law.specs.Stages.{Begins, Sure}
 use Rattle.image_recovery_law.specs.Rows.{columns_in, image_columns}
@@ -38,7 +40,8 @@ use Rattle.image_recovery.specs.Plans.{columns, list_of, move_of, IsPlanOf}
 use Rattle.image_recovery.specs.Makings.{IsMaking, MayMake, making_of, making_asks, making_turned}
 use Rattle.image_recovery.specs.MakingLaw.{IsClearBeside, IsAtMove, IsAfterTurn, IsBetweenMoves}
 use Rattle.image_recovery.specs.Recovered.{IsRecoverable, IsOpenedOn, IsUnderWay, IsRecoveredTo}
-use Rattle.image_recovery.specs.Recoveries.{IsRecoveringAt, IsRecovering, IsMakingOne, moves_left, EndIsRecovered, RecoveringEvicts}
+use Rattle.image_recovery.specs.Recoveries.{IsRecoveringAt, IsRecovering, IsMakingOne, moves_left, EndIsRecovered}
+use Rattle.image_recovery.specs.Recoveries.{RecoveringEvicts}
 use Rattle.image_recovery.proofs.SoundColumns.{all_sound}
 use Rattle.image_recovery.proofs.CrashLemmas.{crash_between_leaves_sound}
 use Rattle.image_recovery.proofs.MakingLemmas.{between_evicts, makings_begin, makings_evict, makings_go}

@@ -14,7 +14,7 @@ use Rattle.layer_map.specs.Layers.{Layer}
 use Rattle.layer_map.specs.Places.{is_of_layer}
 use Rattle.tree_update.specs.declared.change.Change.{Change}
 use Rattle.tree_update.specs.Stages.{aim_of}
-use Rattle.search_layer.specs.ChangeStages.{stage_of}
+use Rattle.image_recovery_law.specs.search_layer.specs.ChangeStages.{stage_of}
 use Rattle.image_recovery_law.specs.Columns.{Columns, IsSound}
 use Rattle.image_recovery_law.specs.Stages.{Stage, Unsets, Unsetting, Sets, Setting, aim_at}
 use Rattle.image_recovery_law.specs.RowMoves.{RowSure, MoveStore}

@@ -10,7 +10,7 @@ use Rattle.data_node.specs.Spots.{bitmap_offset}
 use Rattle.tree_update.specs.declared.change.Change.{Change}
 use Rattle.tree_update.specs.declared.change.Ended.{Ended}
 use Rattle.tree_update.specs.Changes.{IsChange, change_starts, change_asks, change_turned, change_left}
-use Rattle.updater_row_law.specs.Columns.{line_count, line_word}
+use Rattle.image_recovery_law.specs.updater_row_law.specs.Columns.{line_count, line_word}
 use Rattle.image_recovery.specs.declared.making.Making.{Making}
 use Rattle.image_recovery.specs.declared.making.Making.TheVariants.{Stores, Changes}
 use Rattle.image_recovery.specs.declared.moves.Move.{Move}

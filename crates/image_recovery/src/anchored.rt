@@ -4,7 +4,7 @@ ghost use Rattle.std.specs.Prelude.{◌≡◌, ◌≢◌, ℕ, ◌<◌, ◌↔�
 ghost use Rattle.data_node.specs.Lists.{anchor_in, number_of};
 ghost use Rattle.image_rules.specs.Nodes.{image_spot, IsListedNode};
 ghost use Rattle.image_rules.specs.Sound.{IsSound};
-ghost use Rattle.updater_row_law.specs.Columns.{line_count};
+ghost use Rattle.image_recovery_law.specs.updater_row_law.specs.Columns.{line_count};
 ghost use Rattle.image_recovery_law.specs.Stages.{LacksAnchor};
 ghost use Rattle.image_recovery.specs.Plans.{columns, list_of, HasAnchorOf};
 

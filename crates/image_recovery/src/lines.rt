@@ -3,7 +3,7 @@
 ghost use Rattle.std.specs.Prelude.{◌≡◌, ◌≢◌, ◌<◌, ◌↔◌, IsTrue};
 ghost use Rattle.pm_words.specs.Codes.{empty_state};
 ghost use Rattle.data_node.specs.Lists.{anchor_words};
-ghost use Rattle.updater_row_law.specs.Columns.{line_count};
+ghost use Rattle.image_recovery_law.specs.updater_row_law.specs.Columns.{line_count};
 ghost use Rattle.image_recovery.specs.Plans.{columns};
 
 use cat_key::WORDS;

@@ -2,7 +2,7 @@
 
 ghost use Rattle.std.specs.Prelude.{◌≡◌, ◌<◌, [], ◌∷◌, slice_index};
 ghost use Rattle.pm_words.specs.Locations.{image_words, cached_address, Cached, at};
-ghost use Rattle.updater_row_law.specs.Columns.{line_count, line_word};
+ghost use Rattle.image_recovery_law.specs.updater_row_law.specs.Columns.{line_count, line_word};
 
 use crate::moves::Move;
 use crate::storing::Storing;

@@ -3,7 +3,7 @@
 ghost use Rattle.std.specs.Prelude.{◌≡◌, ℕ, ◌+◌, ◌<◌, IfOk, [], ◌∷◌, ◌++◌};
 ghost use Rattle.image_rules.specs.Nodes.{IsListedNode};
 ghost use Rattle.image_rules.specs.Sound.{IsSound};
-ghost use Rattle.updater_row_law.specs.Columns.{line_count};
+ghost use Rattle.image_recovery_law.specs.updater_row_law.specs.Columns.{line_count};
 ghost use Rattle.image_recovery_law.specs.Stages.{Unsets, Sets, Empties};
 ghost use Rattle.image_recovery.specs.Plans.{PlansTo, TrimsOne, IsPlanOf, IsRaised};
 

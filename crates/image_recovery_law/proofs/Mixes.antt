@@ -5,15 +5,17 @@ use Rattle.pm_words.specs.declared.layout.Layout.{Layout}
 use Rattle.data_node.specs.Spots.{bitmap_offset}
 use Rattle.data_node.specs.Lists.{ListNode}
 use Rattle.layer_map.specs.Layers.{Layer, AreSame}
-use Rattle.search_layer.specs.Rows.{LayerWords, AreEven, IsLayerMix}
-use Rattle.tree_update.specs.Stages.{Aim, made_of}
-use Rattle.search_layer.specs.ChangeStages.{Changing}
-use Rattle.search_layer.proofs.StageLemmas.{layer_is_either, mix_is_either}
-use Rattle.search_layer.specs.Kept.{kept}
+use Rattle.updater_row_law.specs.search_layer.specs.Rows.{LayerWords, AreEven, IsLayerMix}
+use Rattle.updater_row_law.specs.tree_update.specs.Stages.{Aim, made_of}
+use Rattle.updater_row_law.specs.search_layer.specs.ChangeStages.{Changing}
+use Rattle.updater_row_law.specs.search_layer.proofs.StageLemmas.{layer_is_either, mix_is_either}
+use Rattle.updater_row_law.specs.search_layer.specs.Kept.{kept}
 use Rattle.image_recovery_law.specs.Columns.{Columns, MendsLayer, Mends, IsMix}
-use Rattle.image_recovery_law.specs.Stages.{with_layer, aim_at, Begins, Raised, Trims, Trimmed, Unsets, Unsetting, Sets, Setting, Empties, Emptied, Wakes, Part, Nothing, Generation, Bits, State, IsEvenBut, IsStill, ChangesTo, IsChanging}
+use Rattle.image_recovery_law.specs.Stages.{with_layer, aim_at, Begins, Raised, Trims, Trimmed, Unsets, Unsetting}
+use Rattle.image_recovery_law.specs.Stages.{Sets, Setting, Empties, Emptied, Wakes, Part, Nothing, Generation, Bits}
+use Rattle.image_recovery_law.specs.Stages.{State, IsEvenBut, IsStill, ChangesTo, IsChanging}
 use Rattle.image_recovery_law.specs.Laws.{CrashMends, EvictionsKeep}
-use Rattle.search_layer.proofs.RowLemmas.{even_are_same, mixes_are_even}
+use Rattle.updater_row_law.specs.search_layer.proofs.RowLemmas.{even_are_same, mixes_are_even}
 
 -- columns with the same words are the same
 pub columns_path : (i i' : Columns) → i'.generation ≡ i.generation → ((k : ℕ) → i'.spare k ≡ i.spare k) → ((k : ℕ) → i'.version k ≡ i.version k) → ((n k : ℕ) → i'.spot n k ≡ i.spot n k)

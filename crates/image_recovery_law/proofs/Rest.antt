@@ -1,5 +1,6 @@
 -- What a recovery that came to its end leaves, and recoveries that are broken.
-use Rattle.std.proofs.Common.{◌≡◌, ◌≢◌, ℕ, zero, suc, ◌+◌, ◌≤◌, ◌==◌, ◌||◌, true, false, cond, List, [], ◌∷◌, inl, inr, refl, sym, subst, ap, ◌∙◌, arith}
+use Rattle.std.proofs.Common.{◌≡◌, ◌≢◌, ℕ, zero, suc, ◌+◌, ◌≤◌, ◌==◌, ◌||◌, true, false, cond, List, [], ◌∷◌, inl}
+use Rattle.std.proofs.Common.{inr, refl, sym, subst, ap, ◌∙◌, arith}
 use Rattle.std.proofs.lemmas.Bool.{cases_eq, eq-eqb, ne_eqb, lt-ltb}
 use Rattle.pm_words.specs.declared.layout.Layout.{Layout}
 use Rattle.version_lock.specs.Versions.{generation_of, count_of}
@@ -7,12 +8,14 @@ use Rattle.data_node.specs.Lists.{ListNode, IsMember, IsIn}
 use Rattle.updater_law.specs.Facts.{TurnFacts}
 use Rattle.image_recovery_law.specs.Columns.{Columns, anchor_of, layer_kept, IsSound, Mends}
 use Rattle.image_recovery_law.specs.Stages.{Stage, Wakes, Sure}
-use Rattle.image_recovery_law.specs.Rest.{IsUntaken, Rests, EndsAtRest, is_behind, is_in, recovered_facts, RestIsLawful, Recovers, loads, goes, evicts, none, breaks, IsLike, BrokenIsSound, BrokenThenWhole}
+use Rattle.image_recovery_law.specs.Rest.{IsUntaken, Rests, EndsAtRest, is_behind, is_in, recovered_facts}
+use Rattle.image_recovery_law.specs.Rest.{RestIsLawful, Recovers, loads, goes, evicts, none, breaks, IsLike}
+use Rattle.image_recovery_law.specs.Rest.{BrokenIsSound, BrokenThenWhole}
 use Rattle.image_recovery_law.proofs.Alike.{nodes_apart}
 use Rattle.image_recovery_law.proofs.Mended.{anchors, mended, same_map}
 use Rattle.image_recovery_law.proofs.Mixes.{columns_path, crash_mends, evictions_keep}
 use Rattle.image_recovery_law.proofs.Steps.{starts, steps_keep}
-use Rattle.search_layer.proofs.RowLemmas.{even_are_same}
+use Rattle.updater_row_law.specs.search_layer.proofs.RowLemmas.{even_are_same}
 
 untaken : (version g : ℕ) → generation_of version ≤ g → IsUntaken version (suc g)
 untaken version g old = record {

@@ -1,5 +1,6 @@
 -- A change of the layer on a row of words: as it begins, step by step, and as it ends.
-use Rattle.std.proofs.Common.{◌≡◌, ◌≢◌, ℕ, zero, suc, ◌-◌, ◌^◌, ◌<◌, ◌≤◌, Bool, true, false, List, [], ◌∷◌, Some, None, slice_index, inl, inr, refl, sym, subst, subst₂, ap, ◌∙◌, arith}
+use Rattle.std.proofs.Common.{◌≡◌, ◌≢◌, ℕ, zero, suc, ◌-◌, ◌^◌, ◌<◌, ◌≤◌, Bool, true, false, List, [], ◌∷◌, Some}
+use Rattle.std.proofs.Common.{None, slice_index, inl, inr, refl, sym, subst, subst₂, ap, ◌∙◌, arith}
 use Rattle.std.specs.Prelude.{nat_lt}
 use Rattle.std.proofs.lemmas.Bool.{cases_eq, lt-ltb}
 use Rattle.pm_words.specs.declared.layout.Layout.{Layout}
@@ -11,20 +12,23 @@ use Rattle.data_node.proofs.KeyLemmas.{key-number}
 use Rattle.layer_map.specs.Keys.{key_number, IsKey}
 use Rattle.layer_map.specs.Layers.{Layer}
 use Rattle.layer_map.proofs.KeyLemmas.{zero_is_least}
-use Rattle.tree_update.specs.Stages.{Aim, IsRooted}
-use Rattle.search_layer.specs.Rows.{LayerWords, layer_words, layer_marks, KeepsOthers}
-use Rattle.search_layer.specs.ChangeStages.{Changing, Changed, start_stage}
-use Rattle.search_layer.specs.Kept.{layer_of}
-use Rattle.search_layer.specs.Laws.{SureOn, SureIn}
-use Rattle.search_layer.specs.RootLine.{RootLineStays}
-use Rattle.search_layer.proofs.StepLaw.{change_step_keeps}
-use Rattle.search_layer.proofs.StageLemmas.{change_is_backed, change_begins, change_ends}
-use Rattle.search_layer.proofs.RootLemmas.{root_begins, root_step_keeps}
+use Rattle.updater_row_law.specs.tree_update.specs.Stages.{Aim, IsRooted}
+use Rattle.updater_row_law.specs.search_layer.specs.Rows.{LayerWords, layer_words, layer_marks, KeepsOthers}
+use Rattle.updater_row_law.specs.search_layer.specs.ChangeStages.{Changing, Changed, start_stage}
+use Rattle.updater_row_law.specs.search_layer.specs.Kept.{layer_of}
+use Rattle.updater_row_law.specs.search_layer.specs.Laws.{SureOn, SureIn}
+use Rattle.updater_row_law.specs.search_layer.specs.RootLine.{RootLineStays}
+use Rattle.updater_row_law.specs.search_layer.proofs.StepLaw.{change_step_keeps}
+use Rattle.updater_row_law.specs.search_layer.proofs.StageLemmas.{change_is_backed, change_begins, change_ends}
+use Rattle.updater_row_law.specs.search_layer.proofs.RootLemmas.{root_begins, root_step_keeps}
 use Rattle.updater_law.specs.Covers.{IsOpenFor}
 use Rattle.image_recovery_law.specs.Columns.{Columns, lines_of, line_anchor, anchor_of, layer_kept, IsSound, MendsLayer}
-use Rattle.image_recovery_law.specs.Stages.{with_layer, aim_at, Unsets, Unsetting, Sets, Setting, ChangesTo, IsChanging, unsets, unsetting, unset, sets, setting, set, LacksAnchor, Sure}
+use Rattle.image_recovery_law.specs.Stages.{with_layer, aim_at, Unsets, Unsetting, Sets, Setting, ChangesTo}
+use Rattle.image_recovery_law.specs.Stages.{IsChanging, unsets, unsetting, unset, sets, setting, set, LacksAnchor}
+use Rattle.image_recovery_law.specs.Stages.{Sure}
 use Rattle.image_recovery_law.specs.Rows.{word_if, spare_count, spare_word, columns_in}
-use Rattle.image_recovery_law.specs.RowMoves.{ChangesOnRows, UnsetBegins, SetBegins, UnsetGoes, SetGoes, UnsetEnds, SetEnds}
+use Rattle.image_recovery_law.specs.RowMoves.{ChangesOnRows, UnsetBegins, SetBegins, UnsetGoes, SetGoes, UnsetEnds}
+use Rattle.image_recovery_law.specs.RowMoves.{SetEnds}
 use Rattle.image_recovery_law.proofs.Mended.{line_named}
 use Rattle.image_recovery_law.proofs.Steps.{steps_keep, anchors_now, lines_now}
 use Rattle.image_recovery_law.proofs.RowColumns.{word_if-here, columns_alike, IsRest, spare_high, has_line_word}

@@ -1,16 +1,19 @@
 -- Columns by the words that are read: which words alike make which columns alike.
-use Rattle.std.proofs.Common.{◌≡◌, ◌≢◌, ℕ, ◌+◌, ◌-◌, ◌*◌, ◌<◌, ◌≤◌, ◌&&◌, ◌⊎◌, Bool, true, false, cond, inl, inr, refl, sym, subst, ap, arith}
+use Rattle.std.proofs.Common.{◌≡◌, ◌≢◌, ℕ, ◌+◌, ◌-◌, ◌*◌, ◌<◌, ◌≤◌, ◌&&◌, ◌⊎◌, Bool, true, false, cond, inl, inr}
+use Rattle.std.proofs.Common.{refl, sym, subst, ap, arith}
 use Rattle.std.specs.Prelude.{nat_lt}
 use Rattle.std.proofs.lemmas.Bool.{cases_lt, and_parts, and_from, ltb-true, lt-ltb, false_from_ne_true}
 use Rattle.pm_words.specs.declared.layout.Layout.{Layout}
-use Rattle.pm_words.specs.Locations.{Word, Location, Header, Root, Node, Cached, Durable, HasWord, part_of_word, node_words, word_at, at}
+use Rattle.pm_words.specs.Locations.{Word, Location, Header, Root, Node, Cached, Durable, HasWord, part_of_word}
+use Rattle.pm_words.specs.Locations.{node_words, word_at, at}
 use Rattle.pm_words.specs.Rows.{durable_row, row_of}
 use Rattle.pm_words.proofs.Made.{row_of-at, durable_row-at}
 use Rattle.pm_words.specs.Offsets.{version_offset}
-use Rattle.search_layer.specs.Rows.{LayerWords, layer_words, image_layer_words}
-use Rattle.search_layer.proofs.RowLemmas.{images_alike}
+use Rattle.updater_row_law.specs.search_layer.specs.Rows.{LayerWords, layer_words, image_layer_words}
+use Rattle.updater_row_law.specs.search_layer.proofs.RowLemmas.{images_alike}
 use Rattle.updater_row_law.specs.Columns.{line_count, line_word}
-use Rattle.image_recovery_law.specs.Rows.{word_if, spare_count, spare_word, columns_by, StartHasColumns, CrashHasColumns}
+use Rattle.image_recovery_law.specs.Rows.{word_if, spare_count, spare_word, columns_by, StartHasColumns}
+use Rattle.image_recovery_law.specs.Rows.{CrashHasColumns}
 use Rattle.image_recovery_law.proofs.Mixes.{columns_path}
 
 pub word_if-alike : (inside : Bool) (x y : ℕ) → (inside ≡ true → x ≡ y) → word_if inside x ≡ word_if inside y

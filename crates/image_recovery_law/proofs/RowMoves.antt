@@ -3,24 +3,28 @@ use Rattle.std.proofs.Common.{◌≡◌, ℕ, suc, ◌<◌, false, List, ◌∷�
 use Rattle.pm_words.specs.declared.layout.Layout.{Layout}
 use Rattle.pm_words.specs.declared.action.Action.{Action}
 use Rattle.pm_words.specs.declared.action.Action.TheVariants.{Store}
-use Rattle.pm_words.specs.Locations.{Word, Header, Node, Cached, Durable, HasWord, row_words, image_words, address_of, at}
+use Rattle.pm_words.specs.Locations.{Word, Header, Node, Cached, Durable, HasWord, row_words, image_words, address_of}
+use Rattle.pm_words.specs.Locations.{at}
 use Rattle.pm_words.specs.Rows.{acted, evicted}
 use Rattle.data_node.specs.Lists.{ListNode}
 use Rattle.data_node.specs.Spots.{bitmap_offset}
 use Rattle.layer_map.specs.Layers.{Layer}
 use Rattle.layer_map.specs.Places.{is_layer_word}
-use Rattle.search_layer.specs.Rows.{LayerWords, Marks, layer_words, layer_marks}
-use Rattle.search_layer.specs.Kept.{MarksTell}
-use Rattle.tree_update.specs.Stages.{Aim}
-use Rattle.search_layer.specs.ChangeStages.{Changing}
-use Rattle.search_layer.proofs.RowLemmas.{layer_words_stay, row_eviction_mixes}
-use Rattle.search_layer.proofs.BesideLemmas.{evictions_keep}
-use Rattle.search_layer.proofs.RootLemmas.{root_evictions_keep}
+use Rattle.updater_row_law.specs.search_layer.specs.Rows.{LayerWords, Marks, layer_words, layer_marks}
+use Rattle.updater_row_law.specs.search_layer.specs.Kept.{MarksTell}
+use Rattle.updater_row_law.specs.tree_update.specs.Stages.{Aim}
+use Rattle.updater_row_law.specs.search_layer.specs.ChangeStages.{Changing}
+use Rattle.updater_row_law.specs.search_layer.proofs.RowLemmas.{layer_words_stay, row_eviction_mixes}
+use Rattle.updater_row_law.specs.search_layer.proofs.BesideLemmas.{evictions_keep}
+use Rattle.updater_row_law.specs.search_layer.proofs.RootLemmas.{root_evictions_keep}
 use Rattle.updater_row_law.specs.Columns.{line_word}
 use Rattle.image_recovery_law.specs.Columns.{Columns}
-use Rattle.image_recovery_law.specs.Stages.{with_generation, with_bits, with_empty, aim_at, Stage, Begins, Raised, Trims, Trimmed, Unsets, Unsetting, Sets, Setting, Empties, Emptied, Wakes, raises, raised, trims, trimmed, empties, emptied, Sure}
+use Rattle.image_recovery_law.specs.Stages.{with_generation, with_bits, with_empty, aim_at, Stage, Begins, Raised}
+use Rattle.image_recovery_law.specs.Stages.{Trims, Trimmed, Unsets, Unsetting, Sets, Setting, Empties, Emptied, Wakes}
+use Rattle.image_recovery_law.specs.Stages.{raises, raised, trims, trimmed, empties, emptied, Sure}
 use Rattle.image_recovery_law.specs.Rows.{columns_in, StoresOn}
-use Rattle.image_recovery_law.specs.RowMoves.{MarksTellIn, IsChangingIn, KnowsMarks, RowSure, of_generation, of_bits, of_empty, MoveStores, MoveEnds, RowEvicts}
+use Rattle.image_recovery_law.specs.RowMoves.{MarksTellIn, IsChangingIn, KnowsMarks, RowSure, of_generation, of_bits}
+use Rattle.image_recovery_law.specs.RowMoves.{of_empty, MoveStores, MoveEnds, RowEvicts}
 use Rattle.image_recovery_law.proofs.Mixes as mixes
 use Rattle.image_recovery_law.proofs.Steps.{steps_keep}
 use Rattle.image_recovery_law.proofs.Plans.{planned_bits_serve}

@@ -1,24 +1,33 @@
 -- What the stores of a recovery, and evictions, make of the columns of a row.
-use Rattle.std.proofs.Common.{◌≡◌, ◌≢◌, ℕ, ◌+◌, ◌*◌, ◌/◌, ◌%◌, ◌<◌, ◌≤◌, ◌⊎◌, false, List, length, slice_set, inl, refl, inr, sym, subst, ap, ap₂, ◌∙◌, arith}
+use Rattle.std.proofs.Common.{◌≡◌, ◌≢◌, ℕ, ◌+◌, ◌*◌, ◌/◌, ◌%◌, ◌<◌, ◌≤◌, ◌⊎◌, false, List, length, slice_set, inl}
+use Rattle.std.proofs.Common.{refl, inr, sym, subst, ap, ap₂, ◌∙◌, arith}
 use Rattle.std.specs.Prelude.{nat_lt}
 use Rattle.std.proofs.lemmas.Bool.{cases_eq, cases_lt}
 use Rattle.pm_words.specs.declared.layout.Layout.{Layout}
-use Rattle.pm_words.specs.Locations.{Word, Location, Header, Node, Line, Cached, Durable, HasWord, HasLocation, IsVolatile, part_of_address, part_of_word, row_words, image_words, cached_address, durable_address, address_of, at}
+use Rattle.pm_words.specs.Locations.{Word, Location, Header, Node, Line, Cached, Durable, HasWord, HasLocation}
+use Rattle.pm_words.specs.Locations.{IsVolatile, part_of_address, part_of_word, row_words, image_words}
+use Rattle.pm_words.specs.Locations.{cached_address, durable_address, address_of, at}
 use Rattle.pm_words.specs.Rows.{evicted}
 use Rattle.pm_words.proofs.Apart.{at-set_other, at-set_same}
 use Rattle.pm_words.specs.Offsets.{version_offset}
 use Rattle.data_node.specs.Spots.{bitmap_offset}
 use Rattle.layer_map.specs.Places.{is_layer_word}
-use Rattle.search_layer.specs.Rows.{layer_words}
-use Rattle.search_layer.proofs.RowLemmas.{row_eviction_mixes, layer_words_stay, rows_alike}
+use Rattle.updater_row_law.specs.search_layer.specs.Rows.{layer_words}
+use Rattle.updater_row_law.specs.search_layer.proofs.RowLemmas.{row_eviction_mixes, layer_words_stay, rows_alike}
 use Rattle.updater_row_law.specs.Columns.{line_word}
 use Rattle.updater_row_law.proofs.RowEvicts.{cached, durable}
 use Rattle.image_recovery_law.specs.Columns.{Columns}
 use Rattle.image_recovery_law.specs.Stages.{with_generation, with_bits, with_empty}
-use Rattle.image_recovery_law.specs.Rows.{word_if, spare_count, spare_word, columns_in, GenerationStores, BitsStore, EmptyStores, EvictsColumns, EvictionMixesColumns, DrainEvicts, VolatileLeaves}
+use Rattle.image_recovery_law.specs.Rows.{word_if, spare_count, spare_word, columns_in, GenerationStores, BitsStore}
+use Rattle.image_recovery_law.specs.Rows.{EmptyStores, EvictsColumns, EvictionMixesColumns, DrainEvicts}
+use Rattle.image_recovery_law.specs.Rows.{VolatileLeaves}
 use Rattle.image_recovery_law.proofs.Mixes.{columns_path}
 use Rattle.image_recovery_law.proofs.Steps.{bits_word, bits_other, empty_here, empty_other}
-use Rattle.image_recovery_law.proofs.RowColumns.{word_of, word_if-here, word_if-either, IsRest, generation_rest, spare_low, spare_high, spare_rest, version_rest, has_spot_word, spot_rest, spot_here, has_line_word, line_rest, line_here, generation_same, spare_same, version_same, spot_same, line_same, columns_alike}
+use Rattle.image_recovery_law.proofs.RowColumns.{word_of, word_if-here, word_if-either, IsRest, generation_rest}
+use Rattle.image_recovery_law.proofs.RowColumns.{spare_low, spare_high, spare_rest, version_rest, has_spot_word}
+use Rattle.image_recovery_law.proofs.RowColumns.{spot_rest, spot_here, has_line_word, line_rest, line_here}
+use Rattle.image_recovery_law.proofs.RowColumns.{generation_same, spare_same, version_same, spot_same, line_same}
+use Rattle.image_recovery_law.proofs.RowColumns.{columns_alike}
 
 -- numbers by which words are told apart
 abbrev header_at : Word → ℕ

@@ -1,24 +1,31 @@
 -- Each step of a recovery keeps what it is sure of.
-use Rattle.std.proofs.Common.{◌≡◌, ◌≢◌, ℕ, suc, ◌-◌, ◌<◌, ◌≤◌, ◌⊎◌, ◌↔◌, cond, List, [], ◌∷◌, Option, Some, None, inl, inr, refl, sym, subst, ap, ◌∙◌, arith}
+use Rattle.std.proofs.Common.{◌≡◌, ◌≢◌, ℕ, suc, ◌-◌, ◌<◌, ◌≤◌, ◌⊎◌, ◌↔◌, cond, List, [], ◌∷◌, Option, Some, None, inl}
+use Rattle.std.proofs.Common.{inr, refl, sym, subst, ap, ◌∙◌, arith}
 use Rattle.std.proofs.lemmas.Bool.{cases_eq, cases_lt, eq-eqb, ne_eqb}
 use Rattle.pm_words.specs.declared.layout.Layout.{Layout}
 use Rattle.data_node.specs.Spots.{Spot, updated, bitmap_offset}
 use Rattle.data_node.specs.Lists.{ListNode, anchor_in, range_in, IsMember, IsIn, IsChain, StaysIn}
 use Rattle.data_node.proofs.SpotLemmas.{updated-same, updated-other}
 use Rattle.layer_map.specs.Layers.{Layer, HasFew, changed_at, node_of}
-use Rattle.search_layer.specs.Rows.{LayerWords, IsLayerMix}
-use Rattle.tree_update.specs.declared.change.ChangeAt.{ChangeAt}
-use Rattle.tree_update.specs.Stages.{Aim, made_of}
-use Rattle.search_layer.specs.ChangeStages.{Changing, Making, Changed, start_stage}
-use Rattle.search_layer.specs.Kept.{kept, IsKept}
-use Rattle.search_layer.proofs.RowLemmas.{even_are_same, mixes_are_even}
+use Rattle.updater_row_law.specs.search_layer.specs.Rows.{LayerWords, IsLayerMix}
+use Rattle.updater_row_law.specs.tree_update.specs.declared.change.ChangeAt.{ChangeAt}
+use Rattle.updater_row_law.specs.tree_update.specs.Stages.{Aim, made_of}
+use Rattle.updater_row_law.specs.search_layer.specs.ChangeStages.{Changing, Making, Changed, start_stage}
+use Rattle.updater_row_law.specs.search_layer.specs.Kept.{kept, IsKept}
+use Rattle.updater_row_law.specs.search_layer.proofs.RowLemmas.{even_are_same, mixes_are_even}
 use Rattle.layer_map.proofs.Pigeons.{different_fit}
 use Rattle.updater_law.specs.Covers.{IsOpenFor}
 use Rattle.updater_law.specs.Covered.{ListHas}
 use Rattle.updater_law.proofs.Columns.{here, other}
 use Rattle.updater_row_law.specs.Columns.{line_count}
-use Rattle.image_recovery_law.specs.Columns.{Columns, anchor_of, line_anchor, lines_of, layer_kept, IsNameKey, IsSound, IsTrim, MendsNodes, MendsLayer, Mends}
-use Rattle.image_recovery_law.specs.Stages.{with_bits, with_empty, with_layer, nodes_behind, nodes_of, IsOneOf, aim_at, Stage, ChangesTo, Step, raises, raised, passes_node, trims, trimmed, all_trimmed, passes_unset, unsets, unsetting, unset, all_unset, passes_set, sets, setting, set, all_set, passes_empty, empties, emptied, all_empty, Nothing, Bits, State, IsStill, IsChanging, AreUntouched, AreListed, Sure}
+use Rattle.image_recovery_law.specs.Columns.{Columns, anchor_of, line_anchor, lines_of, layer_kept, IsNameKey}
+use Rattle.image_recovery_law.specs.Columns.{IsSound, IsTrim, MendsNodes, MendsLayer, Mends}
+use Rattle.image_recovery_law.specs.Stages.{with_bits, with_empty, with_layer, nodes_behind, nodes_of, IsOneOf}
+use Rattle.image_recovery_law.specs.Stages.{aim_at, Stage, ChangesTo, Step, raises, raised, passes_node, trims}
+use Rattle.image_recovery_law.specs.Stages.{trimmed, all_trimmed, passes_unset, unsets, unsetting, unset, all_unset}
+use Rattle.image_recovery_law.specs.Stages.{passes_set, sets, setting, set, all_set, passes_empty, empties, emptied}
+use Rattle.image_recovery_law.specs.Stages.{all_empty, Nothing, Bits, State, IsStill, IsChanging, AreUntouched}
+use Rattle.image_recovery_law.specs.Stages.{AreListed, Sure}
 use Rattle.image_recovery_law.specs.Laws.{Starts, StepsKeep}
 use Rattle.image_recovery_law.proofs.Alike.{anchor_same, anchor_kept, trim_twice}
 use Rattle.image_recovery_law.proofs.Mended.{apart_anchors, in_image, is_open_or_not, used_line, line_named, mends_none}

@@ -10,8 +10,8 @@ use Rattle.data_node.specs.Spots.{Spot, IsTidy, Means, IsLiveIn, name_words, bit
 use Rattle.data_node.specs.Lines.{IsFitLine}
 use Rattle.data_node.specs.Lists.{ListNode, anchor_in, key_of, range_in, IsIn, MakeList}
 use Rattle.layer_map.specs.Layers.{Layer, HasFew}
-use Rattle.search_layer.specs.Rows.{LayerWords, IsLayerMix}
-use Rattle.search_layer.specs.Kept.{kept, IsKept}
+use Rattle.updater_row_law.specs.search_layer.specs.Rows.{LayerWords, IsLayerMix}
+use Rattle.updater_row_law.specs.search_layer.specs.Kept.{kept, IsKept}
 use Rattle.updater_law.specs.Covered.{IsCovered, ListHas}
 use Rattle.updater_law.specs.Covers.{Lines, IsOpenFor}
 use Rattle.updater_row_law.specs.Columns.{line_count}

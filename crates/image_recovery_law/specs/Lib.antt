@@ -6,3 +6,6 @@ pub mod Moves
 pub mod Rows
 pub mod RowMoves
 pub mod SoundImages
+-- crates below, for those above that name them through this one
+pub use Rattle.updater_row_law.specs.search_layer
+pub use Rattle.updater_row_law

@@ -10,12 +10,12 @@ use Rattle.pm_words.specs.Rows.{IsRow, acted, got, evicted}
 use Rattle.data_node.specs.Lists.{ListNode, IsIn}
 use Rattle.data_node.specs.Spots.{bitmap_offset}
 use Rattle.layer_map.specs.Layers.{Layer, HasFew}
-use Rattle.tree_update.specs.Stages.{Aim, IsRooted}
-use Rattle.search_layer.specs.ChangeStages.{Changing, Changed, ChangeStep, start_stage}
-use Rattle.search_layer.specs.Rows.{layer_words, layer_marks, KeepsOthers}
-use Rattle.search_layer.specs.Kept.{layer_of, MarksTell}
-use Rattle.search_layer.specs.Laws.{SureIn}
-use Rattle.search_layer.specs.RootLine.{HoldsRoot}
+use Rattle.updater_row_law.specs.tree_update.specs.Stages.{Aim, IsRooted}
+use Rattle.updater_row_law.specs.search_layer.specs.ChangeStages.{Changing, Changed, ChangeStep, start_stage}
+use Rattle.updater_row_law.specs.search_layer.specs.Rows.{layer_words, layer_marks, KeepsOthers}
+use Rattle.updater_row_law.specs.search_layer.specs.Kept.{layer_of, MarksTell}
+use Rattle.updater_row_law.specs.search_layer.specs.Laws.{SureIn}
+use Rattle.updater_row_law.specs.search_layer.specs.RootLine.{HoldsRoot}
 use Rattle.updater_row_law.specs.Columns.{line_count, line_word}
 use Rattle.image_recovery_law.specs.Columns.{Columns, anchor_of, line_anchor, IsSound}
 use Rattle.image_recovery_law.specs.Stages.{nodes_of, aim_at, LacksAnchor, Stage, Begins, Raised, Trims}

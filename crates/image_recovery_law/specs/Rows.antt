@@ -12,7 +12,7 @@ use Rattle.pm_words.specs.Locations.{word_at}
 use Rattle.pm_words.specs.Rows.{acted, evicted, durable_row, row_of}
 use Rattle.pm_words.specs.Offsets.{version_offset}
 use Rattle.data_node.specs.Spots.{bitmap_offset}
-use Rattle.search_layer.specs.Rows.{LayerWords, layer_words, image_layer_words}
+use Rattle.updater_row_law.specs.search_layer.specs.Rows.{LayerWords, layer_words, image_layer_words}
 use Rattle.updater_row_law.specs.Columns.{line_count, line_word}
 use Rattle.image_recovery_law.specs.Columns.{Columns, IsMix}
 use Rattle.image_recovery_law.specs.Stages.{with_generation, with_bits, with_empty}

@@ -5,10 +5,10 @@ use Rattle.pm_words.specs.declared.layout.Layout.{Layout}
 use Rattle.data_node.specs.Spots.{updated, bitmap_offset}
 use Rattle.data_node.specs.Lists.{ListNode, range_in, IsIn, StaysIn}
 use Rattle.layer_map.specs.Layers.{Layer}
-use Rattle.search_layer.specs.Rows.{LayerWords, AreEven}
-use Rattle.tree_update.specs.Stages.{Aim, made_of}
-use Rattle.search_layer.specs.ChangeStages.{Changing, Changed, start_stage}
-use Rattle.search_layer.specs.Laws.{BacksLayer}
+use Rattle.updater_row_law.specs.search_layer.specs.Rows.{LayerWords, AreEven}
+use Rattle.updater_row_law.specs.tree_update.specs.Stages.{Aim, made_of}
+use Rattle.updater_row_law.specs.search_layer.specs.ChangeStages.{Changing, Changed, start_stage}
+use Rattle.updater_row_law.specs.search_layer.specs.Laws.{BacksLayer}
 use Rattle.updater_law.specs.Covers.{set_at}
 use Rattle.updater_row_law.specs.Columns.{line_count}
 use Rattle.image_recovery_law.specs.Columns.{Columns, anchor_of, line_anchor, layer_kept, IsTrim, MendsNodes}

@@ -1,5 +1,6 @@
 -- A whole call, with no other in flight: one try, or one that split and another.
-use Rattle.std.proofs.Common.{◌≡◌, ℕ, ◌+◌, ◌<◌, ◌≤◌, ◌⊎◌, inl, inr, ⊎_elim, List, ◌++◌, length, set, slice_set, refl, sym, ap, ◌∙◌, subst, arith}
+use Rattle.std.proofs.Common.{◌≡◌, ℕ, ◌+◌, ◌<◌, ◌≤◌, ◌⊎◌, inl, inr, ⊎_elim, List, ◌++◌, length, set, slice_set, refl}
+use Rattle.std.proofs.Common.{sym, ap, ◌∙◌, subst, arith}
 use Rattle.std.specs.Prelude.{Option, Some, None, IsSome, IsSomeAnd, IsTrue, true, false}
 use Rattle.std.proofs.lemmas.Bool.{leb-true, le-leb, cases_lt}
 use Rattle.std.proofs.lemmas.List.{append-nil}
@@ -33,14 +34,15 @@ use Rattle.index_law.specs.Anchors.{anchors_of, anchors_in, members_most}
 use Rattle.shapes.specs.Anchors.{merges}
 use Rattle.index_law.proofs.Parties.{set_here}
 use Rattle.index_law.proofs.Starts.{listed_within}
-use Rattle.lone_call_law.specs.LoneCalls.{FindsFull, NeedsLine, FindsWorn, IsLate, IsAnswered}
-use Rattle.lone_call_law.specs.Splitting.{HasFree, LacksFree, LacksLine}
-use Rattle.lone_call_law.specs.Tries.{IsHalvedSince}
-use Rattle.lone_call_law.specs.Rooms.{target_node, target_names}
-use Rattle.lone_call_law.specs.Merging.{FindsMerge, HasKeptList, IsMergedSince, LeavesShape, NextIsWorn, next_node}
-use Rattle.lone_call_law.proofs.Locks.{worn_has_none}
-use Rattle.lone_call_law.proofs.Rooms.{names_most, cut_has_room}
-use Rattle.lone_call_law.proofs.Shapes.{room_is_no_split, cut_is_split}
+use Rattle.lone_hops_law.specs.lone_call_law.specs.LoneCalls.{FindsFull, NeedsLine, FindsWorn, IsLate, IsAnswered}
+use Rattle.lone_hops_law.specs.lone_call_law.specs.Splitting.{HasFree, LacksFree, LacksLine}
+use Rattle.lone_hops_law.specs.lone_call_law.specs.Tries.{IsHalvedSince}
+use Rattle.lone_hops_law.specs.lone_call_law.specs.Rooms.{target_node, target_names}
+use Rattle.lone_hops_law.specs.lone_call_law.specs.Merging.{FindsMerge, HasKeptList, IsMergedSince, LeavesShape}
+use Rattle.lone_hops_law.specs.lone_call_law.specs.Merging.{NextIsWorn, next_node}
+use Rattle.lone_hops_law.specs.lone_call_law.proofs.Locks.{worn_has_none}
+use Rattle.lone_hops_law.specs.lone_call_law.proofs.Rooms.{names_most, cut_has_room}
+use Rattle.lone_hops_law.specs.lone_call_law.proofs.Shapes.{room_is_no_split, cut_is_split}
 use Rattle.index_core.specs.declared.party.PartyState.{PartyState}
 use Rattle.index_core.specs.declared.party.CoreCall.{CoreCall}
 use Rattle.index_core.specs.declared.party.CoreCall.TheVariants as call
@@ -49,12 +51,17 @@ use Rattle.index_core.specs.declared.party.Whole.TheVariants as whole
 use Rattle.index_core.specs.CoreCalls.{op_of, limit_of, count_of}
 use Rattle.index_core.specs.PartyStates.{party_of, state_counted}
 use Rattle.index_core.specs.Indexes.{Index, world, map_of_index, IsIndex}
-use Rattle.index_core.specs.Lone.{HasNoCalls, IsQuiet, IsStill, SortsIfStale, FindsNoRoom, HasSameList, SplitsFor, SplitsNothing, MergesFor, MergesNothing, LeavesList, TakesLocks, LoseAtMost, TakesEachLock, names_beside, locks_left, IsWholeAnswer, TriesAlone, RunsAlone, CountsCall, ComesFree, KeepsStamps, IsMadeAgain, NeedsNoTurn, LandsIn, HasShortWays, HopsAreFew, WalksShort, LeavesLog, most_tries, alone_writes, lacks_line, lacks_node, needs_split, node_for, part_whole, taken_nodes, whole_of, state_tried, state_done}
+use Rattle.index_core.specs.Lone.{HasNoCalls, IsQuiet, IsStill, SortsIfStale, FindsNoRoom, HasSameList, SplitsFor}
+use Rattle.index_core.specs.Lone.{SplitsNothing, MergesFor, MergesNothing, LeavesList, TakesLocks, LoseAtMost}
+use Rattle.index_core.specs.Lone.{TakesEachLock, names_beside, locks_left, IsWholeAnswer, TriesAlone, RunsAlone}
+use Rattle.index_core.specs.Lone.{CountsCall, ComesFree, KeepsStamps, IsMadeAgain, NeedsNoTurn, LandsIn, HasShortWays}
+use Rattle.index_core.specs.Lone.{HopsAreFew, WalksShort, LeavesLog, most_tries, alone_writes, lacks_line, lacks_node}
+use Rattle.index_core.specs.Lone.{needs_split, node_for, part_whole, taken_nodes, whole_of, state_tried, state_done}
 use Rattle.index_core.specs.Weights.{weight_of, added_by, added_if, added_whole}
 use Rattle.index_core.specs.Listings.{IsPartAt}
-use Rattle.lone_call_law.specs.There.{WalksBy}
-use Rattle.lone_updater_law.specs.CallLogs.{KeepsLines, MakesReady, LeavesLines, ready_lines}
-use Rattle.lone_updater_law.proofs.ReadyCounts.{ready_are_counted}
+use Rattle.lone_hops_law.specs.lone_call_law.specs.There.{WalksBy}
+use Rattle.lone_hops_law.specs.lone_updater_law.specs.CallLogs.{KeepsLines, MakesReady, LeavesLines, ready_lines}
+use Rattle.lone_hops_law.specs.lone_updater_law.proofs.ReadyCounts.{ready_are_counted}
 use Rattle.lone_hops_law.proofs.Short.{short_stays, short_walks}
 use Rattle.index_core.proofs.WornNodes.{worn_target}
 use Rattle.index_core.proofs.Lists.{set_twice}

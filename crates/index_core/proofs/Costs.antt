@@ -1,5 +1,6 @@
 -- How many actions a lone call makes.
-use Rattle.std.proofs.Common.{◌⊎◌, inl, inr, ◌≡◌, ℕ, ◌+◌, ◌-◌, ◌*◌, ◌≤◌, Bool, true, false, cond, Option, Some, None, List, length, refl, ap, ◌∙◌, arith}
+use Rattle.std.proofs.Common.{◌⊎◌, inl, inr, ◌≡◌, ℕ, ◌+◌, ◌-◌, ◌*◌, ◌≤◌, Bool, true, false, cond, Option, Some, None}
+use Rattle.std.proofs.Common.{List, length, refl, ap, ◌∙◌, arith}
 use mathlib.Core.Option.{some}
 use lib.ListN.{get_elem?}
 use Rattle.pm_words.specs.declared.again.Again.TheVariants as again
@@ -32,19 +33,21 @@ use Rattle.node_ops.specs.RunningSteps.{IsRunning, running_call, running_left, r
 use Rattle.node_ops.proofs.Costs.{puts_spare_splits, walks_end_so}
 use Rattle.index_law.specs.Worlds.{Party, World}
 use Rattle.index_law.proofs.Parties.{set_here}
-use Rattle.lone_call_law.specs.LoneCalls.{FindsFull, IsAnswered, IsLate, IsThere, WayIsThere}
-use Rattle.lone_call_law.specs.There.{HasCome, LookupStands, WalksBy}
-use Rattle.lone_updater_law.specs.CallLogs.{LeavesLines, ready_lines}
-use Rattle.search_layer.specs.Floors.{floor_most}
+use Rattle.lone_hops_law.specs.lone_call_law.specs.LoneCalls.{FindsFull, IsAnswered, IsLate, IsThere, WayIsThere}
+use Rattle.lone_hops_law.specs.lone_call_law.specs.There.{HasCome, LookupStands, WalksBy}
+use Rattle.lone_hops_law.specs.lone_updater_law.specs.CallLogs.{LeavesLines, ready_lines}
+use Rattle.node_ops.specs.search_layer.specs.Floors.{floor_most}
 use Rattle.index_core.specs.declared.party.CoreCall.{CoreCall}
 use Rattle.index_core.specs.declared.party.CoreCall.TheVariants as call
 use Rattle.index_core.specs.CoreCalls.{limit_of, machine_of, op_of}
 use Rattle.index_core.specs.Bursts.{TurnsOn}
-use Rattle.index_core.specs.Costs.{ActionsAreFew, ActsWithin, IsUnworn, IsUnwornWhole, TriesWithin, list_actions, look_actions, merge_actions, most_actions, other_actions, split_actions}
+use Rattle.index_core.specs.Costs.{ActionsAreFew, ActsWithin, IsUnworn, IsUnwornWhole, TriesWithin, list_actions}
+use Rattle.index_core.specs.Costs.{look_actions, merge_actions, most_actions, other_actions, split_actions}
 use Rattle.index_core.specs.Indexes.{Index, IsIndex, Starts, told, view_of, world}
-use Rattle.index_core.specs.Lone.{HasNoCalls, HasShortWays, IsWholeAnswer, NeedsNoTurn, TriesAlone, lacks_line, lacks_node, needs_split, part_whole, whole_of}
+use Rattle.index_core.specs.Lone.{HasNoCalls, HasShortWays, IsWholeAnswer, NeedsNoTurn, TriesAlone, lacks_line}
+use Rattle.index_core.specs.Lone.{lacks_node, needs_split, part_whole, whole_of}
 use Rattle.index_core.specs.PartyStates.{party_of, state_with}
-use Rattle.lone_updater_law.proofs.ReadyCounts.{ready_are_counted}
+use Rattle.lone_hops_law.specs.lone_updater_law.proofs.ReadyCounts.{ready_are_counted}
 use Rattle.lone_hops_law.proofs.Short.{short_stays}
 use Rattle.index_core.proofs.Alone.{late_was, walk_is_short}
 use Rattle.index_core.proofs.Retrying.{split_is_full, turned_back}

@@ -10,7 +10,7 @@ use Rattle.call_stages.specs.declared.once.Placed.{Placed}
 use Rattle.node_ops.specs.declared.running.Running.{Running}
 use Rattle.node_ops.specs.RunningSteps.{running_turned}
 use Rattle.pm_words.specs.declared.layout.Layout.{Layout}
-use Rattle.updater_row_law.specs.RowStages.{Resting, Frees}
+use Rattle.updater.specs.updater_row_law.specs.RowStages.{Resting, Frees}
 use Rattle.updater.specs.declared.making.MakeTurn.{MakeTurn}
 use Rattle.updater.specs.declared.making.TurnReply.{TurnReply}
 use Rattle.updater.specs.Makings.{making_from, making_turned, making_turning}
@@ -19,7 +19,8 @@ use Rattle.index_core.specs.declared.party.PartyState.{PartyState}
 use Rattle.index_core.specs.PartyStates.{state_after, turn_after}
 use Rattle.index_core.specs.Indexes.{Index, told}
 use Rattle.index_core.specs.Lone.{IsQuiet, state_done}
-use Rattle.index_core.specs.Schedules.{BegunCall, AnsweredCall, Runs, begins, starts, goes_on, answers, alone, evicts, reserves, begins_recheck, steps_recheck, begins_turn, steps_turn, turns_alone}
+use Rattle.index_core.specs.Schedules.{BegunCall, AnsweredCall, Runs, begins, starts, goes_on, answers, alone, evicts}
+use Rattle.index_core.specs.Schedules.{reserves, begins_recheck, steps_recheck, begins_turn, steps_turn, turns_alone}
 use Rattle.index_core.specs.Turns.{IsToFree, turn_told}
 use Rattle.index_core.specs.Freeing.{WasReleased, FreedWereReleased, StepsFreeReleased}
 

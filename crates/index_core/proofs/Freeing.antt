@@ -1,5 +1,6 @@
 -- Which steps make a node FREE: one of a turn of the updater, and no step of a call.
-use Rattle.std.proofs.Common.{◌≡◌, ◌≢◌, ℕ, ◌+◌, ◌<◌, ◌⊎◌, inl, inr, ⊎_elim, Bool, true, false, cond, List, slice_set, sym, ap, ◌∙◌, subst, arith, refl}
+use Rattle.std.proofs.Common.{◌≡◌, ◌≢◌, ℕ, ◌+◌, ◌<◌, ◌⊎◌, inl, inr, ⊎_elim, Bool, true, false, cond, List, slice_set}
+use Rattle.std.proofs.Common.{sym, ap, ◌∙◌, subst, arith, refl}
 use Rattle.std.specs.Prelude.{Option, nat_lt, ◌==◌}
 use Rattle.std.proofs.lemmas.Bool.{cases_eq, eq-eqb, ne_eqb}
 use Rattle.std.proofs.lemmas.List.{set-get_or}
@@ -16,15 +17,22 @@ use Rattle.call_stages.specs.declared.once.Placed.{Placed}
 use Rattle.call_stages.specs.Stages.{Stage}
 use Rattle.call_stages.specs.Kinds.{Step, Split, Merge}
 use Rattle.call_stages.specs.Kinds as kinds
-use Rattle.search_layer.specs.ChangeStages.{Changing, Changed, ChangeStep}
+use Rattle.node_ops.specs.search_layer.specs.ChangeStages.{Changing, Changed, ChangeStep}
 use Rattle.index_law.specs.Facts.{Facts, status_in}
 use Rattle.index_law.proofs.Moves.{fact_after, split_after, merge_after}
 use Rattle.index_law.proofs.Rows.{status_in-alike}
-use Rattle.updater_row_law.specs.Columns.{RowTerms, Ghosts, line_count, line_word}
-use Rattle.updater_row_law.specs.RowStages.{RowLine, aim_of, RowStage, Resting, Between, Sweeps, Stamps, Clears, Counts, Changes, IsUnworn, Frees, after_line, after_node, after_change}
-use Rattle.updater_row_law.specs.RowSteps.{line_at, volatile_at, version_at, RowStep, takes_lock, finds_held, passes, sees, reads, has_read, walks, is_turned_back, finds, loses, decides, changes, has_changed, stamps, empties, passes_node, sees_gone, passes_stamp, sees_stamp, passes_worn, sees_unworn, unstamps, frees, counts, leaves_lock}
-use Rattle.updater_row_law.specs.RowLaw.{RowLawful}
-use Rattle.updater_row_law.proofs.RowChanges.{change_kept}
+use Rattle.updater.specs.updater_row_law.specs.Columns.{RowTerms, Ghosts, line_count, line_word}
+use Rattle.updater.specs.updater_row_law.specs.RowStages.{RowLine, aim_of, RowStage, Resting, Between, Sweeps, Stamps}
+use Rattle.updater.specs.updater_row_law.specs.RowStages.{Clears, Counts, Changes, IsUnworn, Frees, after_line}
+use Rattle.updater.specs.updater_row_law.specs.RowStages.{after_node, after_change}
+use Rattle.updater.specs.updater_row_law.specs.RowSteps.{line_at, volatile_at, version_at, RowStep, takes_lock}
+use Rattle.updater.specs.updater_row_law.specs.RowSteps.{finds_held, passes, sees, reads, has_read, walks}
+use Rattle.updater.specs.updater_row_law.specs.RowSteps.{is_turned_back, finds, loses, decides, changes, has_changed}
+use Rattle.updater.specs.updater_row_law.specs.RowSteps.{stamps, empties, passes_node, sees_gone, passes_stamp}
+use Rattle.updater.specs.updater_row_law.specs.RowSteps.{sees_stamp, passes_worn, sees_unworn, unstamps, frees}
+use Rattle.updater.specs.updater_row_law.specs.RowSteps.{counts, leaves_lock}
+use Rattle.updater.specs.updater_row_law.specs.RowLaw.{RowLawful}
+use Rattle.updater.specs.updater_row_law.proofs.RowChanges.{change_kept}
 
 -- ---- of calls
 

@@ -1,5 +1,6 @@
 -- Which lone puts find no room, in the words of the shape.
-use Rattle.std.proofs.Common.{◌≡◌, ◌≢◌, ℕ, zero, suc, ◌+◌, ◌<◌, ◌==◌, ⊎_elim, inl, inr, cond, refl, sym, ap, ◌∙◌, subst, arith, zero-add}
+use Rattle.std.proofs.Common.{◌≡◌, ◌≢◌, ℕ, zero, suc, ◌+◌, ◌<◌, ◌==◌, ⊎_elim, inl, inr, cond, refl, sym, ap, ◌∙◌}
+use Rattle.std.proofs.Common.{subst, arith, zero-add}
 use Rattle.std.proofs.lemmas.Bool.{cases_eq, eq-eqb, ne_eqb}
 use Rattle.shapes.specs.Anchors.{IsFullPut}
 use Rattle.pm_words.specs.Codes.{free_status, gone_status}
@@ -7,8 +8,8 @@ use Rattle.index_law.specs.Anchors.{anchors_in, gone_nodes, members_most}
 use Rattle.index_law.specs.Facts.{Facts, IsListed}
 use Rattle.index_law.specs.Worlds.{facts}
 use Rattle.index_law.proofs.Sizes.{no_free_is_each, nodes_are_counted}
-use Rattle.lone_call_law.proofs.Locks.{worn_has_none}
-use Rattle.lone_call_law.proofs.Shapes.{full_is_no_room, no_room_is_full}
+use Rattle.lone_hops_law.specs.lone_call_law.proofs.Locks.{worn_has_none}
+use Rattle.lone_hops_law.specs.lone_call_law.proofs.Shapes.{full_is_no_room, no_room_is_full}
 use Rattle.index_core.specs.Indexes.{Index, map_of_index, world}
 use Rattle.index_core.specs.Lone.{ComesFree, LacksNode, locks_left}
 use Rattle.index_core.specs.Fulls.{HasLowStamps, NoRoomIsFullPut, NoRoomListsEach}

@@ -25,10 +25,10 @@ use Rattle.node_ops.specs.Costs.{has_landed, hops_spared, lookup_landed, spared,
 use Rattle.node_ops.specs.LookupSteps.{IsLookupAt, lookup_at_left}
 use Rattle.node_ops.specs.RunningSteps.{IsRunning, running_call, running_left}
 use Rattle.index_law.specs.Worlds.{World}
-use Rattle.lone_call_law.specs.LoneCalls.{FindsFull, Foresees, IsAnswered, IsThere}
-use Rattle.lone_call_law.specs.There.{LookupStands, WalksBy}
-use Rattle.lone_updater_law.specs.CallLogs.{ready_lines}
-use Rattle.search_layer.specs.Floors.{floor_most}
+use Rattle.lone_hops_law.specs.lone_call_law.specs.LoneCalls.{FindsFull, Foresees, IsAnswered, IsThere}
+use Rattle.lone_hops_law.specs.lone_call_law.specs.There.{LookupStands, WalksBy}
+use Rattle.lone_hops_law.specs.lone_updater_law.specs.CallLogs.{ready_lines}
+use Rattle.node_ops.specs.search_layer.specs.Floors.{floor_most}
 use Rattle.lone_hops_law.proofs.Short.{short_stays}
 use Rattle.index_core.specs.declared.party.CoreCall.{CoreCall}
 use Rattle.index_core.specs.declared.party.CoreCall.TheVariants as call

@@ -15,15 +15,15 @@ use Rattle.index_law.specs.InUse.{AreSplitFull, AreInUse}
 use Rattle.index_law.specs.Lawful.{Sure}
 use Rattle.index_law.specs.Weights.{weight_sum}
 use Rattle.index_law.specs.Worlds.{Party, facts}
-use Rattle.index_layer_law.specs.Layers.{IsLayered, turn_facts}
-use Rattle.index_layer_law.specs.Turnings.{terms_of as row_terms_of}
-use Rattle.index_layer_law.proofs.FactTies.{status_tie}
-use Rattle.index_layer_law.proofs.TurnSteps.{others_rest}
+use Rattle.index_image_law.specs.index_layer_law.specs.Layers.{IsLayered, turn_facts}
+use Rattle.index_image_law.specs.index_layer_law.specs.Turnings.{terms_of as row_terms_of}
+use Rattle.index_image_law.specs.index_layer_law.proofs.FactTies.{status_tie}
+use Rattle.index_image_law.specs.index_layer_law.proofs.TurnSteps.{others_rest}
 use Rattle.index_law.proofs.InUse.{use_weighs}
 use Rattle.updater_law.specs.Lawful.{TurnLawful}
-use Rattle.updater_row_law.specs.Columns.{terms_of}
-use Rattle.updater_row_law.specs.RowStages.{RowStage, Resting, Counts, turn_stage}
-use Rattle.updater_row_law.specs.Turnings.{Turning}
+use Rattle.updater.specs.updater_row_law.specs.Columns.{terms_of}
+use Rattle.updater.specs.updater_row_law.specs.RowStages.{RowStage, Resting, Counts, turn_stage}
+use Rattle.updater.specs.updater_row_law.specs.Turnings.{Turning}
 use Rattle.updater.specs.declared.making.MakeTurn.{MakeTurn}
 use Rattle.updater.specs.declared.making.MakeTurn.TheVariants.{Taking, Working}
 use Rattle.updater.specs.declared.making.TurnReply.TheVariants as reply

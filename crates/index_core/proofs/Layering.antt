@@ -1,5 +1,6 @@
 -- What keeps an index with its search layer and its turns.
-use Rattle.std.proofs.Common.{◌≡◌, ◌≢◌, ℕ, ◌<◌, ◌^◌, ◌⊎◌, inl, inr, ⊎_elim, List, set, map, slice_set, slice_index, refl, sym, ap, ◌∙◌, subst, arith}
+use Rattle.std.proofs.Common.{◌≡◌, ◌≢◌, ℕ, ◌<◌, ◌^◌, ◌⊎◌, inl, inr, ⊎_elim, List, set, map, slice_set, slice_index}
+use Rattle.std.proofs.Common.{refl, sym, ap, ◌∙◌, subst, arith}
 use Rattle.std.specs.Prelude.{Option, Some, None, length}
 use Rattle.std.proofs.lemmas.List.{set-get_or}
 use mathlib.Core.Option.{some}
@@ -28,14 +29,14 @@ use Rattle.index_law.specs.Footings.{stepped_whole}
 use Rattle.index_law.specs.Footed.{IsFooted}
 use Rattle.index_law.proofs.AnySteps.{set_own}
 use Rattle.index_law.proofs.Parties.{at_set, set_here, set_else}
-use Rattle.updater_row_law.specs.Turnings.{Turning}
-use Rattle.index_layer_law.specs.Layers.{Layered, IsLayered}
-use Rattle.index_layer_law.specs.Laws.{IsAtRest}
-use Rattle.index_layer_law.specs.Beginnings.{IsIdleOrKept}
-use Rattle.index_layer_law.proofs.Restamping.{stamp_keeps_layer}
-use Rattle.index_layer_law.proofs.Beginnings.{beginning_keeps_layer, other_turns_may_rest}
-use Rattle.index_layer_law.proofs.CallLaw.{call_step_keeps}
-use Rattle.index_layer_law.proofs.LayerStays.{eviction_keeps_layer}
+use Rattle.updater.specs.updater_row_law.specs.Turnings.{Turning}
+use Rattle.index_image_law.specs.index_layer_law.specs.Layers.{Layered, IsLayered}
+use Rattle.index_image_law.specs.index_layer_law.specs.Laws.{IsAtRest}
+use Rattle.index_image_law.specs.index_layer_law.specs.Beginnings.{IsIdleOrKept}
+use Rattle.index_image_law.specs.index_layer_law.proofs.Restamping.{stamp_keeps_layer}
+use Rattle.index_image_law.specs.index_layer_law.proofs.Beginnings.{beginning_keeps_layer, other_turns_may_rest}
+use Rattle.index_image_law.specs.index_layer_law.proofs.CallLaw.{call_step_keeps}
+use Rattle.index_image_law.specs.index_layer_law.proofs.LayerStays.{eviction_keeps_layer}
 use Rattle.index_core.specs.declared.party.PartyState.{PartyState}
 use Rattle.index_core.specs.PartyStates.{machine_stage, machine_footing, party_of, resting, turning_of, state_after}
 use Rattle.index_core.specs.Crashes.{evicted_index}

@@ -1,10 +1,11 @@
 -- How many log lines lone calls leave READY, and when such a call needs no turn.
-use Rattle.std.proofs.Common.{◌≡◌, ◌≢◌, ℕ, zero, suc, ◌+◌, ◌*◌, ◌/◌, ◌%◌, ◌<◌, ◌⊎◌, Bool, true, false, cond, inl, inr, ⊎_elim, length, refl, sym, ◌∙◌, subst, arith}
+use Rattle.std.proofs.Common.{◌≡◌, ◌≢◌, ℕ, zero, suc, ◌+◌, ◌*◌, ◌/◌, ◌%◌, ◌<◌, ◌⊎◌, Bool, true, false, cond, inl, inr}
+use Rattle.std.proofs.Common.{⊎_elim, length, refl, sym, ◌∙◌, subst, arith}
 use Rattle.std.proofs.lemmas.Bool.{cases_eq, eqb-true}
 use Rattle.pm_words.specs.Codes.{free_status, empty_state}
 use Rattle.pm_words.specs.Locations.{Cached}
-use Rattle.updater_row_law.specs.Columns.{line_count, line_word}
-use Rattle.updater_row_law.proofs.RowColumns.{column-here}
+use Rattle.updater.specs.updater_row_law.specs.Columns.{line_count, line_word}
+use Rattle.updater.specs.updater_row_law.proofs.RowColumns.{column-here}
 use Rattle.updater.specs.Events.{how_many}
 use Rattle.index_law.specs.Anchors.{anchors_in, members_most}
 use Rattle.index_law.specs.Facts.{Facts}
@@ -12,11 +13,11 @@ use Rattle.index_law.specs.Lines.{line_in}
 use Rattle.index_law.specs.Worlds.{facts}
 use Rattle.index_law.proofs.Noting.{line-here}
 use Rattle.index_law.proofs.Sizes.{no_free_is_each, nodes_are_counted}
-use Rattle.lone_call_law.specs.Splitting.{HasFree, HasLine}
-use Rattle.lone_call_law.proofs.Locks.{worn_has_none}
-use Rattle.lone_updater_law.specs.CallLogs.{KeepsLines, MakesReady, is_own_empty}
-use Rattle.lone_updater_law.specs.LoneTurns.{line_state}
-use Rattle.lone_updater_law.proofs.ReadyCounts.{empty_are_counted, ready_are_counted}
+use Rattle.lone_hops_law.specs.lone_call_law.specs.Splitting.{HasFree, HasLine}
+use Rattle.lone_hops_law.specs.lone_call_law.proofs.Locks.{worn_has_none}
+use Rattle.lone_hops_law.specs.lone_updater_law.specs.CallLogs.{KeepsLines, MakesReady, is_own_empty}
+use Rattle.lone_hops_law.specs.lone_updater_law.specs.LoneTurns.{line_state}
+use Rattle.lone_hops_law.specs.lone_updater_law.proofs.ReadyCounts.{empty_are_counted, ready_are_counted}
 use Rattle.index_core.specs.declared.party.CoreCall.{CoreCall}
 use Rattle.index_core.specs.declared.party.CoreCall.TheVariants as call
 use Rattle.index_core.specs.Indexes.{Index, IsIndex, world}

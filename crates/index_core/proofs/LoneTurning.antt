@@ -1,5 +1,6 @@
 -- A whole turn of the updater with nothing else in flight.
-use Rattle.std.proofs.Common.{◌+◌, ◌≡◌, ◌≢◌, ℕ, ◌/◌, ◌%◌, ◌<◌, ◌≤◌, ◌^◌, ◌⊎◌, inl, inr, ⊎_elim, cond, List, set, refl, sym, ap, ◌∙◌, subst, arith}
+use Rattle.std.proofs.Common.{◌+◌, ◌≡◌, ◌≢◌, ℕ, ◌/◌, ◌%◌, ◌<◌, ◌≤◌, ◌^◌, ◌⊎◌, inl, inr, ⊎_elim, cond, List, set, refl}
+use Rattle.std.proofs.Common.{sym, ap, ◌∙◌, subst, arith}
 use Rattle.std.specs.Prelude.{Option, Some, None, true, false}
 use Rattle.std.proofs.lemmas.Bool.{cases_eq, ne_eqb}
 use mathlib.Core.Option.{none, some, some-injective}
@@ -20,9 +21,9 @@ use Rattle.index_law.specs.Whole.{Whole}
 use Rattle.index_law.proofs.Noting.{line-here}
 use Rattle.index_law.proofs.AnySteps.{set_own}
 use Rattle.index_law.proofs.Parties.{at_set, set_here}
-use Rattle.updater_row_law.specs.Columns.{line_count, line_word}
-use Rattle.updater_row_law.proofs.RowColumns.{column-here}
-use Rattle.updater_row_law.specs.Turnings.{Turning}
+use Rattle.updater.specs.updater_row_law.specs.Columns.{line_count, line_word}
+use Rattle.updater.specs.updater_row_law.proofs.RowColumns.{column-here}
+use Rattle.updater.specs.updater_row_law.specs.Turnings.{Turning}
 use Rattle.updater.specs.declared.making.MakeTurn.{MakeTurn}
 use Rattle.updater.specs.declared.making.MakeTurn.TheVariants.{Taking, Working}
 use Rattle.updater.specs.declared.making.TurnReply.{TurnReply}
@@ -30,27 +31,30 @@ use Rattle.updater.specs.declared.making.TurnReply.TheVariants as reply
 use Rattle.updater.specs.declared.terms.Turned.{Turned}
 use Rattle.updater.specs.declared.work.Work.{Work}
 use Rattle.updater.specs.declared.terms.Terms.{Terms}
-use Rattle.updater.specs.Makings.{making_terms, making_from, making_asks, making_turned, making_left, lock_found, worked}
+use Rattle.updater.specs.Makings.{making_terms, making_from, making_asks, making_turned, making_left, lock_found}
+use Rattle.updater.specs.Makings.{worked}
 use Rattle.updater.specs.Watches.{turning_after}
 use Rattle.updater.specs.Works.{work_from, work_turned, work_asks}
-use Rattle.index_layer_law.specs.Layers.{Layered, IsLayered}
-use Rattle.index_layer_law.specs.Laws.{IsAtRest, LeavesNodes, turned}
-use Rattle.lone_updater_law.specs.Laws.{LoneTurning, GoesOn}
-use Rattle.lone_updater_law.specs.LoneTurns.{line_state, frees_node, status_then, AreEmptyOrReady, IsIdle, IsLoneTurn}
+use Rattle.index_image_law.specs.index_layer_law.specs.Layers.{Layered, IsLayered}
+use Rattle.index_image_law.specs.index_layer_law.specs.Laws.{IsAtRest, LeavesNodes, turned}
+use Rattle.lone_hops_law.specs.lone_updater_law.specs.Laws.{LoneTurning, GoesOn}
+use Rattle.lone_hops_law.specs.lone_updater_law.specs.LoneTurns.{line_state, frees_node, status_then, AreEmptyOrReady}
+use Rattle.lone_hops_law.specs.lone_updater_law.specs.LoneTurns.{IsIdle, IsLoneTurn}
 use Rattle.pm_words.specs.declared.layout.Layout.{Layout}
 use Rattle.index_law.specs.Facts.{Facts}
 use Rattle.index_law.specs.Worlds.{Party, World, facts}
 use Rattle.index_law.specs.Weights.{gone_weight, index_weight, weight_sum}
 use Rattle.index_law.proofs.Weights.{gone_less}
 use Rattle.index_core.specs.Weights.{weight_of}
-use Rattle.lone_updater_law.proofs.Begins.{turns_begin}
-use Rattle.lone_updater_law.proofs.Going.{turns_go}
+use Rattle.lone_hops_law.specs.lone_updater_law.proofs.Begins.{turns_begin}
+use Rattle.lone_hops_law.specs.lone_updater_law.proofs.Going.{turns_go}
 use Rattle.index_core.specs.declared.party.PartyState.{PartyState}
 use Rattle.index_core.specs.PartyStates.{resting, turning_of, turn_after, turn_reply}
 use Rattle.index_core.specs.Indexes.{Index, IsIndex, IsTurning, footed, layered, world}
 use Rattle.index_core.specs.Lone.{HasNoCalls, HoldsLock, IsQuiet}
 use Rattle.index_core.specs.Costs.{turn_actions}
-use Rattle.index_core.specs.Turns.{KeepsNodes, StartsTurn, TurnAlong, at_first, one_more, TurnSteps, TurnsAlone, turn_told, turned_index}
+use Rattle.index_core.specs.Turns.{KeepsNodes, StartsTurn, TurnAlong, at_first, one_more, TurnSteps, TurnsAlone}
+use Rattle.index_core.specs.Turns.{turn_told, turned_index}
 use Rattle.index_core.proofs.Layering.{turn_of, rest_turns, at_rest}
 use Rattle.index_core.proofs.Lists.{map_there, set_twice}
 use Rattle.index_core.proofs.Quiet.{idle_lines, quiet_parties}

@@ -20,15 +20,15 @@ use Rattle.index_law.specs.Footed.{AreFree}
 use Rattle.index_law.specs.Worlds.{Party, facts}
 use Rattle.index_law.specs.Lawful.{Each, HasNames}
 use Rattle.index_law.proofs.Starts.{rest_law}
-use Rattle.updater_row_law.proofs.RowColumns.{column-here}
-use Rattle.image_recovery_law.specs.Columns.{Columns}
+use Rattle.updater.specs.updater_row_law.proofs.RowColumns.{column-here}
+use Rattle.index_opening_law.specs.image_recovery_law.specs.Columns.{Columns}
 use Rattle.index_opening_law.specs.Openings.{IsOpening, IsUnlocked}
 use Rattle.index_opening_law.proofs.Opened.{opening_is_at_rest, opening_has_list, opening_is_unlocked}
 use Rattle.index_opening_law.proofs.Footing.{opening_is_footed}
 use Rattle.index_opening_law.proofs.Layering.{opening_is_layered}
 use Rattle.permutation_law.proofs.Columns.{made_at-here}
-use Rattle.lone_call_law.specs.Locks.{fewest_locks}
-use Rattle.lone_updater_law.specs.LoneTurns.{stamp_in}
+use Rattle.lone_hops_law.specs.lone_call_law.specs.Locks.{fewest_locks}
+use Rattle.lone_hops_law.specs.lone_updater_law.specs.LoneTurns.{stamp_in}
 use Rattle.index_core.specs.PartyStates.{idle_states, party_of, IsPartyState}
 use Rattle.index_core.specs.declared.party.PartyState.{PartyState}
 use Rattle.index_core.specs.Indexes.{IsIndex, parties_of, world}

@@ -25,7 +25,8 @@ use Rattle.index_core.specs.PartyStates.{party_of, state_with}
 use Rattle.index_core.specs.Indexes.{Index, room_of, told, world, IsIndex, IsInFlight, TurnsTo}
 use Rattle.index_core.specs.Bursts.{TurnsOn}
 use Rattle.index_core.specs.Listings.{IsPartAt, ListsAt}
-use Rattle.index_core.specs.Lone.{HasListed, HasListing, IsQuiet, IsStill, IsWholeAnswer, SortsIfStale, LoseAtMost, RunsAlone, locks_left, most_tries, part_whole, node_for}
+use Rattle.index_core.specs.Lone.{HasListed, HasListing, IsQuiet, IsStill, IsWholeAnswer, SortsIfStale, LoseAtMost}
+use Rattle.index_core.specs.Lone.{RunsAlone, locks_left, most_tries, part_whole, node_for}
 use Rattle.index_core.proofs.Alone.{part_early, part_done}
 use Rattle.node_ops.specs.Parts.{Confirms, HasCompared}
 use Rattle.node_ops.specs.Permuting.{reading_of}
@@ -33,9 +34,10 @@ use Rattle.pm_words.specs.Rows.{acted}
 use Rattle.index_core.proofs.Bursting.{turns_on}
 use Rattle.index_core.proofs.PartsAlone.{listed_node, listed_word, sorts_so}
 use Rattle.pm_words.specs.declared.layout.Layout.{Layout}
-use Rattle.lone_call_law.specs.LoneCalls.{IsThere}
+use Rattle.lone_hops_law.specs.lone_call_law.specs.LoneCalls.{IsThere}
 use Rattle.index_core.proofs.Told.{done_of, is_early}
-use Rattle.index_core.proofs.Tries.{Lone, lone_each, lone_locks, lone_machine, lone_none, lone_quiet, lone_still, lone_there, lone_tries, spare_left, turn_machine, turn_told}
+use Rattle.index_core.proofs.Tries.{Lone, lone_each, lone_locks, lone_machine, lone_none, lone_quiet, lone_still}
+use Rattle.index_core.proofs.Tries.{lone_there, lone_tries, spare_left, turn_machine, turn_told}
 
 some_same : {a b : Running} → Some a ≡ Some b → a ≡ b
 some_same e = cc

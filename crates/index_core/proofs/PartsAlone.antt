@@ -1,6 +1,7 @@
 -- What a part of a scan lists that is made with no other call in flight: names of the member of its low name, up to the
 -- next member's anchor.
-use Rattle.std.proofs.Common.{◌≡◌, ℕ, ◌+◌, ◌<◌, Bool, true, false, not, ◌&&◌, List, [], ◌∷◌, ◌++◌, inl, inr, ◌⊎◌, ⊎_elim, length, map, slice_get, refl, sym, ap, ◌∙◌, subst, arith}
+use Rattle.std.proofs.Common.{◌≡◌, ℕ, ◌+◌, ◌<◌, Bool, true, false, not, ◌&&◌, List, [], ◌∷◌, ◌++◌, inl, inr, ◌⊎◌}
+use Rattle.std.proofs.Common.{⊎_elim, length, map, slice_get, refl, sym, ap, ◌∙◌, subst, arith}
 use Rattle.std.specs.Prelude.{Option, Some, None, IfSome}
 use Rattle.std.specs.FinMap.{entries, keys}
 use Rattle.std.specs.List.{filter, AllByRecursion}
@@ -37,13 +38,14 @@ use Rattle.node_ops.specs.declared.part.Way.TheVariants as ways
 use Rattle.node_ops.specs.declared.call.Call.{Call}
 use Rattle.node_ops.specs.Calls.{name_in}
 use Rattle.permutation_law.specs.Permuted.{made_at}
-use Rattle.lone_call_law.specs.There.{IsAtNode}
-use Rattle.lone_call_law.proofs.Went.{free_come}
+use Rattle.lone_hops_law.specs.lone_call_law.specs.There.{IsAtNode}
+use Rattle.lone_hops_law.specs.lone_call_law.proofs.Went.{free_come}
 use Rattle.node_ops.specs.declared.part.Part.TheVariants as part_at
 use Rattle.node_ops.specs.declared.running.Running.{Running}
 use Rattle.node_ops.specs.declared.running.Running.TheVariants.{Getting, Putting, Deleting, Parting}
 use Rattle.node_ops.specs.Asked.{IsOf}
-use Rattle.node_ops.specs.PartSteps.{IsFreely, IsPart, IsReading, IsReadingAt, listed_at, part_asks, part_call, part_listed, part_words, reading_at_asks, version_at}
+use Rattle.node_ops.specs.PartSteps.{IsFreely, IsPart, IsReading, IsReadingAt, listed_at, part_asks, part_call}
+use Rattle.node_ops.specs.PartSteps.{part_listed, part_words, reading_at_asks, version_at}
 use Rattle.node_ops.specs.Permuting.{PermutationRead, part_reading, reading_of, way_reading}
 use Rattle.pm_words.specs.declared.action.Action.TheVariants.{Load, Store}
 use Rattle.pm_words.specs.Rows.{acted, got}
@@ -51,12 +53,12 @@ use Rattle.call_stages.specs.Kinds.{version_address}
 use Rattle.node_ops.proofs.PartListing.{listed_is_told}
 use Rattle.node_ops.specs.Parts.{Confirms, EndsAt, HasCompared, pairs_in}
 use Rattle.node_ops.specs.RunningSteps.{IsRunning, listed_in, running_asks, running_call}
-use Rattle.lone_call_law.specs.LoneCalls.{IsMadeNow, IsThere, LoneCall, PartIsThere, WayIsThere}
-use Rattle.lone_call_law.proofs.Served.{lone_parts_are_served}
+use Rattle.lone_hops_law.specs.lone_call_law.specs.LoneCalls.{IsMadeNow, IsThere, LoneCall, PartIsThere, WayIsThere}
+use Rattle.lone_hops_law.specs.lone_call_law.proofs.Served.{lone_parts_are_served}
 use Rattle.index_core.specs.Indexes.{Index, world, map_of_index, IsIndex}
 use Rattle.index_core.specs.Listings.{IsPartAt, ListsRange}
 use Rattle.index_core.specs.Lone.{HasNoCalls, IsWholePart, SortsIfStale, node_for}
-use Rattle.lone_call_law.specs.There.{WalksBy}
+use Rattle.lone_hops_law.specs.lone_call_law.specs.There.{WalksBy}
 use Rattle.index_core.proofs.PartFacts.{lists_range}
 use Rattle.index_core.proofs.Quiet.{rests}
 

@@ -12,8 +12,8 @@ use Rattle.index_law.specs.Lawful.{Each}
 use Rattle.index_law.specs.Laws.{IsAtRest}
 use Rattle.index_law.proofs.Parties.{at_set, set_else, set_here}
 use Rattle.index_law.proofs.Starts.{idle_law}
-use Rattle.lone_call_law.specs.There.{CanWalk}
-use Rattle.lone_updater_law.proofs.TurnSteps.{walks_are_quiet}
+use Rattle.lone_hops_law.specs.lone_call_law.specs.There.{CanWalk}
+use Rattle.lone_hops_law.specs.lone_updater_law.proofs.TurnSteps.{walks_are_quiet}
 use Rattle.updater.specs.declared.making.MakeTurn.{MakeTurn}
 use Rattle.index_core.specs.declared.party.PartyState.{PartyState}
 use Rattle.index_core.specs.PartyStates.{machine_footing, machine_stage, party_of}

@@ -10,7 +10,7 @@ use Rattle.pm_words.specs.declared.machine.Turn.{Turn}
 use Rattle.pm_words.specs.declared.machine.Turn.TheVariants.{Go, Done}
 use Rattle.call_stages.specs.declared.once.Once.{Once}
 use Rattle.index_law.specs.Worlds.{facts}
-use Rattle.index_layer_law.specs.Layers.{IsLayered}
+use Rattle.index_image_law.specs.index_layer_law.specs.Layers.{IsLayered}
 use Rattle.node_ops.specs.declared.recheck.Recheck.{Recheck}
 use Rattle.node_ops.specs.declared.recheck.Recheck.TheVariants.{Dating, Checking}
 use Rattle.node_ops.specs.declared.recheck.Same.{Same}

@@ -1,9 +1,9 @@
 -- The image of an index with nothing in flight.
 use Rattle.std.proofs.Common.{◌≡◌, ap, subst}
 use Rattle.std.specs.Prelude.{Option}
-use Rattle.updater_row_law.specs.RowStages.{Resting}
-use Rattle.updater_row_law.specs.Turnings.{Turning}
-use Rattle.index_layer_law.specs.Turnings.{AreResting}
+use Rattle.updater.specs.updater_row_law.specs.RowStages.{Resting}
+use Rattle.updater.specs.updater_row_law.specs.Turnings.{Turning}
+use Rattle.index_image_law.specs.index_layer_law.specs.Turnings.{AreResting}
 use Rattle.index_image_law.specs.Rest.{IsRestImage}
 use Rattle.index_image_law.proofs.RestLaw.{rest_leaves_image}
 use Rattle.updater.specs.declared.making.MakeTurn.{MakeTurn}

@@ -1,5 +1,6 @@
 -- A lone call that was turned back, and is tried again behind a turn of the updater.
-use Rattle.std.proofs.Common.{◌≡◌, ◌≢◌, ℕ, ◌+◌, ◌*◌, ◌/◌, ◌%◌, ◌<◌, ◌≤◌, ◌==◌, ◌⊎◌, inl, inr, ⊎_elim, cond, List, ◌++◌, length, slice_set, nat_le, not, refl, sym, ap, ◌∙◌, subst, arith}
+use Rattle.std.proofs.Common.{◌≡◌, ◌≢◌, ℕ, ◌+◌, ◌*◌, ◌/◌, ◌%◌, ◌<◌, ◌≤◌, ◌==◌, ◌⊎◌, inl, inr, ⊎_elim, cond, List}
+use Rattle.std.proofs.Common.{◌++◌, length, slice_set, nat_le, not, refl, sym, ap, ◌∙◌, subst, arith}
 use Rattle.std.specs.Prelude.{None, IsSome, IsSomeAnd, Bool, true, false, ◌&&◌}
 use Rattle.std.specs.FinMap.{keys}
 use Rattle.std.specs.List.{filter}
@@ -30,19 +31,19 @@ use Rattle.index_law.specs.Anchors.{anchors_of, anchors_in}
 use Rattle.index_law.proofs.Noting.{line-here}
 use Rattle.index_law.proofs.Parties.{set_here}
 use Rattle.index_law.proofs.Starts.{listed_within}
-use Rattle.lone_call_law.specs.LoneCalls.{FindsFull, FindsWorn, IsLate, IsAnswered}
-use Rattle.lone_call_law.specs.Locks.{locks_in}
-use Rattle.lone_call_law.specs.Merging.{NextIsWorn, next_node}
-use Rattle.lone_call_law.specs.Splitting.{LacksFree, LacksLine}
-use Rattle.lone_call_law.specs.There.{IsUnmoved}
-use Rattle.lone_call_law.proofs.Locks.{worn_has_none}
+use Rattle.lone_hops_law.specs.lone_call_law.specs.LoneCalls.{FindsFull, FindsWorn, IsLate, IsAnswered}
+use Rattle.lone_hops_law.specs.lone_call_law.specs.Locks.{locks_in}
+use Rattle.lone_hops_law.specs.lone_call_law.specs.Merging.{NextIsWorn, next_node}
+use Rattle.lone_hops_law.specs.lone_call_law.specs.Splitting.{LacksFree, LacksLine}
+use Rattle.lone_hops_law.specs.lone_call_law.specs.There.{IsUnmoved}
+use Rattle.lone_hops_law.specs.lone_call_law.proofs.Locks.{worn_has_none}
 use Rattle.updater_law.specs.Facts.{TurnFacts}
-use Rattle.updater_row_law.specs.Columns.{line_count, line_word}
-use Rattle.updater_row_law.proofs.RowColumns.{column-here}
-use Rattle.index_layer_law.specs.Layers.{IsLayered}
-use Rattle.index_layer_law.proofs.FactTies.{facts_tie}
-use Rattle.lone_updater_law.specs.LoneTurns.{line_state, stamp_in, stamp_then, is_worn, frees_node}
-use Rattle.lone_updater_law.proofs.Ending.{gone_are_held_back}
+use Rattle.updater.specs.updater_row_law.specs.Columns.{line_count, line_word}
+use Rattle.updater.specs.updater_row_law.proofs.RowColumns.{column-here}
+use Rattle.index_image_law.specs.index_layer_law.specs.Layers.{IsLayered}
+use Rattle.index_image_law.specs.index_layer_law.proofs.FactTies.{facts_tie}
+use Rattle.lone_hops_law.specs.lone_updater_law.specs.LoneTurns.{line_state, stamp_in, stamp_then, is_worn, frees_node}
+use Rattle.lone_hops_law.specs.lone_updater_law.proofs.Ending.{gone_are_held_back}
 use Rattle.updater.specs.declared.terms.Turned.{Turned}
 use Rattle.index_core.specs.declared.party.PartyState.{PartyState}
 use Rattle.index_core.specs.declared.party.CoreCall.{CoreCall}
@@ -51,7 +52,12 @@ use Rattle.index_core.specs.CoreCalls.{op_of, limit_of, count_of}
 use Rattle.index_core.specs.PartyStates.{party_of}
 use Rattle.lone_hops_law.proofs.Short.{empty_is_short}
 use Rattle.index_core.specs.Indexes.{Index, IsIndex, layered, map_of_index, world}
-use Rattle.index_core.specs.Lone.{HasNoCalls, HasShortWays, IsQuiet, IsStill, ComesFree, LacksNode, FindsFullNode, FindsNoRoom, FindsWornNode, HasSameList, IsMadeAgain, NeedsNoTurn, IsOver, IsWholeAnswer, KeepsStamps, LeavesList, LoseAtMost, MergesFor, MergesNothing, SplitsFor, SplitsNothing, TakesEachLock, TakesLocks, TriesAlone, TriesBehindTurn, alone_writes, lacks_line, lacks_node, locks_left, most_tries, needs_split, node_for, state_tried, whole_of}
+use Rattle.index_core.specs.Lone.{HasNoCalls, HasShortWays, IsQuiet, IsStill, ComesFree, LacksNode, FindsFullNode}
+use Rattle.index_core.specs.Lone.{FindsNoRoom, FindsWornNode, HasSameList, IsMadeAgain, NeedsNoTurn, IsOver}
+use Rattle.index_core.specs.Lone.{IsWholeAnswer, KeepsStamps, LeavesList, LoseAtMost, MergesFor, MergesNothing}
+use Rattle.index_core.specs.Lone.{SplitsFor, SplitsNothing, TakesEachLock, TakesLocks, TriesAlone, TriesBehindTurn}
+use Rattle.index_core.specs.Lone.{alone_writes, lacks_line, lacks_node, locks_left, most_tries, needs_split, node_for}
+use Rattle.index_core.specs.Lone.{state_tried, whole_of}
 use Rattle.index_core.specs.Turns.{TurnsAlone}
 use Rattle.index_core.specs.Weights.{weight_of, added_by}
 use Rattle.cat_history.specs.declared.op.NameOp.{NameOp}
@@ -100,7 +106,7 @@ pub record TurnedBack (s s1 : Index) (i : ℕ) (c : CoreCall) : Type 0 where
   unmoved : IsUnmoved s.layout s.words s1.words (node_for s (name_asked (op_of c)))
 
 module _ (s s1 : Index) (i : ℕ) (c : CoreCall) (is : IsIndex s) (idle : HasNoCalls s) (state : PartyState) (caller : state.caller ≡ i) where
-  needs_line : (c : CoreCall) → Rattle.lone_call_law.specs.LoneCalls.NeedsLine (world s) (op_of c) → LacksLine s.layout s.words i → IsMadeAgain i c s
+  needs_line : (c : CoreCall) → Rattle.lone_hops_law.specs.lone_call_law.specs.LoneCalls.NeedsLine (world s) (op_of c) → LacksLine s.layout s.words i → IsMadeAgain i c s
   needs_line (call.Put name value limit) needs lacks = full_again_if s i (call.Put name value limit) (rests s is idle) needs
   needs_line (call.Del name limit) needs lacks = (needs, lacks)
   needs_line (call.Get name) needs lacks = absurd needs
@@ -109,7 +115,7 @@ module _ (s s1 : Index) (i : ℕ) (c : CoreCall) (is : IsIndex s) (idle : HasNoC
   needs_line (call.Turn stamp release) needs lacks = absurd needs
 
   -- a call that needs no turn has a line, and a put a node
-  lined : (c : CoreCall) → Rattle.lone_call_law.specs.LoneCalls.NeedsLine (world s) (op_of c) → NeedsNoTurn i c s → LacksLine s.layout s.words i → ⊥
+  lined : (c : CoreCall) → Rattle.lone_hops_law.specs.lone_call_law.specs.LoneCalls.NeedsLine (world s) (op_of c) → NeedsNoTurn i c s → LacksLine s.layout s.words i → ⊥
   lined (call.Put name value limit) needs has lacks = lacks has.0.number has.0.within has.0.empty
   lined (call.Del name limit) needs has lacks = lacks has.number has.within has.empty
   lined (call.Get name) needs has lacks = needs
@@ -353,7 +359,7 @@ module _ (s s1 s2 : Index) (i : ℕ) (c : CoreCall) (answer : Once Placed) (turn
       (cases_eq (stamp_in (world s2) n) 0)
 
   same_locks : locks_left s2 ≡ locks_left s1
-  same_locks = ap locks_left u.is ∙ (λ k. Rattle.lone_call_law.specs.Locks.fewest_locks s1.generation (λ n. (version_in_record n) k) s1.layout.nodes)
+  same_locks = ap locks_left u.is ∙ (λ k. Rattle.lone_hops_law.specs.lone_call_law.specs.Locks.fewest_locks s1.generation (λ n. (version_in_record n) k) s1.layout.nodes)
     where
       version_in_record : (n : ℕ) → version_in s1.layout s2.words n ≡ version_in s1.layout s1.words n
       version_in_record n = ap (λ (l : Layout). version_in l s2.words n) (sym (ap (λ (v : Index). v.layout) u.is)) ∙ version2 n
@@ -380,7 +386,7 @@ module _ (s s1 s2 : Index) (i : ℕ) (c : CoreCall) (answer : Once Placed) (turn
     lacked = room_before;
     next = next_then;
     back = next_before;
-    each = λ n. subst (λ (q : ℕ × ℕ). Rattle.lone_call_law.specs.Locks.locks_of s.generation (f.version n) ≤ Rattle.lone_call_law.specs.Locks.locks_of q.0 q.1 + 1)
+    each = λ n. subst (λ (q : ℕ × ℕ). Rattle.lone_hops_law.specs.lone_call_law.specs.Locks.locks_of s.generation (f.version n) ≤ Rattle.lone_hops_law.specs.lone_call_law.specs.Locks.locks_of q.0 q.1 + 1)
         (λ k. (sym (ap (λ (v : Index). v.generation) u.is) k, sym (version2 n) k)) (each n);
     locks = let same = same_locks in omega arith;
     stamps = stamps2;

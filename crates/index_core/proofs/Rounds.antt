@@ -1,5 +1,6 @@
 -- The next round of an index with no call in flight.
-use Rattle.std.proofs.Common.{◌≡◌, ℕ, zero, suc, ◌+◌, ◌-◌, ◌<◌, ◌≤◌, ◌==◌, cond, List, [], ◌∷◌, ◌++◌, length, map, set, drop, refl, sym, ap, ◌∙◌, subst, arith}
+use Rattle.std.proofs.Common.{◌≡◌, ℕ, zero, suc, ◌+◌, ◌-◌, ◌<◌, ◌≤◌, ◌==◌, cond, List, [], ◌∷◌, ◌++◌, length, map}
+use Rattle.std.proofs.Common.{set, drop, refl, sym, ap, ◌∙◌, subst, arith}
 use Rattle.std.specs.Prelude.{Some, None}
 use Rattle.std.proofs.lemmas.List.{take_all, drop-set-lt, length-drop}
 use Rattle.std.proofs.Math.Numerals.{add-one}
@@ -22,7 +23,7 @@ use Rattle.index_law.proofs.Rounds.{round_law}
 use Rattle.index_law.proofs.Rows.{facts-elsewhere}
 use Rattle.index_law.proofs.Starts.{rest_law}
 use Rattle.permutation_law.proofs.Columns.{left_stored}
-use Rattle.lone_call_law.specs.Locks.{fewest_locks}
+use Rattle.lone_hops_law.specs.lone_call_law.specs.Locks.{fewest_locks}
 use Rattle.index_core.specs.PartyStates.{idle_state, idle_states, party_of, IsPartyState}
 use Rattle.index_core.specs.declared.party.PartyState.{PartyState}
 use Rattle.index_core.specs.Indexes.{Index, IsIndex, footed, map_of_index, parties_of, world}

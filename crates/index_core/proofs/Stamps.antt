@@ -12,7 +12,8 @@ use Rattle.pm_words.proofs.Apart.{at-set_other}
 use Rattle.pm_words.proofs.Kept.{action_address-drain}
 use Rattle.pm_words.specs.Offsets.{prev_offset, stamp_offset}
 use Rattle.call_stages.specs.Stages.{Stage}
-use Rattle.call_stages.specs.AnySteps.{IsBeside, loads_line, stores_line, drains_line, stores_prev, loads_layer, on_permutation}
+use Rattle.call_stages.specs.AnySteps.{IsBeside, loads_line, stores_line, drains_line, stores_prev, loads_layer}
+use Rattle.call_stages.specs.AnySteps.{on_permutation}
 use Rattle.call_stages.specs.Lines.{line_address}
 use Rattle.node_ops.specs.declared.running.Running.{Running}
 use Rattle.node_ops.specs.RunningSteps.{Sound, running_asks}
@@ -23,9 +24,9 @@ use Rattle.index_law.specs.Worlds.{facts}
 use Rattle.index_law.proofs.AnySteps.{stored_word}
 use Rattle.index_law.proofs.Beside.{nodes_leave_others}
 use Rattle.index_law.proofs.Own.{sure_within}
-use Rattle.updater_row_law.specs.Columns.{volatile_field}
-use Rattle.updater_row_law.proofs.RowColumns.{column-same}
-use Rattle.lone_updater_law.specs.LoneTurns.{stamp_in}
+use Rattle.updater.specs.updater_row_law.specs.Columns.{volatile_field}
+use Rattle.updater.specs.updater_row_law.proofs.RowColumns.{column-same}
+use Rattle.lone_hops_law.specs.lone_updater_law.specs.LoneTurns.{stamp_in}
 use Rattle.index_core.specs.declared.party.PartyState.{PartyState}
 use Rattle.index_core.specs.PartyStates.{machine_stage, party_of}
 use Rattle.index_core.specs.Indexes.{Index, IsIndex, stepped_index, world}

@@ -1,5 +1,6 @@
 -- How many nodes are listed or GONE behind a call.
-use Rattle.std.proofs.Common.{◌≡◌, ℕ, zero, suc, ◌+◌, ◌-◌, ◌/◌, ◌≤◌, ◌==◌, ◌&&◌, true, false, cond, List, [], ◌∷◌, ◌++◌, length, drop, refl, ap, ◌∙◌, arith, length-append}
+use Rattle.std.proofs.Common.{◌≡◌, ℕ, zero, suc, ◌+◌, ◌-◌, ◌/◌, ◌≤◌, ◌==◌, ◌&&◌, true, false, cond, List, [], ◌∷◌}
+use Rattle.std.proofs.Common.{◌++◌, length, drop, refl, ap, ◌∙◌, arith, length-append}
 use Rattle.std.specs.Prelude.{not, nat_le, slice_get}
 use Rattle.std.specs.FinMap.{remove}
 use Rattle.std.proofs.lemmas.Bool.{false≢true}
@@ -9,12 +10,13 @@ use Rattle.pm_words.specs.Codes.{gone_status}
 use Rattle.pm_words.specs.declared.layout.Layout.{Layout}
 use Rattle.data_node.specs.Lists.{ListNode}
 use Rattle.cat_history.specs.Maps.{Map, at}
-use Rattle.shapes.specs.Anchors.{Anchors, below, del_anchors, merges, middle_of, names_between, next_of, past, put_anchors, splits, target_of, up_to}
+use Rattle.shapes.specs.Anchors.{Anchors, below, del_anchors, merges, middle_of, names_between, next_of, past}
+use Rattle.shapes.specs.Anchors.{put_anchors, splits, target_of, up_to}
 use Rattle.shapes.proofs.Agreements.{and-first, and-second}
 use Rattle.index_law.specs.Anchors.{anchors_in, anchors_of, gone_nodes, members_most}
 use Rattle.index_law.specs.Facts.{Facts, map_now}
 use Rattle.index_law.specs.Worlds.{facts}
-use Rattle.lone_call_law.specs.Merging.{HasKeptList, IsMergedSince, ShapeMerges}
+use Rattle.lone_hops_law.specs.lone_call_law.specs.Merging.{HasKeptList, IsMergedSince, ShapeMerges}
 use Rattle.index_core.specs.declared.party.CoreCall.{CoreCall}
 use Rattle.index_core.specs.declared.party.CoreCall.TheVariants as call
 use Rattle.index_core.specs.Indexes.{Index, map_of_index, world}

@@ -1,5 +1,6 @@
 -- One try of a call, with no other in flight.
-use Rattle.std.proofs.Common.{true, false, ◌≡◌, ℕ, suc, ◌+◌, ◌<◌, ◌≤◌, ◌^◌, inl, inr, ⊎_elim, List, [], ◌++◌, length, set, slice_set, map, refl, sym, ap, ◌∙◌, subst, arith}
+use Rattle.std.proofs.Common.{true, false, ◌≡◌, ℕ, suc, ◌+◌, ◌<◌, ◌≤◌, ◌^◌, inl, inr, ⊎_elim, List, [], ◌++◌, length}
+use Rattle.std.proofs.Common.{set, slice_set, map, refl, sym, ap, ◌∙◌, subst, arith}
 use Rattle.std.specs.Prelude.{Option, Some, None, IfSome}
 use mathlib.Core.Option.{some, none, some-injective}
 use lib.ListN.{get_elem?}
@@ -27,19 +28,22 @@ use Rattle.index_law.specs.Facts.{Facts}
 use Rattle.index_law.specs.Worlds.{Party, World, facts, stepped, started, moved_on, written}
 use Rattle.index_law.specs.Weights.{weight_sum}
 use Rattle.index_law.proofs.Parties.{set_here}
-use Rattle.lone_call_law.specs.Locks.{locks_of, fewest_locks}
-use Rattle.lone_call_law.specs.Merging.{FindsMerge, HasKeptList, IsMergedSince, LeavesShape}
-use Rattle.lone_call_law.specs.LoneCalls.{LoneCall, IsAnswered, LosesLocks, AfterCall, ValueFits, begun_party}
-use Rattle.lone_call_law.specs.There.{CanWalk}
-use Rattle.lone_call_law.specs.Tries.{Trying, IsHalvedSince}
-use Rattle.lone_call_law.proofs.Locks.{fewest_lose}
-use Rattle.lone_call_law.proofs.LoneCalls.{lone_calls_begin, lone_parts_begin, lone_calls_go, lone_calls_lose}
+use Rattle.lone_hops_law.specs.lone_call_law.specs.Locks.{locks_of, fewest_locks}
+use Rattle.lone_hops_law.specs.lone_call_law.specs.Merging.{FindsMerge, HasKeptList, IsMergedSince, LeavesShape}
+use Rattle.lone_hops_law.specs.lone_call_law.specs.LoneCalls.{LoneCall, IsAnswered, LosesLocks, AfterCall, ValueFits}
+use Rattle.lone_hops_law.specs.lone_call_law.specs.LoneCalls.{begun_party}
+use Rattle.lone_hops_law.specs.lone_call_law.specs.There.{CanWalk}
+use Rattle.lone_hops_law.specs.lone_call_law.specs.Tries.{Trying, IsHalvedSince}
+use Rattle.lone_hops_law.specs.lone_call_law.proofs.Locks.{fewest_lose}
+use Rattle.lone_hops_law.specs.lone_call_law.proofs.LoneCalls.{lone_calls_begin, lone_parts_begin, lone_calls_go}
+use Rattle.lone_hops_law.specs.lone_call_law.proofs.LoneCalls.{lone_calls_lose}
 use Rattle.index_core.specs.declared.party.PartyState.{PartyState}
 use Rattle.index_core.specs.declared.party.CoreCall.{CoreCall}
 use Rattle.index_core.specs.declared.party.CoreCall.TheVariants as call
 use Rattle.index_core.specs.CoreCalls.{machine_of, op_of, limit_of, count_of, most_writes}
 use Rattle.index_core.specs.PartyStates.{party_of, machine_footing, state_with, state_after, machine_owes, owed}
-use Rattle.index_core.specs.Indexes.{Index, room_of, layered, world, IsIndex, IsInFlight, view_of, Starts, started_index, told, stepped_index}
+use Rattle.index_core.specs.Indexes.{Index, room_of, layered, world, IsIndex, IsInFlight, view_of, Starts}
+use Rattle.index_core.specs.Indexes.{started_index, told, stepped_index}
 use Rattle.index_core.specs.Bursts.{TurnsOn}
 use Rattle.index_core.specs.Lone.{HasNoCalls, IsQuiet, IsStill, TriesAlone, locks_left, LoseAtMost}
 use Rattle.index_core.specs.MachineLaws.{MachineLaw, showing, showing_after}
@@ -55,16 +59,17 @@ use Rattle.node_ops.specs.Costs.{spared}
 use Rattle.node_ops.proofs.Costs.{turns_spare}
 use Rattle.index_core.proofs.Told.{go_of, done_of}
 use Rattle.index_core.proofs.Stamps.{step_leaves_stamps}
-use Rattle.lone_updater_law.specs.LoneTurns.{stamp_in}
-use Rattle.lone_updater_law.specs.CallLogs.{KeepsLayer, KeepsLines, MakesReady, StandsSo, LogStands, LeavesLines}
-use Rattle.lone_updater_law.proofs.CallLogs.{log_goes, log_ends}
-use Rattle.lone_updater_law.proofs.InStep.{calls_are_in_step}
+use Rattle.lone_hops_law.specs.lone_updater_law.specs.LoneTurns.{stamp_in}
+use Rattle.lone_hops_law.specs.lone_updater_law.specs.CallLogs.{KeepsLayer, KeepsLines, MakesReady, StandsSo}
+use Rattle.lone_hops_law.specs.lone_updater_law.specs.CallLogs.{LogStands, LeavesLines}
+use Rattle.lone_hops_law.specs.lone_updater_law.proofs.CallLogs.{log_goes, log_ends}
+use Rattle.lone_hops_law.specs.lone_updater_law.proofs.InStep.{calls_are_in_step}
 use Rattle.call_stages.specs.Footings.{FootStep}
 use Rattle.call_stages.specs.Lines.{HeldLine}
 use Rattle.call_stages.specs.Prevs.{no_debt}
 use Rattle.data_list.specs.Still.{AreQuiet}
 use Rattle.index_law.specs.LoneShapes.{has_merged}
-use Rattle.lone_call_law.specs.Tries.{has_retired}
+use Rattle.lone_hops_law.specs.lone_call_law.specs.Tries.{has_retired}
 use Rattle.lone_hops_law.specs.LoneNodes.{nodes_of, HasLeftOut, NodesStand, LengthenWithin}
 use Rattle.lone_hops_law.specs.Ways.{StayGone}
 use Rattle.lone_hops_law.proofs.Lengthening.{tries_lengthen}

@@ -1,5 +1,6 @@
 -- Each step of a turn of the updater keeps the index.
-use Rattle.std.proofs.Common.{◌≡◌, ◌≢◌, ℕ, ◌+◌, ◌/◌, ◌<◌, ◌≤◌, ◌^◌, inl, inr, ⊎_elim, true, List, [], ◌∷◌, set, map, refl, sym, ap, ◌∙◌, subst, arith}
+use Rattle.std.proofs.Common.{◌≡◌, ◌≢◌, ℕ, ◌+◌, ◌/◌, ◌<◌, ◌≤◌, ◌^◌, inl, inr, ⊎_elim, true, List, [], ◌∷◌, set, map}
+use Rattle.std.proofs.Common.{refl, sym, ap, ◌∙◌, subst, arith}
 use Rattle.std.specs.Prelude.{Option, Some, IfSome}
 use mathlib.Core.Option.{some}
 use lib.ListN.{get_elem?, length-set}
@@ -21,13 +22,13 @@ use Rattle.index_law.specs.Weights.{gone_weight, index_weight, lowered_in, lower
 use Rattle.index_law.proofs.Weights.{gone_less}
 use Rattle.index_law.proofs.Parties.{set_here}
 use Rattle.permutation_law.proofs.Columns.{IsLeft, left_by, left_same}
-use Rattle.updater_row_law.specs.Columns.{RowTerms, volatile_field}
-use Rattle.updater_row_law.specs.RowStages.{RowStage, Resting, IsUnworn, Frees, Counts}
-use Rattle.updater_row_law.specs.RowLaw.{RowLawful}
-use Rattle.updater_row_law.proofs.RowColumns.{column-here}
+use Rattle.updater.specs.updater_row_law.specs.Columns.{RowTerms, volatile_field}
+use Rattle.updater.specs.updater_row_law.specs.RowStages.{RowStage, Resting, IsUnworn, Frees, Counts}
+use Rattle.updater.specs.updater_row_law.specs.RowLaw.{RowLawful}
+use Rattle.updater.specs.updater_row_law.proofs.RowColumns.{column-here}
 use Rattle.index_law.proofs.Rows.{status_in-here}
-use Rattle.lone_updater_law.specs.LoneTurns.{stamp_in}
-use Rattle.updater_row_law.specs.Turnings.{Turning, TurnFoot}
+use Rattle.lone_hops_law.specs.lone_updater_law.specs.LoneTurns.{stamp_in}
+use Rattle.updater.specs.updater_row_law.specs.Turnings.{Turning, TurnFoot}
 use Rattle.updater.specs.declared.making.MakeTurn.{MakeTurn}
 use Rattle.updater.specs.declared.making.MakeTurn.TheVariants.{Taking, Working}
 use Rattle.updater.specs.declared.making.TurnReply.{TurnReply}
@@ -36,22 +37,24 @@ use Rattle.updater.specs.Takings.{untaken}
 use Rattle.updater.specs.Works.{work_from}
 use Rattle.updater.specs.Steps.{row_terms}
 use Rattle.updater.specs.Watches.{turning_at}
-use Rattle.updater.specs.Makings.{IsMaking, making_terms, making_asks, making_turned, making_takes, making_turning, turning_made, MakingStays, making_from}
+use Rattle.updater.specs.Makings.{IsMaking, making_terms, making_asks, making_turned, making_takes, making_turning}
+use Rattle.updater.specs.Makings.{turning_made, MakingStays, making_from}
 use Rattle.updater.proofs.MakingLaw.{makings_stay_sound, makings_are_feet}
-use Rattle.lone_updater_law.specs.Laws.{terms_in}
-use Rattle.lone_updater_law.proofs.Acting.{turns_act}
-use Rattle.lone_updater_law.proofs.Told.{told_any}
-use Rattle.index_layer_law.specs.Turnings.{terms_of, ghosts_of}
-use Rattle.index_layer_law.specs.Layers.{Layered, IsLayered}
-use Rattle.index_layer_law.specs.Laws.{turned, LeavesNodes}
-use Rattle.index_layer_law.proofs.TurnSteps.{turn_step_keeps, turn_step_leaves, others_rest}
-use Rattle.index_layer_law.proofs.TurnVolatile.{turn_step_leaves_volatile}
-use Rattle.index_layer_law.proofs.TurnRests.{turn_start_keeps}
-use Rattle.index_layer_law.proofs.TurnTerms.{terms_may_begin}
+use Rattle.lone_hops_law.specs.lone_updater_law.specs.Laws.{terms_in}
+use Rattle.lone_hops_law.specs.lone_updater_law.proofs.Acting.{turns_act}
+use Rattle.lone_hops_law.specs.lone_updater_law.proofs.Told.{told_any}
+use Rattle.index_image_law.specs.index_layer_law.specs.Turnings.{terms_of, ghosts_of}
+use Rattle.index_image_law.specs.index_layer_law.specs.Layers.{Layered, IsLayered}
+use Rattle.index_image_law.specs.index_layer_law.specs.Laws.{turned, LeavesNodes}
+use Rattle.index_image_law.specs.index_layer_law.proofs.TurnSteps.{turn_step_keeps, turn_step_leaves, others_rest}
+use Rattle.index_image_law.specs.index_layer_law.proofs.TurnVolatile.{turn_step_leaves_volatile}
+use Rattle.index_image_law.specs.index_layer_law.proofs.TurnRests.{turn_start_keeps}
+use Rattle.index_image_law.specs.index_layer_law.proofs.TurnTerms.{terms_may_begin}
 use Rattle.index_core.specs.declared.party.PartyState.{PartyState}
 use Rattle.index_core.specs.PartyStates.{party_of, resting, turning_of, turn_after, IsTurnOf}
 use Rattle.index_core.specs.Indexes.{Index, IsIndex, world, footed, layered}
-use Rattle.index_core.specs.Turns.{turn_told, turned_index, FindsNoneFree, FreesReleased, TurnLaw, TurnKeeps, TurnBegins, TermsMayBeSet}
+use Rattle.index_core.specs.Turns.{turn_told, turned_index, FindsNoneFree, FreesReleased, TurnLaw, TurnKeeps}
+use Rattle.index_core.specs.Turns.{TurnBegins, TermsMayBeSet}
 use Rattle.index_core.proofs.Checks.{beside_bounded, beside_ordered, checks_set}
 use Rattle.index_core.proofs.Footings.{line_of, debt_of}
 use Rattle.index_core.proofs.Freeing.{AboutToFree, only_frees, comes_from}

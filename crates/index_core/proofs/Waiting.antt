@@ -1,5 +1,6 @@
 -- A turn of the updater within a budget: it is alone, or it waits for one that has stopped under the updater lock.
-use Rattle.std.proofs.Common.{◌+◌, ◌≡◌, ◌≢◌, ℕ, zero, suc, ◌==◌, ◌<◌, ◌≤◌, ◌^◌, ◌⊎◌, inl, inr, ⊎_elim, cond, List, [], ◌∷◌, set, false, refl, sym, ap, ◌∙◌, subst, arith}
+use Rattle.std.proofs.Common.{◌+◌, ◌≡◌, ◌≢◌, ℕ, zero, suc, ◌==◌, ◌<◌, ◌≤◌, ◌^◌, ◌⊎◌, inl, inr, ⊎_elim, cond, List, []}
+use Rattle.std.proofs.Common.{◌∷◌, set, false, refl, sym, ap, ◌∙◌, subst, arith}
 use Rattle.std.specs.Prelude.{Option, Some, None}
 use Rattle.std.proofs.lemmas.Bool.{ne_eqb}
 use Rattle.std.proofs.lemmas.List.{set-get_or}
@@ -13,10 +14,10 @@ use Rattle.index_law.specs.Anchors.{anchors_of}
 use Rattle.index_law.specs.Facts.{Facts}
 use Rattle.index_law.proofs.AnySteps.{set_own}
 use Rattle.index_law.proofs.Parties.{at_set, set_here}
-use Rattle.lone_call_law.specs.Locks.{fewest_locks, locks_of}
+use Rattle.lone_hops_law.specs.lone_call_law.specs.Locks.{fewest_locks, locks_of}
 use Rattle.pm_alloc.specs.declared.gone.ReleaseAt.{ReleaseAt}
 use Rattle.pm_alloc.specs.declared.gone.ReleaseAt.TheVariants as release_at
-use Rattle.updater_row_law.specs.RowStages.{Resting}
+use Rattle.updater.specs.updater_row_law.specs.RowStages.{Resting}
 use Rattle.updater.specs.declared.making.MakeTurn.{MakeTurn}
 use Rattle.updater.specs.declared.making.MakeTurn.TheVariants.{Taking, Working}
 use Rattle.updater.specs.declared.making.TurnReply.{TurnReply}
@@ -37,7 +38,9 @@ use Rattle.index_core.specs.Turns.{StartsTurn, TurnSteps, TurnsAlone, turn_begun
 use Rattle.index_core.specs.Withins.{CutsTurnOff}
 use Rattle.index_core.proofs.Layering.{turn_of}
 use Rattle.index_core.proofs.Lists.{map_there, set_twice}
-use Rattle.index_core.proofs.LoneTurning.{LoneTurn, begun_keeps, begun_weighs, lone_turn_begins, lone_turn_ends, lone_turn_flies, lone_turn_goes, turn_left_at, turn_left_begins, turned_same}
+use Rattle.index_core.proofs.LoneTurning.{LoneTurn, begun_keeps, begun_weighs, lone_turn_begins, lone_turn_ends}
+use Rattle.index_core.proofs.LoneTurning.{lone_turn_flies, lone_turn_goes, turn_left_at, turn_left_begins}
+use Rattle.index_core.proofs.LoneTurning.{turned_same}
 use Rattle.index_core.proofs.Withins.{turn_cut}
 
 -- A party's turn has the updater lock.

@@ -1,5 +1,6 @@
 -- What an index weighs along a schedule.
-use Rattle.std.proofs.Common.{true, false, ◌≡◌, ℕ, zero, suc, ◌+◌, ◌≤◌, ⊎_elim, List, [], ◌∷◌, length, set, refl, sym, ap, ◌∙◌, subst, arith}
+use Rattle.std.proofs.Common.{true, false, ◌≡◌, ℕ, zero, suc, ◌+◌, ◌≤◌, ⊎_elim, List, [], ◌∷◌, length, set, refl, sym}
+use Rattle.std.proofs.Common.{ap, ◌∙◌, subst, arith}
 use Rattle.std.specs.Prelude.{Option, Some, None, IfSome}
 use Rattle.std.specs.List.{sum_by}
 use Rattle.std.proofs.lemmas.List.Sums.{sum_by-cons, sum_by_push}
@@ -29,16 +30,19 @@ use Rattle.index_core.specs.declared.party.PartyState.{PartyState}
 use Rattle.index_core.specs.declared.party.Rechecking.{Rechecking}
 use Rattle.node_ops.specs.declared.recheck.Recheck.TheVariants.{Dating}
 use Rattle.node_ops.specs.RecheckSteps.{recheck_turned}
-use Rattle.index_layer_law.specs.Layers.{Layered}
+use Rattle.index_image_law.specs.index_layer_law.specs.Layers.{Layered}
 use Rattle.index_core.specs.Rechecks.{recheck_told}
 use Rattle.index_core.proofs.RecheckReading.{unchecked_layered}
 use Rattle.index_core.specs.declared.party.Whole.{Whole}
 use Rattle.index_core.specs.declared.party.Whole.TheVariants as whole
 use Rattle.index_core.specs.CoreCalls.{op_of, machine_of}
-use Rattle.index_core.specs.PartyStates.{machine_stage, party_of, state_with, state_after, index_after, next_index, answer_in, listed_by, recheck_after, turn_after}
+use Rattle.index_core.specs.PartyStates.{machine_stage, party_of, state_with, state_after, index_after, next_index}
+use Rattle.index_core.specs.PartyStates.{answer_in, listed_by, recheck_after, turn_after}
 use Rattle.index_core.specs.Indexes.{Index, IsIndex, world, view_of, told}
 use Rattle.index_core.specs.Lone.{HasNoCalls, IsQuiet, state_done}
-use Rattle.index_core.specs.Schedules.{BegunCall, AnsweredCall, begun_call, flying_call, once_of, listed_of, Runs, begins, starts, goes_on, answers, alone, evicts, reserves, begins_recheck, steps_recheck, begins_turn, steps_turn, turns_alone}
+use Rattle.index_core.specs.Schedules.{BegunCall, AnsweredCall, begun_call, flying_call, once_of, listed_of, Runs}
+use Rattle.index_core.specs.Schedules.{begins, starts, goes_on, answers, alone, evicts, reserves, begins_recheck}
+use Rattle.index_core.specs.Schedules.{steps_recheck, begins_turn, steps_turn, turns_alone}
 use Rattle.index_core.specs.Weights.{weight_of, put_count, added_if, added_by, added_whole, put_in}
 use Rattle.index_core.specs.WeightBounds.{names_added, puts_in_flight, WeightIsBounded}
 use Rattle.index_core.proofs.Crashing.{crash_light}

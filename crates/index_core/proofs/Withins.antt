@@ -1,5 +1,6 @@
 -- A call within a budget: what is in flight where it is cut off, and what the tries before it left.
-use Rattle.std.proofs.Common.{◌≡◌, ◌≢◌, ℕ, ◌+◌, ◌<◌, ◌≤◌, inl, inr, ⊎_elim, true, List, [], ◌∷◌, ◌++◌, length, slice_set, refl, sym, ap, ◌∙◌, subst, arith}
+use Rattle.std.proofs.Common.{◌≡◌, ◌≢◌, ℕ, ◌+◌, ◌<◌, ◌≤◌, inl, inr, ⊎_elim, true, List, [], ◌∷◌, ◌++◌, length}
+use Rattle.std.proofs.Common.{slice_set, refl, sym, ap, ◌∙◌, subst, arith}
 use Rattle.std.proofs.lemmas.List.{length-append}
 use Rattle.std.specs.Prelude.{Option, Some, None, IfSome}
 use mathlib.Core.Option.{some, some-injective}
@@ -23,20 +24,22 @@ use Rattle.index_law.specs.Anchors.{anchors_of}
 use Rattle.index_law.specs.Facts.{Facts}
 use Rattle.index_law.specs.Worlds.{Party, World}
 use Rattle.index_law.proofs.Parties.{set_here}
-use Rattle.lone_call_law.specs.LoneCalls.{IsAnswered}
-use Rattle.lone_call_law.specs.Locks.{fewest_locks, locks_of}
+use Rattle.lone_hops_law.specs.lone_call_law.specs.LoneCalls.{IsAnswered}
+use Rattle.lone_hops_law.specs.lone_call_law.specs.Locks.{fewest_locks, locks_of}
 use Rattle.updater.specs.declared.terms.Turned.{Turned}
 use Rattle.index_core.specs.declared.party.CoreCall.{CoreCall}
 use Rattle.index_core.specs.declared.party.PartyState.{PartyState}
 use Rattle.index_core.specs.CoreCalls.{op_of, limit_of}
 use Rattle.index_core.specs.PartyStates.{party_of, state_with}
 use Rattle.index_core.specs.Indexes.{Index, IsIndex, world}
-use Rattle.index_core.specs.Lone.{HasNoCalls, IsQuiet, IsStill, LoseAtMost, TakesEachLock, TakesLocks, TriesAlone, lacks_line, lacks_node, locks_left, needs_split, node_locks, state_tried}
+use Rattle.index_core.specs.Lone.{HasNoCalls, IsQuiet, IsStill, LoseAtMost, TakesEachLock, TakesLocks, TriesAlone}
+use Rattle.index_core.specs.Lone.{lacks_line, lacks_node, locks_left, needs_split, node_locks, state_tried}
 use Rattle.index_core.specs.MachineLaws.{put_shows, shows}
 use Rattle.index_core.specs.Turns.{TurnsAlone}
 use Rattle.index_core.specs.Weights.{added_by, put_count, weight_of}
 use Rattle.index_core.specs.CoreCalls.{most_writes}
-use Rattle.index_core.specs.Withins.{ComesTo, flight_place, HasWritten, CutsOff, CutsTryOff, CutsTurnOff, TriedAlone, TriedBehindTurn}
+use Rattle.index_core.specs.Withins.{ComesTo, flight_place, HasWritten, CutsOff, CutsTryOff, CutsTurnOff, TriedAlone}
+use Rattle.index_core.specs.Withins.{TriedBehindTurn}
 use Rattle.index_core.proofs.Alone.{tried_was}
 use Rattle.index_core.proofs.Crashing.{placed_since}
 use Rattle.index_core.proofs.Lists.{set_twice}

@@ -5,8 +5,8 @@ use Rattle.cat_history.specs.declared.op.NameOp.TheVariants as op
 use Rattle.version_lock.specs.Versions.{IsWorn}
 use Rattle.node_ops.specs.Asked.{name_asked}
 use Rattle.index_law.specs.Worlds.{World, facts}
-use Rattle.lone_call_law.specs.LoneCalls.{FindsWorn}
-use Rattle.lone_call_law.specs.Rooms.{target_node}
+use Rattle.lone_hops_law.specs.lone_call_law.specs.LoneCalls.{FindsWorn}
+use Rattle.lone_hops_law.specs.lone_call_law.specs.Rooms.{target_node}
 use Rattle.index_core.specs.declared.party.CoreCall.{CoreCall}
 use Rattle.index_core.specs.declared.party.CoreCall.TheVariants as call
 use Rattle.index_core.specs.CoreCalls.{limit_of, op_of}

@@ -5,8 +5,8 @@ use Rattle.pm_words.specs.declared.layout.Layout.{Layout}
 use Rattle.call_stages.specs.declared.once.Once.{Once}
 use Rattle.call_stages.specs.declared.once.Once.TheVariants as once
 use Rattle.call_stages.specs.declared.once.Placed.{Placed}
-use Rattle.lone_updater_law.specs.CallLogs.{ready_lines}
-use Rattle.search_layer.specs.Floors.{floor_most}
+use Rattle.lone_hops_law.specs.lone_updater_law.specs.CallLogs.{ready_lines}
+use Rattle.node_ops.specs.search_layer.specs.Floors.{floor_most}
 use Rattle.index_core.specs.declared.party.CoreCall.{CoreCall}
 use Rattle.index_core.specs.declared.party.CoreCall.TheVariants as call
 use Rattle.index_core.specs.declared.party.Whole.{Whole}

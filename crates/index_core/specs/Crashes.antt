@@ -11,7 +11,7 @@ use Rattle.cat_history.specs.declared.op.Change.{Change}
 use Rattle.cat_history.specs.declared.op.NameOp.{NameOp}
 use Rattle.cat_history.specs.declared.op.NameOp.TheVariants as op
 use Rattle.image_rules.specs.Sound.{IsMapOf}
-use Rattle.image_layer_rules.specs.Sound.{IsSoundByAll}
+use Rattle.index_image_law.specs.image_layer_rules.specs.Sound.{IsSoundByAll}
 use Rattle.call_stages.specs.Stages.{placed_in}
 use Rattle.node_ops.specs.declared.running.Running.{Running}
 use Rattle.cat_history.specs.Records.{change_of}

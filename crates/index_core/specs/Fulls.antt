@@ -5,7 +5,7 @@ use Rattle.shapes.specs.Anchors.{IsFullPut}
 use Rattle.index_law.specs.Facts.{IsListed}
 use Rattle.index_law.specs.Anchors.{anchors_in}
 use Rattle.index_law.specs.Worlds.{facts}
-use Rattle.lone_updater_law.specs.LoneTurns.{stamp_in}
+use Rattle.lone_hops_law.specs.lone_updater_law.specs.LoneTurns.{stamp_in}
 use Rattle.index_core.specs.declared.party.CoreCall.TheVariants as call
 use Rattle.index_core.specs.Indexes.{Index, IsIndex, map_of_index, world}
 use Rattle.index_core.specs.Lone.{FindsNoRoom, IsQuiet, locks_left}

@@ -33,7 +33,7 @@ use Rattle.index_law.specs.Laws.{IsLegal}
 use Rattle.index_law.specs.Whole.{Whole, IsWhole}
 use Rattle.index_law.specs.Footings.{AreTended}
 use Rattle.index_law.specs.Weights.{AddsName, RisesBy, weight_sum}
-use Rattle.index_layer_law.specs.Layers.{Layered, IsLayered}
+use Rattle.index_image_law.specs.index_layer_law.specs.Layers.{Layered, IsLayered}
 use Rattle.permutation_law.specs.Permuted.{Permuted, IsPermuted}
 use Rattle.updater.specs.declared.making.MakeTurn.{MakeTurn}
 use Rattle.index_core.specs.declared.party.CoreCall.{CoreCall}

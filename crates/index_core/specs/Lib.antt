@@ -30,3 +30,13 @@ pub mod Withins
 pub mod CrashLaws
 pub mod Costs
 pub mod Freeing
+-- crates below, for those above that name them through this one
+pub use Rattle.node_ops.specs.search_layer
+pub use Rattle.node_ops
+pub use Rattle.updater
+pub use Rattle.lone_hops_law.specs.lone_call_law
+pub use Rattle.lone_hops_law.specs.lone_updater_law
+pub use Rattle.lone_hops_law
+pub use Rattle.index_image_law.specs.image_layer_rules
+pub use Rattle.index_image_law
+pub use Rattle.index_opening_law

@@ -1,7 +1,7 @@
 -- How many log lines lone calls leave READY, and when such a call needs no turn of the updater.
 use Rattle.std.specs.Prelude.{◌≡◌, ℕ, ◌+◌, ◌<◌, ◌⊎◌}
-use Rattle.lone_updater_law.specs.CallLogs.{empty_lines, ready_lines}
-use Rattle.lone_updater_law.specs.LoneTurns.{AreEmptyOrReady}
+use Rattle.lone_hops_law.specs.lone_updater_law.specs.CallLogs.{empty_lines, ready_lines}
+use Rattle.lone_hops_law.specs.lone_updater_law.specs.LoneTurns.{AreEmptyOrReady}
 use Rattle.index_core.specs.declared.party.CoreCall.{CoreCall}
 use Rattle.index_core.specs.declared.party.Whole.{Whole}
 use Rattle.index_core.specs.Indexes.{Index, IsIndex, world}

@@ -24,14 +24,15 @@ use Rattle.index_law.specs.Facts.{version_in}
 use Rattle.index_law.specs.Anchors.{anchors_in, gone_nodes}
 use Rattle.index_law.specs.Worlds.{facts, written}
 use Rattle.permutation_law.specs.Permuted.{made_at}
-use Rattle.lone_call_law.specs.Rooms.{target_node}
-use Rattle.lone_call_law.specs.Merging.{NextIsWorn, TriesMerge}
-use Rattle.lone_call_law.specs.LoneCalls.{FindsWorn, IsAnswered}
-use Rattle.lone_call_law.specs.There.{WalksBy}
-use Rattle.lone_call_law.specs.Splitting.{HasFree, HasLine, LacksLine}
-use Rattle.lone_call_law.specs.Locks.{locks_of, locks_in}
-use Rattle.lone_updater_law.specs.CallLogs.{KeepsLayer, KeepsLines, MakesReady, LeavesLines, ready_lines}
-use Rattle.lone_updater_law.specs.LoneTurns.{stamp_in}
+use Rattle.lone_hops_law.specs.lone_call_law.specs.Rooms.{target_node}
+use Rattle.lone_hops_law.specs.lone_call_law.specs.Merging.{NextIsWorn, TriesMerge}
+use Rattle.lone_hops_law.specs.lone_call_law.specs.LoneCalls.{FindsWorn, IsAnswered}
+use Rattle.lone_hops_law.specs.lone_call_law.specs.There.{WalksBy}
+use Rattle.lone_hops_law.specs.lone_call_law.specs.Splitting.{HasFree, HasLine, LacksLine}
+use Rattle.lone_hops_law.specs.lone_call_law.specs.Locks.{locks_of, locks_in}
+use Rattle.lone_hops_law.specs.lone_updater_law.specs.CallLogs.{KeepsLayer, KeepsLines, MakesReady, LeavesLines}
+use Rattle.lone_hops_law.specs.lone_updater_law.specs.CallLogs.{ready_lines}
+use Rattle.lone_hops_law.specs.lone_updater_law.specs.LoneTurns.{stamp_in}
 use Rattle.lone_hops_law.specs.LoneNodes.{LengthenWithin}
 use Rattle.lone_hops_law.specs.Short.{WaysAreShort}
 use Rattle.updater.specs.declared.making.MakeTurn.{MakeTurn}

@@ -10,7 +10,7 @@ use Rattle.version_lock.specs.declared.TheConstants.{LAST_COUNT}
 use Rattle.data_node.specs.Lists.{ListNode}
 use Rattle.index_law.specs.Anchors.{anchors_in, anchors_of, gone_nodes}
 use Rattle.index_law.specs.Worlds.{facts}
-use Rattle.image_recovery_law.specs.Columns.{Columns}
+use Rattle.index_opening_law.specs.image_recovery_law.specs.Columns.{Columns}
 use Rattle.index_opening_law.specs.Openings.{IsOpening}
 use Rattle.index_core.specs.PartyStates.{idle_states}
 use Rattle.index_core.specs.Indexes.{Index, IsIndex, parties_of, world}

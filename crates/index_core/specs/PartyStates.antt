@@ -34,8 +34,8 @@ use Rattle.node_ops.specs.RunningSteps.{Sound, running_call, count_in, listed_in
 use Rattle.node_ops.specs.RecheckSteps.{IsRecheck, recheck_view}
 use Rattle.node_ops.specs.Rechecks.{RecheckSure}
 use Rattle.node_ops.specs.Asked.{IsOf, op_in}
-use Rattle.updater_row_law.specs.RowStages.{Resting}
-use Rattle.updater_row_law.specs.Turnings.{Turning}
+use Rattle.updater.specs.updater_row_law.specs.RowStages.{Resting}
+use Rattle.updater.specs.updater_row_law.specs.Turnings.{Turning}
 use Rattle.updater.specs.declared.making.MakeTurn.{MakeTurn}
 use Rattle.updater.specs.declared.making.TurnReply.{TurnReply}
 use Rattle.updater.specs.Makings.{IsMaking, making_terms, making_turning}

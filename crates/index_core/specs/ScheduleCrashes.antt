@@ -1,7 +1,7 @@
 -- What a crash leaves wherever a schedule stands.
 use Rattle.std.specs.Prelude.{List}
 use Rattle.pm_words.specs.Rows.{durable_row}
-use Rattle.image_layer_rules.specs.Sound.{IsSoundByAll}
+use Rattle.index_image_law.specs.image_layer_rules.specs.Sound.{IsSoundByAll}
 use Rattle.index_core.specs.Indexes.{Index, IsIndex}
 use Rattle.index_core.specs.Schedules.{BegunCall, AnsweredCall, Runs}
 

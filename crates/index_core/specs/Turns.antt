@@ -1,5 +1,6 @@
 -- Turns of the updater in the core: how one begins, what each step of it changes, and how it is answered.
-use Rattle.std.specs.Prelude.{◌≡◌, ◌≢◌, ℕ, zero, suc, ◌+◌, ◌*◌, ◌/◌, ◌<◌, ◌≤◌, ◌^◌, ◌⊎◌, true, slice_set, Option, Some, None}
+use Rattle.std.specs.Prelude.{◌≡◌, ◌≢◌, ℕ, zero, suc, ◌+◌, ◌*◌, ◌/◌, ◌<◌, ◌≤◌, ◌^◌, ◌⊎◌, true, slice_set, Option}
+use Rattle.std.specs.Prelude.{Some, None}
 use mathlib.Core.Option.{some}
 use lib.ListN.{get_elem?}
 use Rattle.pm_words.specs.Codes.{free_status, gone_status}
@@ -9,9 +10,9 @@ use Rattle.pm_words.specs.Rows.{CanAct, acted, got}
 use Rattle.pm_words.specs.Turns.{GoesBelow}
 use Rattle.index_law.specs.Worlds.{facts}
 use Rattle.index_law.specs.Weights.{weight_sum}
-use Rattle.index_layer_law.specs.Laws.{LeavesNodes}
-use Rattle.lone_updater_law.specs.LoneTurns.{IsLoneTurn, stamp_in}
-use Rattle.updater_row_law.specs.RowStages.{Frees}
+use Rattle.index_image_law.specs.index_layer_law.specs.Laws.{LeavesNodes}
+use Rattle.lone_hops_law.specs.lone_updater_law.specs.LoneTurns.{IsLoneTurn, stamp_in}
+use Rattle.updater.specs.updater_row_law.specs.RowStages.{Frees}
 use Rattle.updater.specs.declared.making.MakeTurn.{MakeTurn}
 use Rattle.updater.specs.declared.making.MakeTurn.TheVariants.{Working}
 use Rattle.updater.specs.declared.making.TurnReply.{TurnReply}

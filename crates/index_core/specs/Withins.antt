@@ -13,8 +13,8 @@ use Rattle.node_ops.specs.Asked.{op_in}
 use Rattle.node_ops.specs.CallStages.{stage_of}
 use Rattle.index_law.specs.Anchors.{anchors_in}
 use Rattle.index_law.specs.Weights.{weight_sum}
-use Rattle.lone_call_law.specs.LoneCalls.{FindsFull}
-use Rattle.lone_updater_law.specs.CallLogs.{ready_lines}
+use Rattle.lone_hops_law.specs.lone_call_law.specs.LoneCalls.{FindsFull}
+use Rattle.lone_hops_law.specs.lone_updater_law.specs.CallLogs.{ready_lines}
 use Rattle.updater.specs.declared.making.MakeTurn.{MakeTurn}
 use Rattle.index_core.specs.declared.party.CoreCall.{CoreCall}
 use Rattle.index_core.specs.declared.party.PartyState.{PartyState}

@@ -23,6 +23,7 @@ pub use flight::Flight;
 pub use index::{Core, Parts};
 pub use listing::listed_pairs;
 pub use lone::LONE_STAMP;
+pub use node_ops;
 pub use party::{
     CoreCall, CoreReply, InFlight, PartyState, Rechecking, Stepped, Whole, Within, idle_states,
 };

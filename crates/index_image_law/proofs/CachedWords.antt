@@ -10,8 +10,8 @@ use Rattle.call_stages.specs.Kinds.{word_address}
 use Rattle.index_law.specs.Facts.{spot_in}
 use Rattle.index_law.specs.Lines.{line_in}
 use Rattle.index_law.proofs.Rows.{in_spot, in_spot-true}
-use Rattle.search_layer.specs.Rows.{layer_words, image_layer_words}
-use Rattle.updater_row_law.specs.Columns.{lines_in}
+use Rattle.index_layer_law.specs.search_layer.specs.Rows.{layer_words, image_layer_words}
+use Rattle.index_layer_law.specs.updater_row_law.specs.Columns.{lines_in}
 use Rattle.image_layer_rules.specs.Anchors.{image_lines}
 use Rattle.index_image_law.proofs.TwinWords.{AreTwinWords}
 use Rattle.index_image_law.proofs.TwinWords as twin

@@ -11,13 +11,13 @@ use Rattle.index_law.specs.Worlds.{World}
 use Rattle.index_law.specs.Lawful.{Lawful}
 use Rattle.index_law.proofs.Images.{image_law, in_image}
 use Rattle.layer_map.specs.Layers.{HasFew}
-use Rattle.search_layer.specs.Rows.{LayerWords, layer_words, image_layer_words}
-use Rattle.search_layer.specs.Kept.{kept, IsKept}
+use Rattle.index_layer_law.specs.search_layer.specs.Rows.{LayerWords, layer_words, image_layer_words}
+use Rattle.index_layer_law.specs.search_layer.specs.Kept.{kept, IsKept}
 use Rattle.updater_law.specs.Covered.{IsCovered}
 use Rattle.updater_law.specs.Covers.{Lines, IsOpenFor}
-use Rattle.updater_row_law.specs.Columns.{lines_in}
-use Rattle.updater_row_law.specs.RowLaw.{IsSafeLayer}
-use Rattle.updater_row_law.proofs.RowCrash.{layer_is_safe}
+use Rattle.index_layer_law.specs.updater_row_law.specs.Columns.{lines_in}
+use Rattle.index_layer_law.specs.updater_row_law.specs.RowLaw.{IsSafeLayer}
+use Rattle.index_layer_law.specs.updater_row_law.proofs.RowCrash.{layer_is_safe}
 use Rattle.index_layer_law.specs.Layers.{Layered, IsLayered}
 use Rattle.index_layer_law.specs.Turnings.{terms_of, ghosts_of}
 use Rattle.index_layer_law.proofs.CrashCover.{crash_leads_as_listed}

@@ -12,9 +12,9 @@ use Rattle.updater_law.specs.Facts.{TurnTerms, TurnFacts}
 use Rattle.updater_law.specs.Lawful.{TurnLawful}
 use Rattle.updater_law.specs.TurnStages.{TurnStage}
 use Rattle.updater_law.specs.TurnStages as stages
-use Rattle.updater_row_law.specs.Columns as rows
-use Rattle.updater_row_law.specs.RowStages.{RowStage, Resting, turn_stage}
-use Rattle.updater_row_law.specs.Turnings.{Turning}
+use Rattle.index_layer_law.specs.updater_row_law.specs.Columns as rows
+use Rattle.index_layer_law.specs.updater_row_law.specs.RowStages.{RowStage, Resting, turn_stage}
+use Rattle.index_layer_law.specs.updater_row_law.specs.Turnings.{Turning}
 use Rattle.index_layer_law.specs.Layers.{turn_facts}
 use Rattle.index_layer_law.specs.Turnings.{terms_of}
 use Rattle.index_layer_law.proofs.FactTies.{facts_tie}

@@ -9,16 +9,16 @@ use Rattle.index_law.specs.Facts.{IsListed}
 use Rattle.index_law.specs.Laws.{IsAtRest}
 use Rattle.index_law.specs.Worlds.{World, facts}
 use Rattle.layer_map.specs.Layers.{HasFew, LeadsApart}
-use Rattle.search_layer.specs.Rows.{LayerWords, layer_words}
-use Rattle.search_layer.specs.Kept.{layer_of, IsInOrder, kept, IsKept}
-use Rattle.search_layer.proofs.RowLemmas.{kept_leads_below}
+use Rattle.index_layer_law.specs.search_layer.specs.Rows.{LayerWords, layer_words}
+use Rattle.index_layer_law.specs.search_layer.specs.Kept.{layer_of, IsInOrder, kept, IsKept}
+use Rattle.index_layer_law.specs.search_layer.proofs.RowLemmas.{kept_leads_below}
 use Rattle.layer_map.proofs.FewLemmas.{few_apart}
 use Rattle.updater_law.specs.Covered.{IsCovered}
 use Rattle.updater_law.specs.Covers.{IsOpenFor}
 use Rattle.updater_law.specs.Facts.{TurnTerms}
 use Rattle.updater_law.specs.Lawful.{TurnLawful}
 use Rattle.updater_law.specs.TurnStages.{Resting}
-use Rattle.updater_row_law.specs.Columns.{lines_in}
+use Rattle.index_layer_law.specs.updater_row_law.specs.Columns.{lines_in}
 use Rattle.index_layer_law.proofs.FactTies.{rest_in, known}
 use Rattle.image_layer_rules.specs.Laws.{KeepsLayerRules, IsCoveredImage}
 use Rattle.image_layer_rules.proofs.CoverLaw.{cover_tells_keys, keys_if}

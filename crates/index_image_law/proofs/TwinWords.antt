@@ -5,9 +5,9 @@ use Rattle.std.proofs.lemmas.Bool.{lt-ltb, ltb-true}
 use Rattle.pm_words.specs.declared.layout.Layout.{Layout}
 use Rattle.pm_words.specs.Locations.{Word, Location, HasWord, Line, word_at, at}
 use Rattle.layer_map.specs.Keys.{key_of}
-use Rattle.search_layer.specs.Rows.{layer_words, image_layer_words}
-use Rattle.search_layer.proofs.RowLemmas.{images_alike}
-use Rattle.updater_row_law.specs.Columns.{column, line_field, lines_in}
+use Rattle.index_layer_law.specs.search_layer.specs.Rows.{layer_words, image_layer_words}
+use Rattle.index_layer_law.specs.search_layer.proofs.RowLemmas.{images_alike}
+use Rattle.index_layer_law.specs.updater_row_law.specs.Columns.{column, line_field, lines_in}
 use Rattle.image_layer_rules.specs.Anchors.{image_lines, line_word}
 
 -- each word of the image is that of this twin

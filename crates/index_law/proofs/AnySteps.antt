@@ -1,5 +1,6 @@
 -- Steps beside nodes, and with them all steps of a party.
-use Rattle.std.proofs.Common.{◌≡◌, ◌≢◌, ℕ, ◌<◌, ◌^◌, inl, inr, append-nil, List, [], ◌∷◌, ◌++◌, ◌+◌, length, set, slice_index, slice_set, zero, suc, refl, sym, ap, ◌∙◌, subst, arith, true, false}
+use Rattle.std.proofs.Common.{◌≡◌, ◌≢◌, ℕ, ◌<◌, ◌^◌, inl, inr, append-nil, List, [], ◌∷◌, ◌++◌, ◌+◌, length, set}
+use Rattle.std.proofs.Common.{slice_index, slice_set, zero, suc, refl, sym, ap, ◌∙◌, subst, arith, true, false}
 use Rattle.std.specs.Prelude.{Option, None}
 use Rattle.std.proofs.lemmas.List.{set-get_or}
 use mathlib.Core.Option.{some, some-injective}
@@ -7,7 +8,8 @@ use lib.ListN.{get_elem?}
 use Rattle.pm_words.specs.declared.layout.Layout.{Layout}
 use Rattle.pm_words.specs.declared.action.Action.{Action}
 use Rattle.pm_words.specs.declared.action.Action.TheVariants.{Load, Add}
-use Rattle.pm_words.specs.Locations.{Word, Node, Line, Location, Volatile, Cached, Durable, Clock, HasLocation, address_of}
+use Rattle.pm_words.specs.Locations.{Word, Node, Line, Location, Volatile, Cached, Durable, Clock, HasLocation}
+use Rattle.pm_words.specs.Locations.{address_of}
 use Rattle.pm_words.specs.Rows.{IsRow, CanAct, acted, got}
 use Rattle.pm_words.proofs.Apart.{addresses_within, addresses_apart, at-set_other}
 use Rattle.pm_words.proofs.Kept.{action_address-drain, acted_row, outside_header, names_cached, keeps_header}
@@ -16,7 +18,9 @@ use Rattle.cat_history.specs.declared.op.Change.{Change}
 use Rattle.call_stages.specs.Stages.{Stage, HoldsNode, counted}
 use Rattle.call_stages.specs.Kinds.{HasWordAt, word_address, status_address, clock_address}
 use Rattle.call_stages.specs.Lines.{line_address}
-use Rattle.call_stages.specs.AnySteps.{IsBeside, loads_line, stores_line, drains_line, stores_prev, loads_layer, on_permutation, IsOnPermutation, loads, stores, IsOfPermutation, volatile_address, on_nodes, beside}
+use Rattle.call_stages.specs.AnySteps.{IsBeside, loads_line, stores_line, drains_line, stores_prev, loads_layer}
+use Rattle.call_stages.specs.AnySteps.{on_permutation, IsOnPermutation, loads, stores, IsOfPermutation}
+use Rattle.call_stages.specs.AnySteps.{volatile_address, on_nodes, beside}
 use Rattle.index_law.specs.Facts.{Facts, range_of}
 use Rattle.index_law.specs.Worlds.{Party, World, facts, stepped, written}
 use Rattle.index_law.specs.Lawful.{Lawful}
@@ -32,7 +36,7 @@ use Rattle.index_law.proofs.Own.{allow_law}
 use Rattle.index_law.proofs.Rows.{facts-elsewhere}
 use Rattle.index_law.proofs.Twins.{IsNearer, IsAside}
 use Rattle.index_law.proofs.Weights.{step_weighs}
-use Rattle.layer_map.specs.Places.{is_of_layer}
+use Rattle.call_stages.specs.layer_map.specs.Places.{is_of_layer}
 
 -- a word of a row in place of itself
 pub set_own : {A : Type 0} (l : List A) (i : ℕ) (a : A) → get_elem? l i ≡ some a → set l i a ≡ l

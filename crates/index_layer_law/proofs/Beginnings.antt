@@ -35,7 +35,7 @@ use Rattle.index_layer_law.proofs.Switched.{unready_by, cover_same}
 use Rattle.index_layer_law.proofs.CallRows.{row_after}
 use Rattle.index_layer_law.proofs.TurnRests.{rests_for}
 use Rattle.index_layer_law.proofs.TurnWalks.{found_target}
-use Rattle.search_layer.proofs.RowLemmas.{layer_words_stay}
+use Rattle.updater_row_law.specs.search_layer.proofs.RowLemmas.{layer_words_stay}
 
 module _ (z : Layered) (clock : ℕ) (parties : List Party) (base : Map) (history : List Write) (lines : List (Option HeldLine)) (debts : List Debt) (is : IsLayered z) where
   abbrev w : World

@@ -1,5 +1,6 @@
 -- A step of a call beside nodes, on its log line or on a prev, keeps the index with its search layer.
-use Rattle.std.proofs.Common.{◌≡◌, ◌≢◌, ℕ, ◌<◌, inl, inr, ⊎_elim, ◌⊎◌, Bool, true, false, List, slice_set, Option, Some, None, refl, sym, ap, ◌∙◌, subst, arith}
+use Rattle.std.proofs.Common.{◌≡◌, ◌≢◌, ℕ, ◌<◌, inl, inr, ⊎_elim, ◌⊎◌, Bool, true, false, List, slice_set, Option}
+use Rattle.std.proofs.Common.{Some, None, refl, sym, ap, ◌∙◌, subst, arith}
 use Rattle.std.specs.Prelude.{IfSome}
 use Rattle.std.proofs.lemmas.List.{set-get_or}
 use mathlib.Core.Option.{some}
@@ -14,9 +15,11 @@ use Rattle.pm_words.proofs.Kept.{action_address-drain}
 use Rattle.data_node.specs.Spots.{Spot}
 use Rattle.data_node.specs.Lists.{next_offset, anchor_in, key_of}
 use Rattle.pm_words.specs.Offsets.{stamp_offset}
-use Rattle.call_stages.specs.Stages.{Stage, Held, Grip, Gone, Gathered, Joined, Joins, Idle, Saw, Wears, Reads, Holds, Eyes, Splits, Leaves, Meets, HoldsNode, Tells}
+use Rattle.call_stages.specs.Stages.{Stage, Held, Grip, Gone, Gathered, Joined, Joins, Idle, Saw, Wears, Reads, Holds}
+use Rattle.call_stages.specs.Stages.{Eyes, Splits, Leaves, Meets, HoldsNode, Tells}
 use Rattle.call_stages.specs.Kinds.{prev_address}
-use Rattle.call_stages.specs.Lines.{HeldLine, line_address, Marks, fills, opens, readies, Notes, passes_line, takes, looks_up, notes, keeps_safe}
+use Rattle.call_stages.specs.Lines.{HeldLine, line_address, Marks, fills, opens, readies, Notes, passes_line, takes}
+use Rattle.call_stages.specs.Lines.{looks_up, notes, keeps_safe}
 use Rattle.call_stages.specs.AnySteps.{IsOnPermutation}
 use Rattle.call_stages.specs.Footings.{Waits, IsRetired, IsOfMerge}
 use Rattle.call_stages.specs.Prevs.{Debt, Prevs, names, pays, renews}
@@ -42,8 +45,8 @@ use Rattle.index_layer_law.proofs.CallMoves.{Moved, now_known, held_is}
 use Rattle.index_layer_law.proofs.CallLines.{line_tie, anchor_line_tie, named_words}
 use Rattle.index_layer_law.proofs.CallNotes.{stored, field_other, layer_same, marks_moved}
 use Rattle.index_layer_law.proofs.CallDrains.{drained, layer_stay, drain_moved}
-use Rattle.search_layer.specs.Rows.{HasSameLayer}
-use Rattle.search_layer.proofs.RowLemmas.{layer_words_stay}
+use Rattle.updater_row_law.specs.search_layer.specs.Rows.{HasSameLayer}
+use Rattle.updater_row_law.specs.search_layer.proofs.RowLemmas.{layer_words_stay}
 
 -- What a step beside nodes makes of the words: those of the layer and of the READY lines stay, and for the law of
 -- turns it is a step of another party, or none.

@@ -1,5 +1,6 @@
 -- The drains of a call's log line, for the law of turns.
-use Rattle.std.proofs.Common.{◌≡◌, ◌≢◌, ℕ, ◌<◌, ◌^◌, inl, inr, ⊎_elim, ◌⊎◌, List, slice_set, refl, sym, ap, ◌∙◌, subst, arith}
+use Rattle.std.proofs.Common.{◌≡◌, ◌≢◌, ℕ, ◌<◌, ◌^◌, inl, inr, ⊎_elim, ◌⊎◌, List, slice_set, refl, sym, ap, ◌∙◌}
+use Rattle.std.proofs.Common.{subst, arith}
 use Rattle.std.proofs.lemmas.Bool.{cases_eq}
 use Rattle.pm_words.specs.declared.layout.Layout.{Layout}
 use Rattle.pm_words.specs.Locations.{Word, Location, Line, Cached, Durable, Volatile, HasLocation, address_of}
@@ -20,8 +21,8 @@ use Rattle.updater_row_law.proofs.RowColumns.{column-alike, column-same, column-
 use Rattle.index_layer_law.proofs.FactTies.{rest_in, known, lines_same}
 use Rattle.index_layer_law.proofs.CallMoves.{Moved, now_known}
 use Rattle.index_layer_law.proofs.CallNotes.{number, number_within, same_number, own_place}
-use Rattle.search_layer.specs.Rows.{HasSameLayer}
-use Rattle.search_layer.proofs.RowLemmas.{layer_words_stay}
+use Rattle.updater_row_law.specs.search_layer.specs.Rows.{HasSameLayer}
+use Rattle.updater_row_law.specs.search_layer.proofs.RowLemmas.{layer_words_stay}
 use Rattle.index_law.proofs.Places.{caller_at, number_at, offset_at}
 
 -- one durable word of a line is another

@@ -1,5 +1,6 @@
 -- A step of a call on its log line is, for the law of turns, a step of another party, or none.
-use Rattle.std.proofs.Common.{◌≡◌, ◌≢◌, ℕ, ◌/◌, ◌%◌, ◌<◌, ◌≤◌, inr, ⊎_elim, Bool, true, false, List, slice_set, refl, sym, ap, ◌∙◌, subst, arith}
+use Rattle.std.proofs.Common.{◌≡◌, ◌≢◌, ℕ, ◌/◌, ◌%◌, ◌<◌, ◌≤◌, inr, ⊎_elim, Bool, true, false, List, slice_set, refl}
+use Rattle.std.proofs.Common.{sym, ap, ◌∙◌, subst, arith}
 use Rattle.std.proofs.lemmas.Bool.{cases_eq}
 use Rattle.pm_words.specs.declared.layout.Layout.{Layout}
 use Rattle.pm_words.specs.Locations.{Word, Location, Line, Cached, Durable, Volatile, HasLocation, address_of}
@@ -23,8 +24,8 @@ use Rattle.index_layer_law.specs.Turnings.{line_number}
 use Rattle.index_layer_law.proofs.FactTies.{rest_in, known, lines_same}
 use Rattle.index_layer_law.proofs.CallMoves.{Moved, now_known}
 use Rattle.index_layer_law.proofs.CallLines.{line_tie, safe_tie, anchor_line_tie, anchor_safe_tie}
-use Rattle.search_layer.specs.Rows.{HasSameLayer}
-use Rattle.search_layer.proofs.RowLemmas.{layer_words_stay}
+use Rattle.updater_row_law.specs.search_layer.specs.Rows.{HasSameLayer}
+use Rattle.updater_row_law.specs.search_layer.proofs.RowLemmas.{layer_words_stay}
 use Rattle.index_law.proofs.Places.{caller_at, number_at, offset_at}
 
 -- one word of a line is another

@@ -2,16 +2,18 @@
 use Rattle.std.proofs.Common.{◌≡◌, ◌≢◌, ℕ, zero, suc, ◌<◌, inl, inr, List, None, refl, sym, ◌∙◌, subst, arith}
 use Rattle.pm_words.specs.Codes.{ready_state}
 use Rattle.pm_words.specs.Locations.{Cached}
-use Rattle.search_layer.specs.Rows.{LayerWords, HasSameLayer}
-use Rattle.search_layer.specs.ChangeStages.{LayerAt}
-use Rattle.search_layer.specs.Kept.{kept, IsKept}
-use Rattle.search_layer.proofs.BesideLemmas.{sure_stays, rest_stays}
-use Rattle.search_layer.proofs.RootLemmas.{root_outlasts}
+use Rattle.updater_row_law.specs.search_layer.specs.Rows.{LayerWords, HasSameLayer}
+use Rattle.updater_row_law.specs.search_layer.specs.ChangeStages.{LayerAt}
+use Rattle.updater_row_law.specs.search_layer.specs.Kept.{kept, IsKept}
+use Rattle.updater_row_law.specs.search_layer.proofs.BesideLemmas.{sure_stays, rest_stays}
+use Rattle.updater_row_law.specs.search_layer.proofs.RootLemmas.{root_outlasts}
 use Rattle.updater_law.specs.Facts.{TurnFacts}
 use Rattle.updater_law.specs.Lawful.{SureTurn, TurnLawful}
 use Rattle.updater_law.proofs.Others.{other_keeps}
 use Rattle.updater_row_law.specs.Columns.{RowTerms, Ghosts, line_field, terms_of, facts_in}
-use Rattle.updater_row_law.specs.RowStages.{RowLine, RowTarget, RowStage, Resting, Between, Reads, Lands, HasTarget, Changes, Stamps, Clears, Sweeps, Gone, HasStamp, IsUnworn, Frees, Counts, reading_stage, turn_stage, aim_of}
+use Rattle.updater_row_law.specs.RowStages.{RowLine, RowTarget, RowStage, Resting, Between, Reads, Lands, HasTarget}
+use Rattle.updater_row_law.specs.RowStages.{Changes, Stamps, Clears, Sweeps, Gone, HasStamp, IsUnworn, Frees, Counts}
+use Rattle.updater_row_law.specs.RowStages.{reading_stage, turn_stage, aim_of}
 use Rattle.updater_row_law.specs.RowLaw.{LayerRests, HasLoaded, IsTargetFor, SureRow, RowLawful}
 use Rattle.index_layer_law.proofs.CallMoves.{Moved}
 

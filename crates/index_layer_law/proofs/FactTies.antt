@@ -1,5 +1,6 @@
 -- What the law of turns reads off a row, in terms of the facts of the index and of the words beside its nodes.
-use Rattle.std.proofs.Common.{◌≡◌, ℕ, ◌<◌, ◌==◌, ◌||◌, ◌&&◌, not, inl, inr, Bool, true, false, cond, List, [], ◌∷◌, refl, ap, arith, subst}
+use Rattle.std.proofs.Common.{◌≡◌, ℕ, ◌<◌, ◌==◌, ◌||◌, ◌&&◌, not, inl, inr, Bool, true, false, cond, List, [], ◌∷◌}
+use Rattle.std.proofs.Common.{refl, ap, arith, subst}
 use Rattle.std.specs.Prelude.{nat_lt}
 use Rattle.std.proofs.lemmas.Bool.{eqb-true, eq-eqb, lt-ltb}
 use Rattle.pm_words.specs.declared.layout.Layout.{Layout}
@@ -16,12 +17,14 @@ use Rattle.index_law.specs.Worlds.{World, facts}
 use Rattle.index_law.proofs.Beside.{nodes_leave_others}
 use Rattle.layer_map.specs.Keys.{key_of}
 use Rattle.layer_map.specs.Places.{is_of_layer}
-use Rattle.search_layer.specs.Rows.{LayerWords, Marks, layer_words, layer_marks, root_words, HasSameLayer}
-use Rattle.search_layer.specs.Kept.{kept}
-use Rattle.search_layer.proofs.RowLemmas.{layer_alike}
+use Rattle.updater_row_law.specs.search_layer.specs.Rows.{LayerWords, Marks, layer_words, layer_marks, root_words}
+use Rattle.updater_row_law.specs.search_layer.specs.Rows.{HasSameLayer}
+use Rattle.updater_row_law.specs.search_layer.specs.Kept.{kept}
+use Rattle.updater_row_law.specs.search_layer.proofs.RowLemmas.{layer_alike}
 use Rattle.updater_law.specs.Covers.{Lines}
 use Rattle.updater_law.specs.Facts.{TurnFacts}
-use Rattle.updater_row_law.specs.Columns.{column, node_field, volatile_field, line_field, line_word, line_count, lines_in}
+use Rattle.updater_row_law.specs.Columns.{column, node_field, volatile_field, line_field, line_word, line_count}
+use Rattle.updater_row_law.specs.Columns.{lines_in}
 use Rattle.updater_row_law.proofs.RowColumns.{column-same}
 use Rattle.updater_row_law.specs.Turnings.{Turning}
 use Rattle.index_layer_law.specs.Turnings.{is_member, is_listed}

@@ -1,12 +1,14 @@
 -- A fresh index has its search layer.
-use Rattle.std.proofs.Common.{◌≡◌, ◌≢◌, ℕ, ◌<◌, ◌==◌, ◌||◌, Bool, true, false, cond, List, None, refl, sym, ap, ◌∙◌, subst, inl, inr, arith}
+use Rattle.std.proofs.Common.{◌≡◌, ◌≢◌, ℕ, ◌<◌, ◌==◌, ◌||◌, Bool, true, false, cond, List, None, refl, sym, ap, ◌∙◌}
+use Rattle.std.proofs.Common.{subst, inl, inr, arith}
 use Rattle.std.specs.Prelude.{not, nat_lt}
 use Rattle.std.proofs.lemmas.Bool.{cases_eq, ne_eqb, cond_both, lt-ltb, ltb-true}
 use Rattle.pm_words.specs.Codes.{free_status, live_status}
 use Rattle.pm_words.specs.declared.layout.Layout.{Layout}
 use Rattle.pm_words.specs.Layouts.{IsLayout}
 use Rattle.pm_words.specs.Images.{fresh_words, fresh_word}
-use Rattle.pm_words.specs.Locations.{Word, Location, Node, Updater, Volatile, Mark, Cached, Durable, HasLocation, HasWord, at}
+use Rattle.pm_words.specs.Locations.{Word, Location, Node, Updater, Volatile, Mark, Cached, Durable, HasLocation}
+use Rattle.pm_words.specs.Locations.{HasWord, at}
 use Rattle.pm_words.specs.Rows.{row_of}
 use Rattle.pm_words.proofs.Apart.{at-set_other, at-set_same}
 use Rattle.pm_words.proofs.Made.{fresh_at, fresh_image, row_of-row}
@@ -18,20 +20,21 @@ use Rattle.index_law.proofs.Fresh.{fresh_list}
 use Rattle.index_law.proofs.MarkedRow.{mark_has, marked-else, marked-at, marked-at_volatile, marked_row-row}
 use Rattle.layer_map.specs.Keys.{key_of}
 use Rattle.layer_map.specs.Layers.{Layer}
-use Rattle.tree_law.specs.Trees.{Leaf}
-use Rattle.tree_law.specs.Marking.{IsMarkSet}
-use Rattle.tree_row.proofs.MarkLaw.{mark_is_set, store_leaves_marks}
-use Rattle.search_layer.specs.Fresh.{fresh_layer, HasFreshLayer}
-use Rattle.search_layer.specs.Rows.{LayerWords, Marks, layer_words, layer_marks, AreEven}
-use Rattle.search_layer.proofs.FreshLemmas.{fresh_is_at_rest}
-use Rattle.search_layer.specs.Kept.{kept, IsKept, MarksTell, IsAtRest}
-use Rattle.search_layer.proofs.RowLemmas.{even_are_same, rows_alike}
+use Rattle.updater_law.specs.tree_law.specs.Trees.{Leaf}
+use Rattle.updater_law.specs.tree_law.specs.Marking.{IsMarkSet}
+use Rattle.updater_row_law.specs.tree_row.proofs.MarkLaw.{mark_is_set, store_leaves_marks}
+use Rattle.updater_row_law.specs.search_layer.specs.Fresh.{fresh_layer, HasFreshLayer}
+use Rattle.updater_row_law.specs.search_layer.specs.Rows.{LayerWords, Marks, layer_words, layer_marks, AreEven}
+use Rattle.updater_row_law.specs.search_layer.proofs.FreshLemmas.{fresh_is_at_rest}
+use Rattle.updater_row_law.specs.search_layer.specs.Kept.{kept, IsKept, MarksTell, IsAtRest}
+use Rattle.updater_row_law.specs.search_layer.proofs.RowLemmas.{even_are_same, rows_alike}
 use Rattle.updater_law.specs.Facts.{TurnFacts}
 use Rattle.updater_law.specs.Fresh.{no_lines, fresh_facts}
 use Rattle.updater_law.specs.Lawful.{TurnLawful}
 use Rattle.updater_law.specs.TurnStages as turns
 use Rattle.updater_law.proofs.Crash.{fresh_is_lawful}
-use Rattle.updater_row_law.specs.Columns.{column, line_field, node_field, volatile_field, line_count, line_word, lines_in, facts_in}
+use Rattle.updater_row_law.specs.Columns.{column, line_field, node_field, volatile_field, line_count, line_word}
+use Rattle.updater_row_law.specs.Columns.{lines_in, facts_in}
 use Rattle.updater_row_law.specs.Columns as columns
 use Rattle.updater_row_law.specs.RowStages.{Resting}
 use Rattle.updater_row_law.specs.RowLaw.{RowLawful}

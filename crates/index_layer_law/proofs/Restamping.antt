@@ -1,5 +1,6 @@
 -- A stamp that becomes another leaves the search layer where no turn is in flight: only whether a node has one matters.
-use Rattle.std.proofs.Common.{◌≡◌, ◌≢◌, ℕ, ◌<◌, inl, inr, List, slice_set, Option, None, sym, ap, ◌∙◌, subst, arith, refl}
+use Rattle.std.proofs.Common.{◌≡◌, ◌≢◌, ℕ, ◌<◌, inl, inr, List, slice_set, Option, None, sym, ap, ◌∙◌, subst, arith}
+use Rattle.std.proofs.Common.{refl}
 use Rattle.std.proofs.lemmas.Bool.{cases_eq}
 use Rattle.pm_words.specs.declared.layout.Layout.{Layout}
 use Rattle.pm_words.specs.Locations.{Word, Location, Updater, Volatile, Cached, Durable, HasLocation, address_of, at}
@@ -10,10 +11,10 @@ use Rattle.call_stages.specs.Lines.{HeldLine}
 use Rattle.index_law.specs.Facts.{Facts}
 use Rattle.index_law.specs.Worlds.{World, facts}
 use Rattle.index_law.proofs.Rows.{facts-elsewhere}
-use Rattle.search_layer.specs.Rows.{LayerWords, HasSameLayer}
-use Rattle.search_layer.specs.Kept.{kept, IsKept}
-use Rattle.search_layer.proofs.RowLemmas.{layer_words_stay}
-use Rattle.search_layer.proofs.BesideLemmas.{rest_stays}
+use Rattle.updater_row_law.specs.search_layer.specs.Rows.{LayerWords, HasSameLayer}
+use Rattle.updater_row_law.specs.search_layer.specs.Kept.{kept, IsKept}
+use Rattle.updater_row_law.specs.search_layer.proofs.RowLemmas.{layer_words_stay}
+use Rattle.updater_row_law.specs.search_layer.proofs.BesideLemmas.{rest_stays}
 use Rattle.updater_law.specs.Covers.{IsCover}
 use Rattle.updater_law.specs.Facts.{TurnTerms, TurnFacts}
 use Rattle.updater_law.specs.Lawful.{TurnLawful}

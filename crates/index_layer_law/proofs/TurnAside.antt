@@ -1,9 +1,11 @@
 -- Stores of a turn that touch neither nodes nor lines: of the updater lock, of stamps, and of the layer.
-use Rattle.std.proofs.Common.{◌≡◌, ◌≢◌, ℕ, ◌≤◌, ◌⊎◌, ⊎_elim, inl, inr, true, false, cond, List, refl, sym, ap, subst, arith}
+use Rattle.std.proofs.Common.{◌≡◌, ◌≢◌, ℕ, ◌≤◌, ◌⊎◌, ⊎_elim, inl, inr, true, false, cond, List, refl, sym, ap, subst}
+use Rattle.std.proofs.Common.{arith}
 use Rattle.std.specs.Prelude.{nat_lt}
 use Rattle.std.proofs.lemmas.Bool.{ltb-true}
 use Rattle.pm_words.specs.declared.layout.Layout.{Layout}
-use Rattle.pm_words.specs.Locations.{Word, Header, Line, Node, Location, Clock, Updater, Volatile, Cached, Durable, HasWord, HasLocation, at, Root, Leaf, Cell}
+use Rattle.pm_words.specs.Locations.{Word, Header, Line, Node, Location, Clock, Updater, Volatile, Cached, Durable}
+use Rattle.pm_words.specs.Locations.{HasWord, HasLocation, at, Root, Leaf, Cell}
 use Rattle.pm_words.specs.Rows.{IsRow}
 use Rattle.cat_history.specs.Maps.{Map}
 use Rattle.cat_history.specs.declared.op.Write.{Write}
@@ -20,7 +22,7 @@ use Rattle.index_law.proofs.Rows.{version_in-alike, status_in-alike, spot_in-ali
 use Rattle.index_law.proofs.Twins.{IsAside, IsNearer}
 use Rattle.index_law.proofs.Whole.{traced_same, joint_same}
 use Rattle.layer_map.specs.Places.{is_of_layer, is_layer_word}
-use Rattle.search_layer.specs.RootLine.{RootLineStays}
+use Rattle.updater_row_law.specs.search_layer.specs.RootLine.{RootLineStays}
 
 -- a location that none of these stores touches
 pub record IsUntouched (p : Location) : Type 0 where

@@ -9,13 +9,17 @@ use Rattle.pm_words.specs.Locations.{Location, Root, Updater, Cached, Durable, V
 use Rattle.pm_words.specs.Rows.{IsRow, acted, got}
 use Rattle.pm_words.proofs.Apart.{at-set_same, at-set_other}
 use Rattle.pm_words.specs.Offsets.{stamp_offset, status_offset}
-use Rattle.search_layer.specs.ChangeStages.{Changing, Changed, ChangeStep}
-use Rattle.search_layer.specs.RootLine.{RootLineStays}
-use Rattle.search_layer.proofs.RootLemmas.{root_step_keeps}
+use Rattle.updater_row_law.specs.search_layer.specs.ChangeStages.{Changing, Changed, ChangeStep}
+use Rattle.updater_row_law.specs.search_layer.specs.RootLine.{RootLineStays}
+use Rattle.updater_row_law.specs.search_layer.proofs.RootLemmas.{root_step_keeps}
 use Rattle.updater_law.specs.Lawful.{IsCarried, IsFreeing}
 use Rattle.updater_row_law.specs.Columns.{RowTerms, Ghosts, line_count, line_word, terms_of, facts_in}
 use Rattle.updater_row_law.specs.RowStages.{RowLine, aim_of, RowStage, Resting, Changes}
-use Rattle.updater_row_law.specs.RowSteps.{lock_at, line_at, volatile_at, version_at, RowStep, takes_lock, finds_held, passes, sees, reads, has_read, walks, is_turned_back, finds, loses, decides, changes, has_changed, stamps, empties, passes_node, sees_gone, passes_stamp, sees_stamp, passes_worn, sees_unworn, unstamps, frees, counts, leaves_lock}
+use Rattle.updater_row_law.specs.RowSteps.{lock_at, line_at, volatile_at, version_at, RowStep, takes_lock, finds_held}
+use Rattle.updater_row_law.specs.RowSteps.{passes, sees, reads, has_read, walks, is_turned_back, finds, loses}
+use Rattle.updater_row_law.specs.RowSteps.{decides, changes, has_changed, stamps, empties, passes_node, sees_gone}
+use Rattle.updater_row_law.specs.RowSteps.{passes_stamp, sees_stamp, passes_worn, sees_unworn, unstamps, frees}
+use Rattle.updater_row_law.specs.RowSteps.{counts, leaves_lock}
 use Rattle.updater_row_law.specs.RowLaw.{RowLawful}
 use Rattle.updater_row_law.proofs.RowChanges.{change_kept}
 use Rattle.index_layer_law.proofs.TurnAside.{KeepsRest}

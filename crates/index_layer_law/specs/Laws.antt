@@ -20,8 +20,8 @@ use Rattle.index_law.specs.Whole.{IsWhole}
 use Rattle.index_law.specs.Footings.{AreTended, stepped_whole}
 use Rattle.index_law.specs.Footed.{evicted_whole}
 use Rattle.layer_map.specs.Keys.{key_number}
-use Rattle.search_layer.specs.Rows.{layer_words}
-use Rattle.search_layer.specs.Kept.{layer_of, kept}
+use Rattle.updater_row_law.specs.search_layer.specs.Rows.{layer_words}
+use Rattle.updater_row_law.specs.search_layer.specs.Kept.{layer_of, kept}
 use Rattle.updater_law.specs.Covered.{IsCovered, IsTarget}
 use Rattle.updater_law.specs.Covers.{IsOpenFor}
 use Rattle.updater_row_law.specs.Columns.{lines_in}

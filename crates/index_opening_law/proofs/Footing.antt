@@ -1,5 +1,6 @@
 -- No party of an opened index has a log line or owes a prev.
-use Rattle.std.proofs.Common.{◌≡◌, ◌≢◌, ℕ, ◌+◌, ◌*◌, ◌/◌, ◌%◌, ◌<◌, ◌≤◌, ◌&&◌, ◌⊎◌, List, [], ◌∷◌, inl, inr, ⊎_elim, refl, sym, ap, ◌∙◌, subst, arith}
+use Rattle.std.proofs.Common.{◌≡◌, ◌≢◌, ℕ, ◌+◌, ◌*◌, ◌/◌, ◌%◌, ◌<◌, ◌≤◌, ◌&&◌, ◌⊎◌, List, [], ◌∷◌, inl, inr, ⊎_elim}
+use Rattle.std.proofs.Common.{refl, sym, ap, ◌∙◌, subst, arith}
 use Rattle.std.specs.Prelude.{nat_lt, Option}
 use Rattle.std.specs.List.{AllByRecursion}
 use Rattle.std.proofs.lemmas.Bool.{cases_lt, cond_both, and_parts, lt-ltb, le-ltb, ltb-true}
@@ -21,7 +22,7 @@ use Rattle.index_law.specs.Prevs.{prev_in}
 use Rattle.index_law.specs.Worlds.{Party}
 use Rattle.index_law.proofs.Starts.{rest_law}
 use Rattle.index_law.proofs.Footed.{free_footed}
-use Rattle.updater_row_law.specs.Columns.{line_count, line_word}
+use Rattle.image_recovery_law.specs.updater_row_law.specs.Columns.{line_count, line_word}
 use Rattle.image_recovery_law.specs.Columns.{Columns}
 use Rattle.image_recovery_law.specs.Rows.{columns_in}
 use Rattle.image_recovery_law.proofs.RowColumns.{line_here, word_if-here}

@@ -1,5 +1,6 @@
 -- An opened index has its search layer: it is exactly the list's.
-use Rattle.std.proofs.Common.{◌≡◌, ◌≢◌, ℕ, ◌<◌, ◌≤◌, ◌==◌, ◌||◌, ◌&&◌, not, Bool, true, false, cond, List, [], ◌∷◌, inl, ⊎_elim, refl, sym, ap, ◌∙◌, subst, arith}
+use Rattle.std.proofs.Common.{◌≡◌, ◌≢◌, ℕ, ◌<◌, ◌≤◌, ◌==◌, ◌||◌, ◌&&◌, not, Bool, true, false, cond, List, [], ◌∷◌}
+use Rattle.std.proofs.Common.{inl, ⊎_elim, refl, sym, ap, ◌∙◌, subst, arith}
 use Rattle.std.specs.Prelude.{nat_lt}
 use Rattle.std.proofs.lemmas.Bool.{cases_lt, cond_both, lt-ltb, le-ltb, ltb-true, false_from_ne_true}
 use Rattle.pm_words.specs.Codes.{free_status, live_status}
@@ -13,16 +14,17 @@ use Rattle.pm_words.specs.Offsets.{stamp_offset}
 use Rattle.index_law.specs.Facts.{Facts, version_in, status_in}
 use Rattle.index_law.specs.Worlds.{Party, facts}
 use Rattle.layer_map.specs.Keys.{key_of}
-use Rattle.search_layer.specs.Rows.{LayerWords, layer_words, AreEven}
-use Rattle.search_layer.specs.Kept.{kept}
+use Rattle.image_recovery_law.specs.search_layer.specs.Rows.{LayerWords, layer_words, AreEven}
+use Rattle.image_recovery_law.specs.search_layer.specs.Kept.{kept}
 use Rattle.updater_law.specs.Facts.{TurnFacts}
 use Rattle.updater_law.specs.Lawful.{TurnLawful}
 use Rattle.updater_law.specs.TurnStages as turns
-use Rattle.updater_row_law.specs.Columns as columns
-use Rattle.updater_row_law.specs.Columns.{column, line_field, line_word, line_count, lines_in, volatile_field, facts_in}
-use Rattle.updater_row_law.specs.RowStages.{Resting}
-use Rattle.updater_row_law.specs.RowLaw.{RowLawful}
-use Rattle.updater_row_law.specs.Turnings.{Turning}
+use Rattle.image_recovery_law.specs.updater_row_law.specs.Columns as columns
+use Rattle.image_recovery_law.specs.updater_row_law.specs.Columns.{column, line_field, line_word, line_count}
+use Rattle.image_recovery_law.specs.updater_row_law.specs.Columns.{lines_in, volatile_field, facts_in}
+use Rattle.image_recovery_law.specs.updater_row_law.specs.RowStages.{Resting}
+use Rattle.image_recovery_law.specs.updater_row_law.specs.RowLaw.{RowLawful}
+use Rattle.image_recovery_law.specs.updater_row_law.specs.Turnings.{Turning}
 use Rattle.index_layer_law.specs.Turnings.{terms_of, ghosts_of, is_listed, is_member}
 use Rattle.index_layer_law.proofs.FactTies.{facts_tie, known, rest_in, listed_tells, unlisted_tells}
 use Rattle.index_layer_law.proofs.TurnRests.{rest_is_layered}
@@ -32,7 +34,8 @@ use Rattle.image_recovery_law.specs.Rows.{columns_in, word_if}
 use Rattle.image_recovery_law.proofs.Rest.{rest_is_lawful}
 use Rattle.image_recovery_law.proofs.RowChanges.{leads_somewhere}
 use Rattle.index_opening_law.specs.Openings.{IsOpening, OpeningIsLayered, opened_world}
-use Rattle.index_opening_law.proofs.Opened.{spot_is, version_is, list_is, listed, lists, within, in_or, status_lit, status_dark}
+use Rattle.index_opening_law.proofs.Opened.{spot_is, version_is, list_is, listed, lists, within, in_or, status_lit}
+use Rattle.index_opening_law.proofs.Opened.{status_dark}
 use Rattle.index_opening_law.proofs.Footing.{opening_footed, status_past}
 
 -- the log lines of a row, as the law of turns and as a recovery read them

@@ -17,7 +17,7 @@ use Rattle.index_law.specs.Worlds.{Party, World, facts}
 use Rattle.index_law.specs.Lawful.{Each}
 use Rattle.index_law.specs.Laws.{IsAtRest}
 use Rattle.index_law.specs.Footed.{AreFree, IsFooted}
-use Rattle.updater_row_law.specs.Turnings.{Turning}
+use Rattle.image_recovery_law.specs.updater_row_law.specs.Turnings.{Turning}
 use Rattle.index_layer_law.specs.Laws as layer
 use Rattle.index_layer_law.specs.Layers.{IsLayered}
 use Rattle.image_recovery_law.specs.Columns.{Columns, IsMapOf}

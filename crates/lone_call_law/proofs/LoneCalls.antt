@@ -1,5 +1,6 @@
 -- A whole try of any call, with no other in flight.
-use Rattle.std.proofs.Common.{◌≡◌, ◌≢◌, ℕ, ◌+◌, ◌<◌, ◌≤◌, ◌^◌, ◌⊎◌, inl, inr, ⊎_elim, Bool, true, false, cond, List, [], ◌++◌, length, refl, sym, ap, ◌∙◌, subst, arith}
+use Rattle.std.proofs.Common.{◌≡◌, ◌≢◌, ℕ, ◌+◌, ◌<◌, ◌≤◌, ◌^◌, ◌⊎◌, inl, inr, ⊎_elim, Bool, true, false, cond, List}
+use Rattle.std.proofs.Common.{[], ◌++◌, length, refl, sym, ap, ◌∙◌, subst, arith}
 use Rattle.std.specs.Prelude.{Option, Some, None, IfSome, IsTrue, IsSome, is_some, IsSomeAnd}
 use Rattle.std.specs.FinMap.{insert, get-insert}
 use Rattle.std.proofs.lemmas.Bool.{leb-true}
@@ -30,16 +31,18 @@ use Rattle.cat_history.specs.declared.op.NameOp.TheVariants as op
 use Rattle.call_stages.specs.declared.once.Once.{Once}
 use Rattle.call_stages.specs.declared.once.Once.TheVariants as once
 use Rattle.call_stages.specs.declared.once.Placed.{Placed}
-use Rattle.call_stages.specs.Stages.{Held, Sight, Stage, Idle, Saw, Wears, Reads, Holds, Eyes, Splits, Leaves, Meets, Joins, IsLoose, counted, placed_in}
+use Rattle.call_stages.specs.Stages.{Held, Sight, Stage, Idle, Saw, Wears, Reads, Holds, Eyes, Splits, Leaves, Meets}
+use Rattle.call_stages.specs.Stages.{Joins, IsLoose, counted, placed_in}
 use Rattle.call_stages.specs.Kinds.{Told, LeadsWithin}
 use Rattle.call_stages.specs.AnySteps.{AnyStep}
 use Rattle.layer_map.specs.Layers.{IsFloorOf}
-use Rattle.search_layer.specs.Rows.{LayerWords, layer_words}
-use Rattle.search_layer.specs.Kept.{layer_of}
+use Rattle.node_ops.specs.search_layer.specs.Rows.{LayerWords, layer_words}
+use Rattle.node_ops.specs.search_layer.specs.Kept.{layer_of}
 use Rattle.tree_floor.specs.Floors.{floor_starts}
-use Rattle.search_layer.specs.Floors.{floor_most}
-use Rattle.search_layer.specs.Floors.{answer_from}
-use Rattle.search_layer.proofs.FloorLemmas.{exact as floor_is_exact, named_starts_sound as floor_starts_sound}
+use Rattle.node_ops.specs.search_layer.specs.Floors.{floor_most}
+use Rattle.node_ops.specs.search_layer.specs.Floors.{answer_from}
+use Rattle.node_ops.specs.search_layer.proofs.FloorLemmas.{exact as floor_is_exact}
+use Rattle.node_ops.specs.search_layer.proofs.FloorLemmas.{named_starts_sound as floor_starts_sound}
 use Rattle.tree_row.proofs.RowLaw.{reads_fit}
 use Rattle.node_ops.specs.declared.call.Call.{Call}
 use Rattle.node_ops.specs.declared.get.Get.{Get}
@@ -65,7 +68,8 @@ use Rattle.node_ops.specs.Calls.{new_call, name_in}
 use Rattle.call_stages.specs.Views.{IsView}
 use Rattle.node_ops.specs.LookupSteps.{starts, is_spent, IsLookup, lookup_turned}
 use Rattle.node_ops.specs.GetSteps.{IsGet, get_call, get_turned}
-use Rattle.node_ops.specs.PutSteps.{IsPut, put_call, put_turned, put_looked, put_into, put_full, put_filled, put_finished}
+use Rattle.node_ops.specs.PutSteps.{IsPut, put_call, put_turned, put_looked, put_into, put_full, put_filled}
+use Rattle.node_ops.specs.PutSteps.{put_finished}
 use Rattle.node_ops.specs.FillSteps.{fill_turned}
 use Rattle.node_ops.specs.FinishSteps.{finish_turned}
 use Rattle.node_ops.specs.declared.fill.Fill.{Fill}
@@ -88,12 +92,14 @@ use Rattle.split_merge.specs.SplitStages.{led, split_footing, split_at_footing}
 use Rattle.split_merge.specs.OfSplits.{IsOfSplit}
 use Rattle.split_merge.proofs.OfSplits.{stages_are_of_splits}
 use Rattle.node_ops.specs.DelSteps.{IsDel, del_call, del_turned, del_merged}
-use Rattle.node_ops.specs.RunningSteps.{IsRunning, Sound, running_call, running_asks, running_turned, running_leads, wrapped, wrapped_part}
+use Rattle.node_ops.specs.RunningSteps.{IsRunning, Sound, running_call, running_asks, running_turned, running_leads}
+use Rattle.node_ops.specs.RunningSteps.{wrapped, wrapped_part}
 use Rattle.node_ops.specs.PartSteps.{IsPart, part_call, part_turned, placed_turn}
 use Rattle.node_ops.specs.declared.part.Reading.{Reading}
 use Rattle.node_ops.specs.declared.part.Way.{Way}
 use Rattle.node_ops.specs.declared.part.Way.TheVariants as ways
-use Rattle.node_ops.specs.CallStages.{reading_at_held, stage_by, held_by, walk_by, behind_sight, lookup_at_stage, del_stage, has_place, stage_of, stage_after, reply_of, SoundAfter, found_full}
+use Rattle.node_ops.specs.CallStages.{reading_at_held, stage_by, held_by, walk_by, behind_sight, lookup_at_stage}
+use Rattle.node_ops.specs.CallStages.{del_stage, has_place, stage_of, stage_after, reply_of, SoundAfter, found_full}
 use Rattle.node_ops.proofs.CallLaw.{turns_are_steps, leads_are_taken}
 use Rattle.node_ops.proofs.LookupSound.{Stays}
 use Rattle.node_ops.proofs.CallSound.{get_stays, put_stays, del_stays, turns_stay_sound}
@@ -118,9 +124,12 @@ use Rattle.lone_call_law.specs.Merging.{LeavesShape}
 use Rattle.lone_call_law.specs.MergeStands.{merge_leaves}
 use Rattle.lone_call_law.specs.Splitting.{HasLine, LacksLine, HoldsAlone}
 use Rattle.lone_call_law.specs.Tries.{IsFor, is_same, Trying, HasKeptOrMerged, Says, LeavesHistory}
-use Rattle.lone_call_law.specs.LoneCalls.{HasLimit, HasClaimed, IsPast, IsThere, Foresees, is_leaving, LoneCall, FindsFull, NeedsLine, FindsWorn, IsLate, IsAnswered, AfterCall, LoneCallsGo, LoneCallsLose, LoneCallsBegin, LonePartsBegin}
+use Rattle.lone_call_law.specs.LoneCalls.{HasLimit, HasClaimed, IsPast, IsThere, Foresees, is_leaving, LoneCall}
+use Rattle.lone_call_law.specs.LoneCalls.{FindsFull, NeedsLine, FindsWorn, IsLate, IsAnswered, AfterCall, LoneCallsGo}
+use Rattle.lone_call_law.specs.LoneCalls.{LoneCallsLose, LoneCallsBegin, LonePartsBegin}
 use Rattle.node_ops.specs.Endings.{limit_in, IsPutOp}
-use Rattle.lone_call_law.proofs.Foreseeing.{DelForeseesSo, EndsSo, del_foresees, del_ends, del_had_line, PutForeseesSo, put_foresees}
+use Rattle.lone_call_law.proofs.Foreseeing.{DelForeseesSo, EndsSo, del_foresees, del_ends, del_had_line}
+use Rattle.lone_call_law.proofs.Foreseeing.{PutForeseesSo, put_foresees}
 use Rattle.lone_call_law.proofs.Locks.{locks_go, stages_lose}
 use Rattle.lone_call_law.proofs.MergeStands.{merge_is_for, MergeParts, merge_parts}
 use Rattle.lone_call_law.proofs.Standing.{both}
@@ -130,7 +139,8 @@ use Rattle.split_merge.specs.declared.merging.Merged.{Merged}
 use Rattle.split_merge.specs.Merges.{merge_turned}
 use Rattle.lone_call_law.proofs.Tries.{tries_go, tries_end}
 use Rattle.lone_call_law.proofs.Rooms.{added_had_room}
-use Rattle.lone_call_law.proofs.Went.{HasEnded, NeedsPlace, MayLackRoom, IsRefusing, MayLack, KnowsOwn, Went, machine_went}
+use Rattle.lone_call_law.proofs.Went.{HasEnded, NeedsPlace, MayLackRoom, IsRefusing, MayLack, KnowsOwn, Went}
+use Rattle.lone_call_law.proofs.Went.{machine_went}
 
 -- the name that it is about
 pub of_name : (asked : NameOp) (machine : Running) → IsOf asked machine → name_in (running_call machine) ≡ name_asked asked

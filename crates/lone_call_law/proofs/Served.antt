@@ -7,7 +7,7 @@ use Rattle.pm_words.specs.Rows.{acted}
 use Rattle.data_node.specs.Lists.{target_from, key_of}
 use Rattle.call_stages.specs.declared.once.Once.TheVariants as once
 use Rattle.index_law.specs.Facts.{version_in, list_in}
-use Rattle.permutation_law.specs.Permuted.{made_at}
+use Rattle.node_ops.specs.permutation_law.specs.Permuted.{made_at}
 use Rattle.node_ops.specs.declared.call.Call.{Call}
 use Rattle.node_ops.specs.declared.lookup.LookupAt.{LookupAt}
 use Rattle.node_ops.specs.declared.lookup.LookupAt.TheVariants as look
@@ -22,7 +22,8 @@ use Rattle.node_ops.specs.declared.part.Way.TheVariants as ways
 use Rattle.node_ops.specs.declared.running.Running.TheVariants.{Parting}
 use Rattle.node_ops.specs.Asked.{name_asked}
 use Rattle.node_ops.specs.Calls.{name_in, call_address}
-use Rattle.node_ops.specs.PartSteps.{IsFreely, IsPart, IsReading, IsWalkingAt, compared_by, order_in, part_asks, part_call, part_turned, reading_at_asks, reading_turned}
+use Rattle.node_ops.specs.PartSteps.{IsFreely, IsPart, IsReading, IsWalkingAt, compared_by, order_in, part_asks}
+use Rattle.node_ops.specs.PartSteps.{part_call, part_turned, reading_at_asks, reading_turned}
 use Rattle.node_ops.proofs.PartTelling.{ends_reading, done_words}
 use Rattle.lone_call_law.specs.There.{IsAtNode, LookupStands}
 use Rattle.lone_call_law.specs.LoneCalls.{IsMadeNow, WayIsThere, PartIsThere, LonePartsAreServed}

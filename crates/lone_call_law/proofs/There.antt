@@ -1,5 +1,6 @@
 -- A look-up that nobody disturbs comes to the target of its name.
-use Rattle.std.proofs.Common.{◌≡◌, ℕ, zero, suc, ◌+◌, ◌<◌, ◌≤◌, ◌==◌, true, false, inl, inr, cond, ltb, List, get_or, set, Some, None, refl, sym, subst, ap, ◌∙◌, arith}
+use Rattle.std.proofs.Common.{◌≡◌, ℕ, zero, suc, ◌+◌, ◌<◌, ◌≤◌, ◌==◌, true, false, inl, inr, cond, ltb, List, get_or}
+use Rattle.std.proofs.Common.{set, Some, None, refl, sym, subst, ap, ◌∙◌, arith}
 use Rattle.std.proofs.lemmas.Bool.{eq-eqb}
 use Rattle.std.specs.Prelude.{IsSomeAnd}
 use Rattle.std.proofs.lemmas.List.{set-get_or}
@@ -33,11 +34,14 @@ use Rattle.node_ops.specs.declared.lookup.LookupAt.{LookupAt}
 use Rattle.node_ops.specs.declared.lookup.LookupAt.TheVariants as at
 use Rattle.node_ops.specs.Calls.{IsCall, name_in, at_node, call_address}
 use Rattle.data_node.specs.Spots.{bitmap_offset, slot_offset}
-use Rattle.node_ops.specs.LookupSteps.{came_by, is_spent, goes_to, ends, floored, walked_on, saw_directory, next_candidate, candidate_turned, lookup_at_asks, lookup_at_turned, IsFlooring, IsLookupAt}
+use Rattle.node_ops.specs.LookupSteps.{came_by, is_spent, goes_to, ends, floored, walked_on, saw_directory}
+use Rattle.node_ops.specs.LookupSteps.{next_candidate, candidate_turned, lookup_at_asks, lookup_at_turned, IsFlooring}
+use Rattle.node_ops.specs.LookupSteps.{IsLookupAt}
 use Rattle.node_ops.proofs.LookupLaw.{key_is}
 use Rattle.index_law.specs.Facts.{list_in, version_in}
 use Rattle.index_law.specs.Worlds.{facts}
-use Rattle.index_law.proofs.Rows.{version_in-here, spot_in-here, status_in-here, version_in-alike, spot_in-alike, status_in-alike}
+use Rattle.index_law.proofs.Rows.{version_in-here, spot_in-here, status_in-here, version_in-alike, spot_in-alike}
+use Rattle.index_law.proofs.Rows.{status_in-alike}
 use Rattle.index_law.proofs.Noting.{line-alike}
 use Rattle.index_law.proofs.Starts.{idle_law}
 use Rattle.index_law.proofs.Prevs.{idle_follow, prev_at}
@@ -45,12 +49,13 @@ use Rattle.pm_words.proofs.Apart.{at-set_other}
 use Rattle.pm_words.specs.Locations.{Node, Line, Volatile, Cached}
 use Rattle.pm_words.specs.declared.action.Action.TheVariants.{Load, Exchange}
 use Rattle.tree_floor.specs.declared.floor.Floor.{Floor}
-use Rattle.search_layer.specs.Rows.{LayerWords, layer_words}
+use Rattle.node_ops.specs.search_layer.specs.Rows.{LayerWords, layer_words}
 use Rattle.tree_floor.specs.Floors.{floor_asks, floor_turned}
-use Rattle.search_layer.specs.Floors.{told_turn, answer_from, floor_told}
-use Rattle.search_layer.proofs.FloorLemmas.{keeps_words as lone_keeps, told as floor_is_told}
-use Rattle.search_layer.proofs.RowLemmas.{kept_leads_below}
-use Rattle.lone_call_law.specs.There.{HasCome, nodes_in, CanWalk, StartsAt, WalksBy, IsAtNode, IsUnmoved, LookupStands, LookedStands, LooksComeThere}
+use Rattle.node_ops.specs.search_layer.specs.Floors.{told_turn, answer_from, floor_told}
+use Rattle.node_ops.specs.search_layer.proofs.FloorLemmas.{keeps_words as lone_keeps, told as floor_is_told}
+use Rattle.node_ops.specs.search_layer.proofs.RowLemmas.{kept_leads_below}
+use Rattle.lone_call_law.specs.There.{HasCome, nodes_in, CanWalk, StartsAt, WalksBy, IsAtNode, IsUnmoved}
+use Rattle.lone_call_law.specs.There.{LookupStands, LookedStands, LooksComeThere}
 use Rattle.lone_call_law.specs.There.{RestIsStill, IdleIsQuiet}
 use Rattle.std.specs.Prelude.{IsSome, is_some}
 use Rattle.std.specs.Prelude.{Option, Some, None}

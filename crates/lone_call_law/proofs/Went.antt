@@ -1,5 +1,6 @@
 -- Where the machine of a lone call is after a turn.
-use Rattle.std.proofs.Common.{◌≡◌, ◌≢◌, ℕ, ◌+◌, ◌/◌, ◌<◌, ◌==◌, ◌⊎◌, nat_lt, true, false, cond, ltb, List, inl, inr, refl, sym, ◌∙◌, subst, arith}
+use Rattle.std.proofs.Common.{◌≡◌, ◌≢◌, ℕ, ◌+◌, ◌/◌, ◌<◌, ◌==◌, ◌⊎◌, nat_lt, true, false, cond, ltb, List, inl, inr}
+use Rattle.std.proofs.Common.{refl, sym, ◌∙◌, subst, arith}
 use Rattle.std.specs.Prelude.{Option, Some, None}
 use Rattle.pm_words.specs.declared.layout.Layout.{Layout}
 use Rattle.pm_words.specs.declared.again.Again.TheVariants as again
@@ -46,14 +47,19 @@ use Rattle.pm_words.specs.Fences.{fence_next}
 use Rattle.node_ops.specs.FinishSteps.{finish_turned, finish_at_turned, finish_fenced}
 use Rattle.node_ops.specs.FillSteps.{fill_turned, fill_at_turned, slot_fenced, print_fenced}
 use Rattle.node_ops.specs.GetSteps.{IsGet, get_call, get_asks, get_turned}
-use Rattle.node_ops.specs.PutSteps.{IsPut, put_call, put_asks, put_turned, put_looked, put_into, put_full, put_filled, put_finished, put_split, IsSplitting}
-use Rattle.node_ops.specs.DelSteps.{IsDel, IsTakeOf, names_left, del_call, del_asks, del_turned, del_looked, del_slot, del_hit, saw_next, del_taken, goes_on, merges_at, del_finished, del_merged}
+use Rattle.node_ops.specs.PutSteps.{IsPut, put_call, put_asks, put_turned, put_looked, put_into, put_full, put_filled}
+use Rattle.node_ops.specs.PutSteps.{put_finished, put_split, IsSplitting}
+use Rattle.node_ops.specs.DelSteps.{IsDel, IsTakeOf, names_left, del_call, del_asks, del_turned, del_looked, del_slot}
+use Rattle.node_ops.specs.DelSteps.{del_hit, saw_next, del_taken, goes_on, merges_at, del_finished, del_merged}
 use Rattle.node_ops.specs.RunningSteps.{IsRunning, running_call, running_asks, running_turned, wrapped, wrapped_part}
 use Rattle.node_ops.specs.declared.lookup.LookupAt.TheVariants as look
 use Rattle.node_ops.specs.declared.lookup.LookupAt.{LookupAt}
 use Rattle.node_ops.specs.declared.part.Way.{Way}
 use Rattle.node_ops.specs.declared.part.Way.TheVariants as ways
-use Rattle.node_ops.specs.PartSteps.{IsFreely, IsHeld, IsPart, IsReading, IsReadingAt, after_at, low_value, next_at, ordering_turned, part_asks, part_call, part_held, part_locked, part_looked, part_ordered, part_turned, part_walked, part_words, reading_at_asks, reading_turned, seen_at, sorted_by, sorted_in, store_on, with_word}
+use Rattle.node_ops.specs.PartSteps.{IsFreely, IsHeld, IsPart, IsReading, IsReadingAt, after_at, low_value, next_at}
+use Rattle.node_ops.specs.PartSteps.{ordering_turned, part_asks, part_call, part_held, part_locked, part_looked}
+use Rattle.node_ops.specs.PartSteps.{part_ordered, part_turned, part_walked, part_words, reading_at_asks}
+use Rattle.node_ops.specs.PartSteps.{reading_turned, seen_at, sorted_by, sorted_in, store_on, with_word}
 use Rattle.node_ops.specs.PartSteps as node_steps
 use Rattle.node_ops.proofs.PartWalks.{WalksOn, walks_on}
 use Rattle.permutation.specs.declared.load.LoadPermutation.{LoadPermutation}
@@ -64,9 +70,10 @@ use Rattle.permutation.specs.Loads.{load_at_asks, load_at_read, load_at_turned}
 use Rattle.permutation.specs.Permutations.{permutation_words}
 use Rattle.permutation.specs.Sortings.{permutation_address, permutation_version_address}
 use Rattle.permutation.specs.Stores.{store_asks, store_turned}
-use Rattle.permutation_law.specs.Permuted.{made_at}
-use Rattle.permutation_law.proofs.Columns.{made_at-here}
-use Rattle.node_ops.specs.CallStages.{behind_sight, del_stage, get_stage, has_place, put_stage, reading_whole, stage_by, stage_of}
+use Rattle.node_ops.specs.permutation_law.specs.Permuted.{made_at}
+use Rattle.node_ops.specs.permutation_law.proofs.Columns.{made_at-here}
+use Rattle.node_ops.specs.CallStages.{behind_sight, del_stage, get_stage, has_place, put_stage, reading_whole}
+use Rattle.node_ops.specs.CallStages.{stage_by, stage_of}
 use Rattle.node_ops.specs.Endings.{limit_in}
 use Rattle.node_ops.proofs.MergeFacts.{merging_stage, merge_placed, merge_limited}
 use Rattle.smo_log.specs.declared.take.Take.{Take}
@@ -81,7 +88,8 @@ use Rattle.split_merge.specs.declared.merging.Merged.{Merged}
 use Rattle.split_merge.specs.Merges.{merge_turned}
 use Rattle.index_law.specs.Lines.{line_in}
 use Rattle.lone_call_law.specs.There.{CanWalk, IsAtNode, IsUnmoved, HasCome, EndsEarly, LookedStands, LookupStands}
-use Rattle.lone_call_law.specs.Splitting.{HasLine, HasFree, IsLacking, SplitStands, SplitWent, IsReadyToSplit, HoldsAlone}
+use Rattle.lone_call_law.specs.Splitting.{HasLine, HasFree, IsLacking, SplitStands, SplitWent, IsReadyToSplit}
+use Rattle.lone_call_law.specs.Splitting.{HoldsAlone}
 use Rattle.lone_call_law.proofs.Splitting.{splits_come_there, take_unmoved, take_told}
 use Rattle.index_law.specs.Facts.{version_in, list_in}
 use Rattle.data_node.specs.Lists.{IsIn, key_of, next_offset}
@@ -95,7 +103,8 @@ use Rattle.split_merge.specs.Splits.{split_asks, split_turned}
 use Rattle.pm_words.specs.declared.again.Again.{Again}
 use Rattle.node_ops.specs.declared.lookup.Hold.{Hold}
 use Rattle.node_ops.specs.Calls.{name_in, call_address}
-use Rattle.lone_call_law.specs.LoneCalls.{GetIsThere, PutIsThere, HasFoundLine, DelIsThere, PartIsThere, WayIsThere, IsMadeNow, IsThere}
+use Rattle.lone_call_law.specs.LoneCalls.{GetIsThere, PutIsThere, HasFoundLine, DelIsThere, PartIsThere, WayIsThere}
+use Rattle.lone_call_law.specs.LoneCalls.{IsMadeNow, IsThere}
 use Rattle.lone_call_law.proofs.There.{looks_come_there, loaded_unmoved, locked_unmoved, stored_unmoved}
 use Rattle.node_ops.specs.declared.get.Get.TheVariants as get
 use Rattle.node_ops.specs.GetSteps.{get_looked}

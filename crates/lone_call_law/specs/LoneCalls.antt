@@ -39,7 +39,7 @@ use Rattle.node_ops.specs.declared.part.PartWords.{PartWords}
 use Rattle.node_ops.specs.declared.part.Way.{Way}
 use Rattle.node_ops.specs.declared.part.Way.TheVariants as ways
 use Rattle.permutation.specs.Loads.{load_read}
-use Rattle.permutation_law.specs.Permuted.{made_at}
+use Rattle.node_ops.specs.permutation_law.specs.Permuted.{made_at}
 use Rattle.node_ops.specs.declared.running.Running.{Running}
 use Rattle.node_ops.specs.declared.running.Running.TheVariants.{Getting, Putting, Deleting, Parting}
 use Rattle.node_ops.specs.Asked.{IsOf, name_asked}

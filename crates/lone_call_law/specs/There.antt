@@ -29,9 +29,9 @@ use Rattle.index_law.specs.Laws.{IsAtRest}
 use Rattle.index_law.specs.Prevs.{prev_in, Traced, IsTraced}
 use Rattle.tree_floor.specs.declared.floor.Floor.{Floor}
 use Rattle.layer_map.specs.Layers.{IsFloorOf}
-use Rattle.search_layer.specs.Rows.{layer_words}
-use Rattle.search_layer.specs.Kept.{layer_of, IsInOrder}
-use Rattle.search_layer.specs.Floors.{answer_from}
+use Rattle.node_ops.specs.search_layer.specs.Rows.{layer_words}
+use Rattle.node_ops.specs.search_layer.specs.Kept.{layer_of, IsInOrder}
+use Rattle.node_ops.specs.search_layer.specs.Floors.{answer_from}
 
 abbrev pub nodes_in : Layout → List ℕ → Nodes
 nodes_in l words = record {

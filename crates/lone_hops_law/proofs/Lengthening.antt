@@ -11,8 +11,8 @@ use Rattle.call_stages.specs.Stages.{Stage}
 use Rattle.data_list.specs.Still.{AreQuiet}
 use Rattle.index_law.specs.LoneShapes.{has_merged}
 use Rattle.index_law.specs.Worlds.{World, facts}
-use Rattle.lone_call_law.specs.Merging.{HasKeptList, IsMergedSince}
-use Rattle.lone_call_law.specs.Tries.{IsHalvedSince, Says, has_retired}
+use Rattle.lone_updater_law.specs.lone_call_law.specs.Merging.{HasKeptList, IsMergedSince}
+use Rattle.lone_updater_law.specs.lone_call_law.specs.Tries.{IsHalvedSince, Says, has_retired}
 use Rattle.lone_updater_law.specs.CallLogs.{KeepsLines, MakesReady, LeavesLines, ready_lines}
 use Rattle.lone_updater_law.proofs.ReadyCounts.{ready_are_counted}
 use Rattle.lone_hops_law.specs.Ways.{StayGone, HasCut, HasJoined, LongerByOne}

@@ -1,5 +1,6 @@
 -- What a lone call leaves of the nodes, step by step.
-use Rattle.std.proofs.Common.{◌≡◌, ◌≢◌, ℕ, ◌<◌, ◌^◌, ⊎_elim, Bool, true, false, cond, List, length, refl, sym, ap, ◌∙◌, subst, arith, slice_set, Option, Some, None, IfSome}
+use Rattle.std.proofs.Common.{◌≡◌, ◌≢◌, ℕ, ◌<◌, ◌^◌, ⊎_elim, Bool, true, false, cond, List, length, refl, sym, ap}
+use Rattle.std.proofs.Common.{◌∙◌, subst, arith, slice_set, Option, Some, None, IfSome}
 use Rattle.std.proofs.lemmas.Bool.{cases_eq, eq-eqb, ne_eqb}
 use Rattle.std.proofs.lemmas.List.{set-get_or}
 use mathlib.Core.Option.{some}
@@ -14,14 +15,16 @@ use Rattle.cat_history.specs.declared.op.Change.{Change}
 use Rattle.data_node.specs.Lists.{ListNode, next_offset, IsIn, IsChain, without_member}
 use Rattle.call_stages.specs.declared.once.Once.{Once}
 use Rattle.call_stages.specs.declared.once.Placed.{Placed}
-use Rattle.call_stages.specs.Stages.{Stage, Filling, Gathered, Gone, Idle, Saw, Wears, Reads, Holds, Eyes, Splits, Leaves, Meets, Joins, HoldsNode, counted}
+use Rattle.call_stages.specs.Stages.{Stage, Filling, Gathered, Gone, Idle, Saw, Wears, Reads, Holds, Eyes, Splits}
+use Rattle.call_stages.specs.Stages.{Leaves, Meets, Joins, HoldsNode, counted}
 use Rattle.call_stages.specs.Kinds.{Step, Look, Split, Merge, prev_address}
 use Rattle.call_stages.specs.Kinds as kinds
 use Rattle.call_stages.specs.AnySteps.{loads_layer, on_permutation}
 use Rattle.call_stages.specs.Lines.{HeldLine, line_address, Notes, passes_line, takes, looks_up, notes, keeps_safe}
 use Rattle.call_stages.specs.Footings.{Footing, FootStep}
 use Rattle.call_stages.specs.Footings as foot
-use Rattle.call_stages.specs.Prevs.{Debt, IsJoin, IsRetire, Deals, keeps, forgets, ends, switches, joins, Prevs, names, pays, renews}
+use Rattle.call_stages.specs.Prevs.{Debt, IsJoin, IsRetire, Deals, keeps, forgets, ends, switches, joins, Prevs}
+use Rattle.call_stages.specs.Prevs.{names, pays, renews}
 use Rattle.index_law.specs.Facts.{Facts, IsListed}
 use Rattle.index_law.specs.Lawful.{Sure, SureJoins, SureSplits, IsList}
 use Rattle.index_law.specs.Laws.{IsLegal}
@@ -39,10 +42,12 @@ use Rattle.index_law.proofs.Parties.{set_here}
 use Rattle.index_law.proofs.Prevs.{store_prev, nodes_leave_prevs, leads_now, chain_next, prev_here, prev_else}
 use Rattle.index_law.proofs.Starts.{listed_within}
 use Rattle.index_law.proofs.Switch.{leads_on}
-use Rattle.lone_call_law.specs.Tries.{Trying, HasShape, is_same, was_cut, was_joined, is_cut, has_retired}
-use Rattle.lone_call_law.proofs.Cuts.{cut_unmerged}
-use Rattle.lone_call_law.proofs.Effects.{Effect, Keeps, stays, adds, cuts, drops, buries, is_done, step_does}
-use Rattle.lone_call_law.proofs.Effects as effect
+use Rattle.lone_updater_law.specs.lone_call_law.specs.Tries.{Trying, HasShape, is_same, was_cut, was_joined, is_cut}
+use Rattle.lone_updater_law.specs.lone_call_law.specs.Tries.{has_retired}
+use Rattle.lone_updater_law.specs.lone_call_law.proofs.Cuts.{cut_unmerged}
+use Rattle.lone_updater_law.specs.lone_call_law.proofs.Effects.{Effect, Keeps, stays, adds, cuts, drops, buries}
+use Rattle.lone_updater_law.specs.lone_call_law.proofs.Effects.{is_done, step_does}
+use Rattle.lone_updater_law.specs.lone_call_law.proofs.Effects as effect
 use Rattle.lone_hops_law.specs.Ways.{StayGone}
 use Rattle.lone_hops_law.specs.LoneNodes.{nodes_of, IsOwn, HasLeftOut, NodesStand, NodesGo, NodesEnd}
 use Rattle.call_stages.specs.Stages.{IsLoose}

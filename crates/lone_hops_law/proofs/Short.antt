@@ -12,16 +12,16 @@ use Rattle.index_law.specs.Prevs.{prev_in}
 use Rattle.index_law.specs.Worlds.{World}
 use Rattle.index_law.proofs.Prevs.{prev_in-alike}
 use Rattle.index_law.proofs.Rows.{spot_in-alike, status_in-alike, version_in-alike}
-use Rattle.index_layer_law.proofs.LayerCover.{layer_is_covered}
+use Rattle.lone_updater_law.specs.index_layer_law.proofs.LayerCover.{layer_is_covered}
 use Rattle.layer_map.specs.Layers.{Layer, IsFloorOf, IsBest}
-use Rattle.search_layer.specs.Kept.{layer_of, kept}
-use Rattle.search_layer.specs.Rows.{layer_words}
-use Rattle.search_layer.proofs.RowLemmas.{kept_leads_below}
-use Rattle.search_layer.proofs.RowLemmas.{rows_alike}
+use Rattle.lone_updater_law.specs.search_layer.specs.Kept.{layer_of, kept}
+use Rattle.lone_updater_law.specs.search_layer.specs.Rows.{layer_words}
+use Rattle.lone_updater_law.specs.search_layer.proofs.RowLemmas.{kept_leads_below}
+use Rattle.lone_updater_law.specs.search_layer.proofs.RowLemmas.{rows_alike}
 use Rattle.updater_law.specs.Covered.{IsCovered}
-use Rattle.updater_row_law.specs.Columns.{line_count, line_word}
-use Rattle.updater_row_law.proofs.RowColumns.{column-same}
-use Rattle.updater.specs.Events.{how_many}
+use Rattle.lone_updater_law.specs.updater_row_law.specs.Columns.{line_count, line_word}
+use Rattle.lone_updater_law.specs.updater_row_law.proofs.RowColumns.{column-same}
+use Rattle.lone_updater_law.specs.updater.specs.Events.{how_many}
 use Rattle.lone_updater_law.specs.CallLogs.{ready_lines}
 use Rattle.lone_updater_law.specs.LoneTurns.{line_state}
 use Rattle.lone_hops_law.specs.LoneNodes.{nodes_of}

@@ -18,8 +18,8 @@ use Rattle.index_law.specs.LoneShapes.{has_merged}
 use Rattle.index_law.specs.Prevs.{prev_in}
 use Rattle.index_law.specs.Whole.{Whole, IsWhole}
 use Rattle.index_law.specs.Worlds.{Party, World, facts, stepped}
-use Rattle.lone_call_law.specs.There.{nodes_in}
-use Rattle.lone_call_law.specs.Tries.{Trying, Says, has_retired}
+use Rattle.lone_updater_law.specs.lone_call_law.specs.There.{nodes_in}
+use Rattle.lone_updater_law.specs.lone_call_law.specs.Tries.{Trying, Says, has_retired}
 use Rattle.lone_updater_law.specs.CallLogs.{LeavesLines, ready_lines}
 use Rattle.lone_hops_law.specs.Ways.{IsWay, StayGone}
 

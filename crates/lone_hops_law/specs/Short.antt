@@ -4,11 +4,11 @@ use Rattle.pm_words.specs.Codes.{empty_state}
 use Rattle.pm_words.specs.Locations.{Location, Cached, Volatile, HasLocation, at}
 use Rattle.data_list.specs.Still.{AreQuiet, Comes}
 use Rattle.index_law.specs.Worlds.{World}
-use Rattle.index_layer_law.specs.Layers.{Layered, IsLayered}
+use Rattle.lone_updater_law.specs.index_layer_law.specs.Layers.{Layered, IsLayered}
 use Rattle.lone_updater_law.specs.CallLogs.{KeepsLayer, ready_lines}
 use Rattle.lone_updater_law.specs.LoneTurns.{line_state}
 use Rattle.layer_map.specs.Layers.{IsFloorOf}
-use Rattle.search_layer.specs.Kept.{IsInOrder, layer_of}
+use Rattle.lone_updater_law.specs.search_layer.specs.Kept.{IsInOrder, layer_of}
 use Rattle.lone_hops_law.specs.LoneNodes.{nodes_of, LengthenWithin}
 use Rattle.lone_hops_law.specs.Ways.{IsWay}
 

@@ -7,9 +7,9 @@ use Rattle.pm_words.specs.Rows.{got}
 use Rattle.index_law.specs.Worlds.{World}
 use Rattle.updater_law.specs.Facts.{TurnTerms, TurnFacts}
 use Rattle.updater_law.specs.Lawful.{SureTurn}
-use Rattle.updater_row_law.specs.Columns as rows
-use Rattle.updater_row_law.specs.RowStages.{Resting, reading_stage, turn_stage}
-use Rattle.updater_row_law.specs.Turnings.{Turning}
+use Rattle.index_layer_law.specs.updater_row_law.specs.Columns as rows
+use Rattle.index_layer_law.specs.updater_row_law.specs.RowStages.{Resting, reading_stage, turn_stage}
+use Rattle.index_layer_law.specs.updater_row_law.specs.Turnings.{Turning}
 use Rattle.updater.specs.declared.terms.Terms.{Terms}
 use Rattle.updater.specs.declared.terms.Tally.{Tally}
 use Rattle.updater.specs.declared.work.Work.{Work}

@@ -1,5 +1,6 @@
 -- With nothing in flight a party takes the updater lock, and is in its turn then.
-use Rattle.std.proofs.Common.{◌≡◌, ℕ, ◌==◌, ◌^◌, ◌<◌, ◌≤◌, false, cond, List, [], slice_set, inl, refl, sym, subst, ap, ◌∙◌, arith}
+use Rattle.std.proofs.Common.{◌≡◌, ℕ, ◌==◌, ◌^◌, ◌<◌, ◌≤◌, false, cond, List, [], slice_set, inl, refl, sym, subst}
+use Rattle.std.proofs.Common.{ap, ◌∙◌, arith}
 use Rattle.std.specs.Prelude.{None}
 use Rattle.std.proofs.lemmas.List.{set-set}
 use mathlib.Core.Option.{some}
@@ -12,10 +13,10 @@ use Rattle.call_stages.specs.Watches.{Nothing}
 use Rattle.index_law.specs.Worlds.{World}
 use Rattle.index_law.proofs.Parties.{set_here, set_else}
 use Rattle.updater_law.specs.Facts.{TurnFacts}
-use Rattle.updater_row_law.specs.Columns.{RowTerms, Ghosts}
-use Rattle.updater_row_law.specs.RowStages.{Resting, Between}
-use Rattle.updater_row_law.specs.Turnings.{Turning, TurnFoot}
-use Rattle.updater_row_law.proofs.RowStores.{lock_stored}
+use Rattle.index_layer_law.specs.updater_row_law.specs.Columns.{RowTerms, Ghosts}
+use Rattle.index_layer_law.specs.updater_row_law.specs.RowStages.{Resting, Between}
+use Rattle.index_layer_law.specs.updater_row_law.specs.Turnings.{Turning, TurnFoot}
+use Rattle.index_layer_law.specs.updater_row_law.proofs.RowStores.{lock_stored}
 use Rattle.updater.specs.Takings.{taking_from, taking_asks, took_of}
 use Rattle.updater.specs.Works.{IsWork, work_from}
 use Rattle.updater.specs.Steps.{row_terms}

@@ -1,5 +1,6 @@
 -- What a lone call leaves of the log lines and of the search layer, step by step.
-use Rattle.std.proofs.Common.{◌≡◌, ◌≢◌, ℕ, ◌<◌, ◌⊎◌, inl, inr, ⊎_elim, Bool, true, false, List, [], ◌∷◌, ◌++◌, length, refl, sym, ap, ◌∙◌, subst, arith, slice_set}
+use Rattle.std.proofs.Common.{◌≡◌, ◌≢◌, ℕ, ◌<◌, ◌⊎◌, inl, inr, ⊎_elim, Bool, true, false, List, [], ◌∷◌, ◌++◌, length}
+use Rattle.std.proofs.Common.{refl, sym, ap, ◌∙◌, subst, arith, slice_set}
 use Rattle.std.specs.Prelude.{Option, Some, None, IfSome}
 use Rattle.std.proofs.lemmas.Bool.{cases_eq}
 use Rattle.std.proofs.lemmas.List.{set-get_or, length-append}
@@ -19,8 +20,10 @@ use Rattle.call_stages.specs.declared.once.Once.TheVariants as once
 use Rattle.call_stages.specs.declared.once.Placed.{Placed}
 use Rattle.call_stages.specs.Stages.{Grip, Stage, Idle, Tells, counted, placed_in}
 use Rattle.call_stages.specs.Kinds.{Step}
-use Rattle.call_stages.specs.Lines.{HeldLine, line_address, Marks, fills, opens, readies, Notes, passes_line, takes, looks_up, notes, keeps_safe}
-use Rattle.call_stages.specs.Footings.{Footing, IsOpenOf, Minds, HasLine, IsKnownEmpty, IsLeftToTurn, KeepsOrLetsGo, Waits, FootStep}
+use Rattle.call_stages.specs.Lines.{HeldLine, line_address, Marks, fills, opens, readies, Notes, passes_line, takes}
+use Rattle.call_stages.specs.Lines.{looks_up, notes, keeps_safe}
+use Rattle.call_stages.specs.Footings.{Footing, IsOpenOf, Minds, HasLine, IsKnownEmpty, IsLeftToTurn, KeepsOrLetsGo}
+use Rattle.call_stages.specs.Footings.{Waits, FootStep}
 use Rattle.call_stages.specs.Footings as foot
 use Rattle.call_stages.specs.Prevs.{Prevs, IsSwitch, IsJoin}
 use Rattle.index_law.specs.Lines.{line_in, SureLine}
@@ -30,11 +33,11 @@ use Rattle.index_law.proofs.Loose.{out_unmerged, out_unplaced}
 use Rattle.index_law.proofs.MergedOnce.{step_merges_once}
 use Rattle.index_law.proofs.Noting.{line-here}
 use Rattle.index_law.proofs.Own.{allow_law, sure_within}
-use Rattle.search_layer.specs.Rows.{LayerWords}
-use Rattle.search_layer.specs.Kept.{layer_of, kept}
+use Rattle.index_layer_law.specs.search_layer.specs.Rows.{LayerWords}
+use Rattle.index_layer_law.specs.search_layer.specs.Kept.{layer_of, kept}
 use Rattle.updater_law.specs.Covers.{Lines, set_at}
 use Rattle.updater_law.proofs.Columns.{here, other}
-use Rattle.updater_row_law.specs.Columns.{line_field}
+use Rattle.index_layer_law.specs.updater_row_law.specs.Columns.{line_field}
 use Rattle.index_layer_law.specs.Turnings.{line_number}
 use Rattle.index_layer_law.specs.Layers.{Layered, IsLayered}
 use Rattle.index_layer_law.proofs.FactTies.{Rest, rest_in, node_rest}
@@ -45,7 +48,8 @@ use Rattle.index_layer_law.proofs.CallNotes.{stored, field_else, state_lines}
 use Rattle.lone_call_law.specs.Merging.{HasKeptList}
 use Rattle.lone_call_law.specs.Tries.{Trying, HasShape, is_same, was_cut, was_joined, Says, is_cut}
 use Rattle.lone_call_law.proofs.Cuts.{cut_unmerged}
-use Rattle.lone_updater_law.specs.CallLogs.{KeepsLayer, KeepsLines, MakesReady, HasSwitched, HasNotSwitched, IsOwnLine, StandsSo, LeavesLines, IsInStep, LogGoes, LogEnds}
+use Rattle.lone_updater_law.specs.CallLogs.{KeepsLayer, KeepsLines, MakesReady, HasSwitched, HasNotSwitched}
+use Rattle.lone_updater_law.specs.CallLogs.{IsOwnLine, StandsSo, LeavesLines, IsInStep, LogGoes, LogEnds}
 use Rattle.lone_updater_law.specs.LoneTurns.{line_state}
 use Rattle.lone_updater_law.proofs.Switching.{cut_moves, Told, answer_told}
 

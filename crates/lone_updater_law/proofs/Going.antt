@@ -29,10 +29,10 @@ use Rattle.lone_call_law.specs.There.{nodes_in}
 use Rattle.pm_alloc.specs.declared.gone.ReleaseAt.{ReleaseAt}
 use Rattle.pm_alloc.specs.declared.gone.ReleaseAt.TheVariants as release_at
 use Rattle.smo_log.specs.declared.line.Entry.{Entry}
-use Rattle.updater_row_law.specs.Columns.{line_count, line_word, node_field}
-use Rattle.updater_row_law.specs.RowStages.{Resting}
-use Rattle.updater_row_law.specs.Turnings.{Turning, TurnFoot}
-use Rattle.updater_row_law.proofs.RowColumns.{column-here}
+use Rattle.index_layer_law.specs.updater_row_law.specs.Columns.{line_count, line_word, node_field}
+use Rattle.index_layer_law.specs.updater_row_law.specs.RowStages.{Resting}
+use Rattle.index_layer_law.specs.updater_row_law.specs.Turnings.{Turning, TurnFoot}
+use Rattle.index_layer_law.specs.updater_row_law.proofs.RowColumns.{column-here}
 use Rattle.updater.specs.declared.terms.Terms.{Terms}
 use Rattle.updater.specs.declared.terms.Tally.{Tally}
 use Rattle.updater.specs.declared.terms.Turned.{Turned}
@@ -57,7 +57,8 @@ use Rattle.lone_updater_law.specs.Laws.{terms_in, WalkStands, heard_from, LoneTu
 use Rattle.lone_updater_law.proofs.Hearing.{IsSo, GoesOrFinds, HearsAfter, hears_after}
 use Rattle.lone_updater_law.proofs.MarkSteps.{Handles, done_after}
 use Rattle.lone_updater_law.proofs.Acting.{turns_act}
-use Rattle.lone_updater_law.proofs.TurnSteps.{marks_tie, past_lines, each_state, none_held, walks_are_quiet, can_act, layered_after, lawful_row, nodes_kept, law_after}
+use Rattle.lone_updater_law.proofs.TurnSteps.{marks_tie, past_lines, each_state, none_held, walks_are_quiet, can_act}
+use Rattle.lone_updater_law.proofs.TurnSteps.{layered_after, lawful_row, nodes_kept, law_after}
 use Rattle.lone_updater_law.proofs.WalkStays.{GoesAfter, walk_goes, walk_after}
 
 -- What it knows at each state.

@@ -1,5 +1,6 @@
 -- What a turn that is alone is told, and so what it answers.
-use Rattle.std.proofs.Common.{◌≡◌, ◌≢◌, ℕ, zero, suc, ◌<◌, ◌==◌, ◌&&◌, ◌↔◌, not, Bool, true, false, refl, sym, subst, ap, ◌∙◌}
+use Rattle.std.proofs.Common.{◌≡◌, ◌≢◌, ℕ, zero, suc, ◌<◌, ◌==◌, ◌&&◌, ◌↔◌, not, Bool, true, false, refl, sym, subst}
+use Rattle.std.proofs.Common.{ap, ◌∙◌}
 use Rattle.std.specs.Prelude.{nat_le}
 use Rattle.std.proofs.lemmas.Bool.{eq-eqb, ne_eqb, and_right}
 use Rattle.pm_words.specs.Codes.{free_status}
@@ -16,7 +17,7 @@ use Rattle.smo_log.specs.declared.line.Entry.{Entry}
 use Rattle.smo_log.specs.declared.read.LineSeen.{LineSeen}
 use Rattle.smo_log.specs.declared.read.ReadLine.{ReadLine}
 use Rattle.smo_log.specs.Reads.{read_turned}
-use Rattle.updater_row_law.specs.Columns.{line_count}
+use Rattle.index_layer_law.specs.updater_row_law.specs.Columns.{line_count}
 use Rattle.updater.specs.declared.terms.Terms.{Terms}
 use Rattle.updater.specs.declared.terms.Tally.{Tally}
 use Rattle.updater.specs.declared.terms.Turned.{Turned}

@@ -17,34 +17,35 @@ use Rattle.smo_log.specs.declared.state.ReadyAt.TheVariants as ready_at
 use Rattle.smo_log.specs.Opens.{open_at_held}
 use Rattle.smo_log.specs.States.{ready_at_held}
 use Rattle.smo_log.specs.Takes.{take_at_held}
-use Rattle.split_merge.specs.declared.joining.JoinAt.{JoinAt}
-use Rattle.split_merge.specs.declared.joining.JoinAt.TheVariants as join_at
-use Rattle.split_merge.specs.declared.merging.Merge.{Merge}
-use Rattle.split_merge.specs.declared.merging.MergeAt.{MergeAt}
-use Rattle.split_merge.specs.declared.merging.MergeAt.TheVariants as merge_at
-use Rattle.split_merge.specs.declared.moving.MoveAt.{MoveAt}
-use Rattle.split_merge.specs.declared.moving.MoveAt.TheVariants as move_at
-use Rattle.split_merge.specs.declared.planning.Plan.{Plan}
-use Rattle.split_merge.specs.declared.splitting.Split.{Split}
-use Rattle.split_merge.specs.declared.splitting.SplitAt.{SplitAt}
-use Rattle.split_merge.specs.declared.splitting.SplitAt.TheVariants as split_at
-use Rattle.split_merge.specs.declared.uniting.Union.{Union}
-use Rattle.split_merge.specs.Plans as plans
-use Rattle.split_merge.specs.Unions as unions
-use Rattle.split_merge.specs.JoinStages.{join_at_stage, join_at_line}
-use Rattle.split_merge.specs.MergeStages.{merge_at_footing}
-use Rattle.split_merge.specs.MoveStages.{Known, move_at_stage, move_at_line}
-use Rattle.split_merge.specs.SplitStages.{split_at_footing}
-use Rattle.node_ops.specs.declared.del.Del.{Del}
-use Rattle.node_ops.specs.declared.del.Del.TheVariants as del
-use Rattle.node_ops.specs.declared.finish.Finish.{Finish}
-use Rattle.node_ops.specs.declared.finish.FinishAt.{FinishAt}
-use Rattle.node_ops.specs.declared.finish.FinishAt.TheVariants as finish_at
-use Rattle.node_ops.specs.declared.put.Put.{Put}
-use Rattle.node_ops.specs.declared.put.Put.TheVariants as put
-use Rattle.node_ops.specs.declared.running.Running.TheVariants.{Getting, Putting, Deleting, Parting}
-use Rattle.node_ops.specs.declared.single_del.SingleDel.TheVariants as single_del
-use Rattle.node_ops.specs.CallStages.{put_footing, del_footing, line_taken, found_full, finish_stage, finish_at_held, has_place}
+use Rattle.lone_call_law.specs.split_merge.specs.declared.joining.JoinAt.{JoinAt}
+use Rattle.lone_call_law.specs.split_merge.specs.declared.joining.JoinAt.TheVariants as join_at
+use Rattle.lone_call_law.specs.split_merge.specs.declared.merging.Merge.{Merge}
+use Rattle.lone_call_law.specs.split_merge.specs.declared.merging.MergeAt.{MergeAt}
+use Rattle.lone_call_law.specs.split_merge.specs.declared.merging.MergeAt.TheVariants as merge_at
+use Rattle.lone_call_law.specs.split_merge.specs.declared.moving.MoveAt.{MoveAt}
+use Rattle.lone_call_law.specs.split_merge.specs.declared.moving.MoveAt.TheVariants as move_at
+use Rattle.lone_call_law.specs.split_merge.specs.declared.planning.Plan.{Plan}
+use Rattle.lone_call_law.specs.split_merge.specs.declared.splitting.Split.{Split}
+use Rattle.lone_call_law.specs.split_merge.specs.declared.splitting.SplitAt.{SplitAt}
+use Rattle.lone_call_law.specs.split_merge.specs.declared.splitting.SplitAt.TheVariants as split_at
+use Rattle.lone_call_law.specs.split_merge.specs.declared.uniting.Union.{Union}
+use Rattle.lone_call_law.specs.split_merge.specs.Plans as plans
+use Rattle.lone_call_law.specs.split_merge.specs.Unions as unions
+use Rattle.lone_call_law.specs.split_merge.specs.JoinStages.{join_at_stage, join_at_line}
+use Rattle.lone_call_law.specs.split_merge.specs.MergeStages.{merge_at_footing}
+use Rattle.lone_call_law.specs.split_merge.specs.MoveStages.{Known, move_at_stage, move_at_line}
+use Rattle.lone_call_law.specs.split_merge.specs.SplitStages.{split_at_footing}
+use Rattle.lone_call_law.specs.node_ops.specs.declared.del.Del.{Del}
+use Rattle.lone_call_law.specs.node_ops.specs.declared.del.Del.TheVariants as del
+use Rattle.lone_call_law.specs.node_ops.specs.declared.finish.Finish.{Finish}
+use Rattle.lone_call_law.specs.node_ops.specs.declared.finish.FinishAt.{FinishAt}
+use Rattle.lone_call_law.specs.node_ops.specs.declared.finish.FinishAt.TheVariants as finish_at
+use Rattle.lone_call_law.specs.node_ops.specs.declared.put.Put.{Put}
+use Rattle.lone_call_law.specs.node_ops.specs.declared.put.Put.TheVariants as put
+use Rattle.lone_call_law.specs.node_ops.specs.declared.running.Running.TheVariants.{Getting, Putting, Deleting, Parting}
+use Rattle.lone_call_law.specs.node_ops.specs.declared.single_del.SingleDel.TheVariants as single_del
+use Rattle.lone_call_law.specs.node_ops.specs.CallStages.{put_footing, del_footing, line_taken, found_full}
+use Rattle.lone_call_law.specs.node_ops.specs.CallStages.{finish_stage, finish_at_held, has_place}
 use Rattle.lone_updater_law.specs.CallLogs.{HasSwitched, HasNotSwitched, IsInStep, CallsAreInStep}
 
 -- a line that is EMPTY, or may be, at a stage before the switch

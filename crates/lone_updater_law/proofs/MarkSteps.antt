@@ -1,5 +1,6 @@
 -- What a step of a turn that is alone leaves done.
-use Rattle.std.proofs.Common.{◌≡◌, ◌≢◌, ℕ, suc, ◌+◌, ◌<◌, ◌≤◌, ◌⊎◌, ◌==◌, ◌&&◌, not, Bool, true, false, cond, List, inl, inr, refl, sym, subst, ap, ◌∙◌, arith}
+use Rattle.std.proofs.Common.{◌≡◌, ◌≢◌, ℕ, suc, ◌+◌, ◌<◌, ◌≤◌, ◌⊎◌, ◌==◌, ◌&&◌, not, Bool, true, false, cond, List}
+use Rattle.std.proofs.Common.{inl, inr, refl, sym, subst, ap, ◌∙◌, arith}
 use Rattle.std.specs.Prelude.{nat_lt, nat_le}
 use Rattle.std.proofs.lemmas.Bool.{cases_eq, cases_lt, eq-eqb, ne_eqb, le-leb, lt-leb, ltb-false}
 use Rattle.std.proofs.lemmas.List.{set-get_or}
@@ -12,19 +13,29 @@ use Rattle.pm_words.specs.Rows.{IsRow, acted, got}
 use Rattle.pm_words.specs.Offsets.{stamp_offset, status_offset, version_offset}
 use Rattle.version_lock.specs.Versions.{is_worn_word}
 use Rattle.index_law.specs.Worlds.{World, facts}
-use Rattle.search_layer.specs.ChangeStages.{Changing, Changed, ChangeStep}
+use Rattle.index_layer_law.specs.search_layer.specs.ChangeStages.{Changing, Changed, ChangeStep}
 use Rattle.updater_law.specs.Covers.{set_at}
 use Rattle.updater_law.specs.Facts.{TurnTerms, TurnFacts}
 use Rattle.updater_law.specs.Lawful.{TurnLawful}
 use Rattle.updater_law.specs.TurnStages as turns
 use Rattle.updater_law.proofs.Columns.{here, other}
-use Rattle.updater_row_law.specs.Columns.{RowTerms, Ghosts, line_count, line_word, line_field, node_field, volatile_field, terms_of, facts_in}
-use Rattle.updater_row_law.specs.RowStages.{RowLine, aim_of, RowStage, Resting, Between, Lands, HasTarget, Changes, Stamps, Clears, Sweeps, Counts, after_line, after_node, turn_stage}
-use Rattle.updater_row_law.specs.RowSteps.{line_at, volatile_at, version_at, RowStep, takes_lock, finds_held, passes, sees, reads, has_read, walks, is_turned_back, finds, loses, decides, changes, has_changed, stamps, empties, passes_node, sees_gone, passes_stamp, sees_stamp, passes_worn, sees_unworn, unstamps, frees, counts, leaves_lock}
-use Rattle.updater_row_law.specs.RowLaw.{RowLawful}
-use Rattle.updater_row_law.proofs.RowChanges.{change_kept}
-use Rattle.updater_row_law.proofs.RowColumns.{column-here}
-use Rattle.updater_row_law.proofs.RowStores.{lock_stored, stamp_stored, status_stored, line_emptied, layer_facts}
+use Rattle.index_layer_law.specs.updater_row_law.specs.Columns.{RowTerms, Ghosts, line_count, line_word, line_field}
+use Rattle.index_layer_law.specs.updater_row_law.specs.Columns.{node_field, volatile_field, terms_of, facts_in}
+use Rattle.index_layer_law.specs.updater_row_law.specs.RowStages.{RowLine, aim_of, RowStage, Resting, Between, Lands}
+use Rattle.index_layer_law.specs.updater_row_law.specs.RowStages.{HasTarget, Changes, Stamps, Clears, Sweeps, Counts}
+use Rattle.index_layer_law.specs.updater_row_law.specs.RowStages.{after_line, after_node, turn_stage}
+use Rattle.index_layer_law.specs.updater_row_law.specs.RowSteps.{line_at, volatile_at, version_at, RowStep}
+use Rattle.index_layer_law.specs.updater_row_law.specs.RowSteps.{takes_lock, finds_held, passes, sees, reads}
+use Rattle.index_layer_law.specs.updater_row_law.specs.RowSteps.{has_read, walks, is_turned_back, finds, loses}
+use Rattle.index_layer_law.specs.updater_row_law.specs.RowSteps.{decides, changes, has_changed, stamps, empties}
+use Rattle.index_layer_law.specs.updater_row_law.specs.RowSteps.{passes_node, sees_gone, passes_stamp, sees_stamp}
+use Rattle.index_layer_law.specs.updater_row_law.specs.RowSteps.{passes_worn, sees_unworn, unstamps, frees, counts}
+use Rattle.index_layer_law.specs.updater_row_law.specs.RowSteps.{leaves_lock}
+use Rattle.index_layer_law.specs.updater_row_law.specs.RowLaw.{RowLawful}
+use Rattle.index_layer_law.specs.updater_row_law.proofs.RowChanges.{change_kept}
+use Rattle.index_layer_law.specs.updater_row_law.proofs.RowColumns.{column-here}
+use Rattle.index_layer_law.specs.updater_row_law.proofs.RowStores.{lock_stored, stamp_stored, status_stored}
+use Rattle.index_layer_law.specs.updater_row_law.proofs.RowStores.{line_emptied, layer_facts}
 use Rattle.lone_updater_law.specs.LoneTurns.{line_state, stamp_in, stamp_then, frees_node}
 use Rattle.lone_updater_law.specs.Marks.{Marks, HasEmptied, IsSwept, HasSwept, HasUnstamped, HasDone}
 

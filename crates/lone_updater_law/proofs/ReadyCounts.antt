@@ -1,10 +1,11 @@
 -- How many log lines are READY and EMPTY, where one is made READY.
-use Rattle.std.proofs.Common.{◌≡◌, ◌≢◌, ℕ, zero, suc, ◌+◌, ◌*◌, ◌%◌, ◌<◌, ◌==◌, ⊎_elim, Bool, true, false, cond, refl, sym, ap, ◌∙◌, arith}
+use Rattle.std.proofs.Common.{◌≡◌, ◌≢◌, ℕ, zero, suc, ◌+◌, ◌*◌, ◌%◌, ◌<◌, ◌==◌, ⊎_elim, Bool, true, false, cond, refl}
+use Rattle.std.proofs.Common.{sym, ap, ◌∙◌, arith}
 use Rattle.std.proofs.lemmas.Bool.{cases_eq, eq-eqb, ne_eqb}
 use Rattle.pm_words.specs.Codes.{empty_state, ready_state}
 use Rattle.pm_words.specs.declared.layout.Layout.{Layout}
 use Rattle.updater_law.proofs.Columns.{here, other}
-use Rattle.updater_row_law.specs.Columns.{line_count}
+use Rattle.index_layer_law.specs.updater_row_law.specs.Columns.{line_count}
 use Rattle.updater.specs.Events.{how_many}
 use Rattle.lone_updater_law.specs.CallLogs.{EmptyAreCounted, ReadyAreCounted, is_own_empty}
 use Rattle.lone_updater_law.specs.LoneTurns.{line_state, is_ready}

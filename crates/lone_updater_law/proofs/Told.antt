@@ -1,5 +1,6 @@
 -- What the actions of a turn give in an index: it may be told that, and of a READY line a node and an anchor.
-use Rattle.std.proofs.Common.{◌≡◌, ◌≢◌, ℕ, ◌/◌, ◌%◌, ◌<◌, ◌≤◌, List, [], ◌∷◌, slice_index, inl, inr, refl, sym, subst, ap, ◌∙◌, arith, true, false}
+use Rattle.std.proofs.Common.{◌≡◌, ◌≢◌, ℕ, ◌/◌, ◌%◌, ◌<◌, ◌≤◌, List, [], ◌∷◌, slice_index, inl, inr, refl, sym, subst}
+use Rattle.std.proofs.Common.{ap, ◌∙◌, arith, true, false}
 use Rattle.std.proofs.lemmas.Bool.{cases_eq}
 use Rattle.std.proofs.lemmas.List.Elements.{All-head}
 use Rattle.pm_words.specs.declared.layout.Layout.{Layout}
@@ -29,16 +30,16 @@ use Rattle.pm_alloc.specs.declared.gone.ReleaseAt.{ReleaseAt}
 use Rattle.pm_alloc.specs.declared.gone.ReleaseAt.TheVariants as release_at
 use Rattle.pm_alloc.specs.Gone.{release_at_asks}
 use Rattle.tree_floor.specs.Floors.{floor_asks}
-use Rattle.tree_update.specs.Changes.{change_asks}
-use Rattle.search_layer.specs.Floors.{LoadsLayer}
-use Rattle.search_layer.specs.Laws.{IsOnLayer}
-use Rattle.search_layer.specs.Laws as on
-use Rattle.search_layer.proofs.FloorLemmas.{only_loads as floor_only_loads}
-use Rattle.search_layer.proofs.OnLayer.{changes_stay_on_layer}
+use Rattle.index_layer_law.specs.tree_update.specs.Changes.{change_asks}
+use Rattle.index_layer_law.specs.search_layer.specs.Floors.{LoadsLayer}
+use Rattle.index_layer_law.specs.search_layer.specs.Laws.{IsOnLayer}
+use Rattle.index_layer_law.specs.search_layer.specs.Laws as on
+use Rattle.index_layer_law.specs.search_layer.proofs.FloorLemmas.{only_loads as floor_only_loads}
+use Rattle.index_layer_law.specs.search_layer.proofs.OnLayer.{changes_stay_on_layer}
 use Rattle.smo_log.specs.declared.read.ReadLine.{ReadLine}
 use Rattle.smo_log.specs.LogLines.{numbered_address, caller_of, index_of}
-use Rattle.updater_row_law.specs.Columns.{line_count, line_word, line_field}
-use Rattle.updater_row_law.proofs.RowColumns.{column-here}
+use Rattle.index_layer_law.specs.updater_row_law.specs.Columns.{line_count, line_word, line_field}
+use Rattle.index_layer_law.specs.updater_row_law.proofs.RowColumns.{column-here}
 use Rattle.updater.specs.declared.terms.Terms.{Terms}
 use Rattle.updater.specs.declared.terms.Tally.{Tally}
 use Rattle.updater.specs.declared.work.WorkAt.{WorkAt}

@@ -1,5 +1,6 @@
 -- A step of a turn with no call in flight: it keeps the index with its search layer, and the words of the nodes.
-use Rattle.std.proofs.Common.{◌≡◌, ℕ, ◌^◌, ◌<◌, ◌≤◌, ◌⊎◌, not, Bool, true, false, cond, List, inl, inr, refl, sym, subst, ap, ◌∙◌, arith}
+use Rattle.std.proofs.Common.{◌≡◌, ℕ, ◌^◌, ◌<◌, ◌≤◌, ◌⊎◌, not, Bool, true, false, cond, List, inl, inr, refl, sym}
+use Rattle.std.proofs.Common.{subst, ap, ◌∙◌, arith}
 use Rattle.std.specs.Prelude.{nat_lt}
 use Rattle.std.proofs.lemmas.Bool.{cases_lt, ltb-true, le-ltb}
 use mathlib.Core.Option.{some}
@@ -24,11 +25,12 @@ use Rattle.lone_call_law.specs.There.{nodes_in}
 use Rattle.lone_call_law.proofs.There.{idle_is_quiet}
 use Rattle.updater_law.specs.Facts.{TurnFacts}
 use Rattle.updater_law.specs.Lawful.{TurnLawful}
-use Rattle.updater_row_law.specs.Columns.{RowTerms, Ghosts, line_count, line_word, line_field, node_field, facts_in}
-use Rattle.updater_row_law.specs.Columns as rows
-use Rattle.updater_row_law.specs.RowStages.{Resting, turn_stage}
-use Rattle.updater_row_law.specs.RowLaw.{RowLawful}
-use Rattle.updater_row_law.specs.Turnings.{Turning, TurnFoot}
+use Rattle.index_layer_law.specs.updater_row_law.specs.Columns.{RowTerms, Ghosts, line_count, line_word, line_field}
+use Rattle.index_layer_law.specs.updater_row_law.specs.Columns.{node_field, facts_in}
+use Rattle.index_layer_law.specs.updater_row_law.specs.Columns as rows
+use Rattle.index_layer_law.specs.updater_row_law.specs.RowStages.{Resting, turn_stage}
+use Rattle.index_layer_law.specs.updater_row_law.specs.RowLaw.{RowLawful}
+use Rattle.index_layer_law.specs.updater_row_law.specs.Turnings.{Turning, TurnFoot}
 use Rattle.index_layer_law.specs.Turnings.{terms_of, AreRestingBut, ghosts_of}
 use Rattle.index_layer_law.specs.Layers.{Layered, IsLayered}
 use Rattle.index_layer_law.specs.Laws.{turned}

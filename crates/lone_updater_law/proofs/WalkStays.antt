@@ -1,5 +1,6 @@
 -- The walk of a turn that is alone stays on its way, and no line is left.
-use Rattle.std.proofs.Common.{◌≡◌, ℕ, ◌+◌, ◌<◌, ◌==◌, ◌&&◌, not, Bool, true, false, cond, List, refl, sym, subst, ap, ◌∙◌}
+use Rattle.std.proofs.Common.{◌≡◌, ℕ, ◌+◌, ◌<◌, ◌==◌, ◌&&◌, not, Bool, true, false, cond, List, refl, sym, subst, ap}
+use Rattle.std.proofs.Common.{◌∙◌}
 use Rattle.std.proofs.lemmas.Bool.{eq-eqb}
 use Rattle.std.proofs.lemmas.List.{set-get_or}
 use Rattle.pm_words.specs.Codes.{free_status}
@@ -21,16 +22,16 @@ use Rattle.pm_alloc.specs.declared.gone.ReleaseAt.{ReleaseAt}
 use Rattle.pm_alloc.specs.declared.gone.ReleaseAt.TheVariants as release_at
 use Rattle.pm_alloc.specs.Gone.{release_from, release_at_turned}
 use Rattle.tree_floor.specs.declared.floor.Floor.{Floor}
-use Rattle.tree_update.specs.declared.set.Set.{Set}
-use Rattle.tree_update.specs.declared.set.Unset.{Unset}
-use Rattle.tree_update.specs.declared.change.Ended.{Ended}
+use Rattle.index_layer_law.specs.tree_update.specs.declared.set.Set.{Set}
+use Rattle.index_layer_law.specs.tree_update.specs.declared.set.Unset.{Unset}
+use Rattle.index_layer_law.specs.tree_update.specs.declared.change.Ended.{Ended}
 use Rattle.tree_floor.specs.Floors.{floor_turned}
-use Rattle.tree_update.specs.Sets.{set_starts, set_turned, unset_starts, unset_turned}
+use Rattle.index_layer_law.specs.tree_update.specs.Sets.{set_starts, set_turned, unset_starts, unset_turned}
 use Rattle.smo_log.specs.declared.line.Entry.{Entry}
 use Rattle.smo_log.specs.declared.read.LineSeen.{LineSeen}
 use Rattle.smo_log.specs.declared.read.ReadLine.{ReadLine}
 use Rattle.smo_log.specs.Reads.{read_turned}
-use Rattle.updater_row_law.specs.RowStages.{RowStage, Lands, HasTarget}
+use Rattle.index_layer_law.specs.updater_row_law.specs.RowStages.{RowStage, Lands, HasTarget}
 use Rattle.updater.specs.declared.terms.Terms.{Terms}
 use Rattle.updater.specs.declared.terms.Turned.{Turned}
 use Rattle.updater.specs.declared.terms.Found.{Found}
@@ -38,7 +39,9 @@ use Rattle.updater.specs.declared.work.Work.{Work}
 use Rattle.updater.specs.declared.work.WorkAt.{WorkAt}
 use Rattle.updater.specs.declared.work.WorkAt.TheVariants as at
 use Rattle.updater.specs.Laws.{WorkStays}
-use Rattle.updater.specs.Works.{work_at_asks, after_line, reads_fields, changes, clears, changed, after_node, on, leaves, saw_again, has_read, has_landed, has_walked, has_set, has_unset, has_released, work_at_turned, IsWalkTo, IsTerms, IsWorkAt}
+use Rattle.updater.specs.Works.{work_at_asks, after_line, reads_fields, changes, clears, changed, after_node, on}
+use Rattle.updater.specs.Works.{leaves, saw_again, has_read, has_landed, has_walked, has_set, has_unset, has_released}
+use Rattle.updater.specs.Works.{work_at_turned, IsWalkTo, IsTerms, IsWorkAt}
 use Rattle.updater.specs.Steps.{line_of, target_of, release_stage, work_at_stage, stage_after}
 use Rattle.lone_call_law.specs.There.{nodes_in}
 use Rattle.lone_call_law.proofs.There.{told_loaded, walk_loads}

@@ -15,14 +15,14 @@ use Rattle.pm_words.specs.Rows.{got}
 use Rattle.pm_words.specs.declared.action.Action.{Action}
 use mathlib.Core.Option.{some}
 use lib.ListN.{get_elem?}
-use Rattle.node_ops.specs.CallStages.{footing_of}
-use Rattle.node_ops.specs.declared.running.Running.{Running}
+use Rattle.lone_call_law.specs.node_ops.specs.CallStages.{footing_of}
+use Rattle.lone_call_law.specs.node_ops.specs.declared.running.Running.{Running}
 use Rattle.index_layer_law.specs.Layers.{Layered, IsLayered}
 use Rattle.index_law.specs.LoneShapes.{has_merged}
 use Rattle.index_law.specs.Worlds.{Party, World, stepped, moved_on}
-use Rattle.search_layer.specs.Kept.{layer_of}
+use Rattle.index_layer_law.specs.search_layer.specs.Kept.{layer_of}
 use Rattle.updater_law.specs.Covers.{set_at}
-use Rattle.updater_row_law.specs.Columns.{line_count}
+use Rattle.index_layer_law.specs.updater_row_law.specs.Columns.{line_count}
 use Rattle.index_layer_law.specs.Turnings.{line_number}
 use Rattle.lone_call_law.specs.Merging.{HasKeptList, IsMergedSince}
 use Rattle.lone_call_law.specs.Tries.{Trying, Says, is_cut}

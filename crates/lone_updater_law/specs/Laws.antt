@@ -13,8 +13,8 @@ use Rattle.data_list.specs.Still.{IsOnWay}
 use Rattle.index_law.specs.Facts.{version_in}
 use Rattle.index_law.specs.Worlds.{World, facts}
 use Rattle.smo_log.specs.declared.line.Entry.{Entry}
-use Rattle.updater_row_law.specs.RowStages.{Between}
-use Rattle.updater_row_law.specs.Turnings.{Turning}
+use Rattle.index_layer_law.specs.updater_row_law.specs.RowStages.{Between}
+use Rattle.index_layer_law.specs.updater_row_law.specs.Turnings.{Turning}
 use Rattle.updater.specs.declared.taking.Took.TheVariants.{Taken}
 use Rattle.updater.specs.declared.terms.Terms.{Terms}
 use Rattle.updater.specs.declared.terms.Turned.{Turned}

@@ -10,10 +10,10 @@ use Rattle.call_stages.specs.Stages.{Idle}
 use Rattle.index_law.specs.Facts.{IsListed}
 use Rattle.index_law.specs.Worlds.{World, facts}
 use Rattle.index_law.specs.Lawful.{Each}
-use Rattle.search_layer.specs.Kept.{layer_of}
+use Rattle.index_layer_law.specs.search_layer.specs.Kept.{layer_of}
 use Rattle.updater_law.specs.Covered.{IsCovered}
-use Rattle.updater_row_law.specs.Columns.{line_count, line_field, volatile_field}
-use Rattle.updater_row_law.specs.Turnings.{Turning}
+use Rattle.index_layer_law.specs.updater_row_law.specs.Columns.{line_count, line_field, volatile_field}
+use Rattle.index_layer_law.specs.updater_row_law.specs.Turnings.{Turning}
 use Rattle.updater.specs.declared.terms.Turned.{Turned}
 use Rattle.updater.specs.Events.{how_many}
 use Rattle.index_layer_law.specs.Layers.{Layered, IsLayered}

@@ -2,9 +2,10 @@
 use Rattle.std.specs.Prelude.{◌≡◌, ℕ, ◌<◌, ◌≤◌, ◌⊎◌, true}
 use Rattle.pm_words.specs.Codes.{gone_status, empty_state}
 use Rattle.index_law.specs.Worlds.{World, facts}
-use Rattle.updater_row_law.specs.RowStages.{RowStage, Resting, Between, Reads, Lands, HasTarget, Changes, Stamps}
-use Rattle.updater_row_law.specs.RowStages.{Clears}
-use Rattle.updater_row_law.specs.RowStages.{Sweeps, Gone, HasStamp, IsUnworn, Frees, Counts}
+use Rattle.index_layer_law.specs.updater_row_law.specs.RowStages.{RowStage, Resting, Between, Reads, Lands, HasTarget}
+use Rattle.index_layer_law.specs.updater_row_law.specs.RowStages.{Changes, Stamps}
+use Rattle.index_layer_law.specs.updater_row_law.specs.RowStages.{Clears}
+use Rattle.index_layer_law.specs.updater_row_law.specs.RowStages.{Sweeps, Gone, HasStamp, IsUnworn, Frees, Counts}
 use Rattle.lone_updater_law.specs.LoneTurns.{line_state, stamp_in, stamp_then, frees_node, status_then}
 
 -- The states of the log lines, and the statuses and the stamps of the nodes.

@@ -20,3 +20,7 @@ pub mod Costs
 pub mod Laws
 pub mod Bursts
 pub mod Looking
+-- crates below, for those above that name them through this one
+pub use Rattle.search_layer.specs.tree_update
+pub use Rattle.search_layer
+pub use Rattle.permutation_law

@@ -1,5 +1,6 @@
 -- What a crash leaves of the table's last state.
-use Rattle.std.proofs.Common.{suc, zero, ◌≡◌, ◌≢◌, ℕ, ◌+◌, ◌<◌, ◌≤◌, List, [], ◌∷◌, ◌++◌, map, length, refl, sym, ap, ◌∙◌, subst, arith}
+use Rattle.std.proofs.Common.{suc, zero, ◌≡◌, ◌≢◌, ℕ, ◌+◌, ◌<◌, ◌≤◌, List, [], ◌∷◌, ◌++◌, map, length, refl, sym, ap}
+use Rattle.std.proofs.Common.{◌∙◌, subst, arith}
 use Rattle.std.specs.Prelude.{◌*◌, ◌/◌, true, Option, None, Some, slice_get}
 use mathlib.Core.Option.{some, some-injective}
 use lib.ListN.{get_elem?}
@@ -36,11 +37,12 @@ use Rattle.node_ops.specs.CallStages.{stage_of}
 use Rattle.image_rules.specs.Rules.{header_generation}
 use Rattle.image_rules.specs.Sound.{IsMapOf}
 use Rattle.image_rules.specs.Weights.{image_weight}
-use Rattle.image_layer_rules.specs.Sound.{IsSoundByAll}
+use Rattle.index_core.specs.image_layer_rules.specs.Sound.{IsSoundByAll}
 use Rattle.pac_index.specs.declared.caller.CutCall.{CutCall}
 use Rattle.pac_index.specs.declared.crashing.Crashed.{Crashed}
 use Rattle.pac_index.specs.Callers.{HasCallers, TellsCut, added_by_all, seen_by}
-use Rattle.pac_index.specs.CrashMeetings.{CrashMeeting, IsCrashOf, change_in_flight, changes_in_flight, cut_of, one_put, put_in_flight, puts_in_flight, state_of}
+use Rattle.pac_index.specs.CrashMeetings.{CrashMeeting, IsCrashOf, change_in_flight, changes_in_flight, cut_of}
+use Rattle.pac_index.specs.CrashMeetings.{one_put, put_in_flight, puts_in_flight, state_of}
 use Rattle.pac_index.proofs.Lists.{times_there, times_two, added_only}
 
 -- the changes in flight are those that the callers tell

@@ -13,7 +13,7 @@ use Rattle.pm_words.proofs.Kept.{acted_row, outside_header}
 use Rattle.pm_words.specs.Offsets.{stamp_offset}
 use Rattle.index_law.specs.Facts.{Facts}
 use Rattle.index_law.specs.Weights.{index_weight}
-use Rattle.permutation_law.proofs.Columns.{left_stored}
+use Rattle.node_ops.specs.permutation_law.proofs.Columns.{left_stored}
 use Rattle.index_law.proofs.Noting.{beside_law}
 use Rattle.index_law.proofs.Rows.{facts-elsewhere}
 use Rattle.index_law.proofs.Twins.{nearer, store_closer}

@@ -1,5 +1,6 @@
 -- What a turn is told of the statuses of nodes, by which it answers whether it found none FREE.
-use Rattle.std.proofs.Common.{◌≡◌, ◌≢◌, ◌↔◌, ℕ, ne_eqb, ◌+◌, ◌-◌, ◌<◌, ◌==◌, Bool, true, false, cond, ltb, not, ◌&&◌, List, [], ◌∷◌, ◌++◌, length, refl, sym, ap, ◌∙◌, subst, arith, All}
+use Rattle.std.proofs.Common.{◌≡◌, ◌≢◌, ◌↔◌, ℕ, ne_eqb, ◌+◌, ◌-◌, ◌<◌, ◌==◌, Bool, true, false, cond, ltb, not, ◌&&◌}
+use Rattle.std.proofs.Common.{List, [], ◌∷◌, ◌++◌, length, refl, sym, ap, ◌∙◌, subst, arith, All}
 use Rattle.std.proofs.lemmas.Bool.{ltb-true, ltb-false}
 use Rattle.std.proofs.lemmas.List.Elements.{All-cons, All-head, All-nil, All-tail}
 use Rattle.pm_words.specs.Codes.{free_status, gone_status, ready_state, merge_kind}
@@ -15,16 +16,16 @@ use Rattle.pm_alloc.specs.declared.gone.Release.{Release}
 use Rattle.pm_alloc.specs.Gone.{release_from, release_turned}
 use Rattle.tree_floor.specs.declared.floor.Floor.{Floor}
 use Rattle.tree_floor.specs.Floors.{floor_turned}
-use Rattle.tree_update.specs.declared.change.Ended.{Ended}
-use Rattle.tree_update.specs.declared.set.Set.{Set}
-use Rattle.tree_update.specs.declared.set.Unset.{Unset}
-use Rattle.tree_update.specs.Sets.{set_starts, set_turned, unset_starts, unset_turned}
+use Rattle.node_ops.specs.tree_update.specs.declared.change.Ended.{Ended}
+use Rattle.node_ops.specs.tree_update.specs.declared.set.Set.{Set}
+use Rattle.node_ops.specs.tree_update.specs.declared.set.Unset.{Unset}
+use Rattle.node_ops.specs.tree_update.specs.Sets.{set_starts, set_turned, unset_starts, unset_turned}
 use Rattle.smo_log.specs.declared.line.Entry.{Entry}
 use Rattle.smo_log.specs.declared.read.LineSeen.{LineSeen}
 use Rattle.smo_log.specs.declared.read.ReadLine.{ReadLine}
 use Rattle.smo_log.specs.Reads.{read_turned}
-use Rattle.updater_row_law.specs.Columns.{line_count}
-use Rattle.updater_row_law.specs.RowStages.{are_same}
+use Rattle.updater.specs.updater_row_law.specs.Columns.{line_count}
+use Rattle.updater.specs.updater_row_law.specs.RowStages.{are_same}
 use Rattle.updater.specs.declared.making.MakeTurn.{MakeTurn}
 use Rattle.updater.specs.declared.making.MakeTurn.TheVariants.{Working}
 use Rattle.updater.specs.declared.making.TurnReply.{TurnReply}
@@ -36,7 +37,10 @@ use Rattle.updater.specs.declared.work.WorkAt.{WorkAt}
 use Rattle.updater.specs.declared.work.WorkAt.TheVariants as at
 use Rattle.updater.specs.Makings.{making_turned, worked}
 use Rattle.updater.specs.Takings.{untaken}
-use Rattle.updater.specs.Works.{after_line, reads_fields, saw_state, changes, clears, changed, after_node, saw_status, allows, saw_stamp, saw_version, after_count, on, leaves, emptied, walk_ended, saw_again, has_read, has_landed, has_walked, has_set, has_unset, has_released, work_at_turned, work_from}
+use Rattle.updater.specs.Works.{after_line, reads_fields, saw_state, changes, clears, changed, after_node, saw_status}
+use Rattle.updater.specs.Works.{allows, saw_stamp, saw_version, after_count, on, leaves, emptied, walk_ended}
+use Rattle.updater.specs.Works.{saw_again, has_read, has_landed, has_walked, has_set, has_unset, has_released}
+use Rattle.updater.specs.Works.{work_at_turned, work_from}
 use Rattle.pac_index.specs.declared.rule.Member.{Member}
 use Rattle.pac_index.specs.Calls.{run_of}
 use Rattle.pac_index.specs.Turns.{FoundLock, FoundStatuses, TellsOfFree, turn_in}

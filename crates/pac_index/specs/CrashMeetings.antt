@@ -17,7 +17,7 @@ use Rattle.pm_words.specs.Rows.{durable_row}
 use Rattle.image_rules.specs.Rules.{header_generation}
 use Rattle.image_rules.specs.Sound.{IsMapOf}
 use Rattle.image_rules.specs.Weights.{image_weight}
-use Rattle.image_layer_rules.specs.Sound.{IsSoundByAll}
+use Rattle.index_core.specs.image_layer_rules.specs.Sound.{IsSoundByAll}
 use Rattle.index_core.specs.CoreCalls.{op_of}
 use Rattle.index_core.specs.CrashLaws.{evicted_by}
 use Rattle.index_core.specs.Crashes.{unplaced}

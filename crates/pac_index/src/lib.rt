@@ -36,6 +36,7 @@ pub use caller::{Caller, CutCall, PlacedWrite};
 pub use crashing::Crashed;
 pub use ended::Ended;
 pub use gate::Gate;
+pub use index_core;
 pub use meeting::have_steps;
 pub use rule::{
     About, AnsweredPart, BeginsCall, ByOutcome, ChecksNode, FirstRecheckStep, FirstStep,

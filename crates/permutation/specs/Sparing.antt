@@ -4,7 +4,7 @@ use Rattle.pm_words.specs.declared.layout.Layout.{Layout}
 use Rattle.pm_words.specs.declared.action.Action.{Action}
 use Rattle.pm_words.specs.declared.action.Action.TheVariants.{Load, Store}
 use Rattle.pm_words.specs.Locations.{Word, Cached, address_of}
-use Rattle.layer_map.specs.Places.{IsLayerPlace}
+use Rattle.call_stages.specs.layer_map.specs.Places.{IsLayerPlace}
 use Rattle.call_stages.specs.declared.once.Once.{Once}
 use Rattle.call_stages.specs.declared.once.Placed.{Placed}
 use Rattle.call_stages.specs.Stages.{Stage, counted}

@@ -1,10 +1,12 @@
 -- How the volatile words of a row come to tell its list, node by node.
-use Rattle.std.proofs.Common.{◌≡◌, ◌≢◌, ℕ, suc, ◌+◌, ◌^◌, ◌<◌, ◌≤◌, ◌⊎◌, List, [], ◌∷◌, length, length-set, slice_set, inl, inr, ⊎_elim, refl, sym, ap, ◌∙◌, subst, arith}
+use Rattle.std.proofs.Common.{◌≡◌, ◌≢◌, ℕ, suc, ◌+◌, ◌^◌, ◌<◌, ◌≤◌, ◌⊎◌, List, [], ◌∷◌, length, length-set, slice_set}
+use Rattle.std.proofs.Common.{inl, inr, ⊎_elim, refl, sym, ap, ◌∙◌, subst, arith}
 use Rattle.std.specs.List.{AllByRecursion}
 use Rattle.std.proofs.lemmas.Bool.{cases_eq}
 use Rattle.pm_words.specs.Codes.{live_status}
 use Rattle.pm_words.specs.declared.layout.Layout.{Layout}
-use Rattle.pm_words.specs.Locations.{Location, Volatile, Cached, Node, Clock, Updater, HasLocation, address_of, row_words, at}
+use Rattle.pm_words.specs.Locations.{Location, Volatile, Cached, Node, Clock, Updater, HasLocation, address_of}
+use Rattle.pm_words.specs.Locations.{row_words, at}
 use Rattle.pm_words.specs.declared.action.Action.TheVariants.{Store}
 use Rattle.pm_words.specs.Rows.{IsRow, IsOutsideHeader, acted}
 use Rattle.pm_words.proofs.Apart.{addresses_within, at-set_same, at-set_other}
@@ -14,7 +16,7 @@ use Rattle.data_node.proofs.ListLemmas.{all_member, members_few, not_behind, ris
 use Rattle.pm_words.specs.Offsets.{prev_offset, stamp_offset, status_offset}
 use Rattle.index_law.specs.Facts.{list_in, spot_in}
 use Rattle.index_law.proofs.Rows.{spot_in-alike}
-use Rattle.index_opening_law.specs.Openings.{LeadBack, TellsList}
+use Rattle.index_core.specs.index_opening_law.specs.Openings.{LeadBack, TellsList}
 use Rattle.recovery.specs.Tellings.{IsNodeMark, IsUntold, KeepsBeside, told_words}
 
 -- what one node's telling changes

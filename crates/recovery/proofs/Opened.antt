@@ -1,5 +1,6 @@
 -- A recovered image, whose list its volatile words tell, is opened as an index.
-use Rattle.std.proofs.Common.{◌≡◌, ℕ, zero, suc, ◌+◌, ◌/◌, ◌<◌, ◌&&◌, Bool, true, false, cond, List, [], refl, sym, ap, ◌∙◌, subst, arith}
+use Rattle.std.proofs.Common.{◌≡◌, ℕ, zero, suc, ◌+◌, ◌/◌, ◌<◌, ◌&&◌, Bool, true, false, cond, List, [], refl, sym}
+use Rattle.std.proofs.Common.{ap, ◌∙◌, subst, arith}
 use Rattle.std.specs.Prelude.{nat_lt}
 use Rattle.std.proofs.lemmas.Bool.{ne_eqb}
 use Rattle.cat_key.specs.declared.Pair.{Pair}
@@ -22,23 +23,23 @@ use Rattle.image_rules.specs.Sound.{image_map, IsMapOf as IsImageMap}
 use Rattle.image_rules.proofs.MapLemmas.{sound_has_map}
 use Rattle.image_rules.specs.Weights.{image_weight}
 use Rattle.image_layer_rules.specs.Sound.{IsSoundByAll, in_image}
-use Rattle.search_layer.specs.Rows.{layer_words}
+use Rattle.index_core.specs.search_layer.specs.Rows.{layer_words}
 use Rattle.layer_map.specs.Places.{is_of_layer}
-use Rattle.search_layer.proofs.RowLemmas.{rows_alike, layer_alike}
-use Rattle.image_recovery_law.specs.RowMoves.{MarksTellIn}
-use Rattle.image_recovery_law.proofs.RowMoves.{tells_by}
+use Rattle.index_core.specs.search_layer.proofs.RowLemmas.{rows_alike, layer_alike}
+use Rattle.image_recovery.specs.image_recovery_law.specs.RowMoves.{MarksTellIn}
+use Rattle.image_recovery.specs.image_recovery_law.proofs.RowMoves.{tells_by}
 use Rattle.index_law.specs.Facts.{Facts, list_in, spot_in}
 use Rattle.index_law.specs.Weights.{gone_weight, index_weight}
 use Rattle.index_law.specs.Worlds.{facts}
-use Rattle.updater_row_law.specs.Columns.{column, line_count, line_field, line_word}
-use Rattle.image_recovery_law.specs.Columns.{Columns, IsMapOf}
-use Rattle.image_recovery_law.specs.Rest.{Rests}
-use Rattle.image_recovery_law.specs.Rows.{columns_in, word_if}
-use Rattle.image_recovery_law.proofs.RowColumns.{columns_alike, crash_has_columns}
-use Rattle.image_recovery_law.proofs.SoundColumns.{spots_are, columns_keep_maps}
-use Rattle.index_opening_law.specs.Openings.{HaveNoOrders, IsOpening, IsUnlocked, TellsList}
-use Rattle.index_opening_law.proofs.Opened.{spot_is, opening_has_list, opening_is_unlocked}
-use Rattle.lone_hops_law.proofs.Short.{empty_is_short}
+use Rattle.image_recovery.specs.updater_row_law.specs.Columns.{column, line_count, line_field, line_word}
+use Rattle.image_recovery.specs.image_recovery_law.specs.Columns.{Columns, IsMapOf}
+use Rattle.image_recovery.specs.image_recovery_law.specs.Rest.{Rests}
+use Rattle.image_recovery.specs.image_recovery_law.specs.Rows.{columns_in, word_if}
+use Rattle.image_recovery.specs.image_recovery_law.proofs.RowColumns.{columns_alike, crash_has_columns}
+use Rattle.image_recovery.specs.image_recovery_law.proofs.SoundColumns.{spots_are, columns_keep_maps}
+use Rattle.index_core.specs.index_opening_law.specs.Openings.{HaveNoOrders, IsOpening, IsUnlocked, TellsList}
+use Rattle.index_core.specs.index_opening_law.proofs.Opened.{spot_is, opening_has_list, opening_is_unlocked}
+use Rattle.index_core.specs.lone_hops_law.proofs.Short.{empty_is_short}
 use Rattle.index_core.specs.Indexes.{Index, layered, world}
 use Rattle.index_core.specs.Opened.{opened_index, row_with}
 use Rattle.index_core.proofs.Quiet.{can_walk}

@@ -29,7 +29,7 @@ use Rattle.index_law.proofs.Holding.{idle_has_shape}
 use Rattle.index_core.specs.Indexes.{Index, map_of_index, world}
 use Rattle.index_core.specs.Weights.{weight_of}
 use Rattle.index_core.proofs.Quiet.{quiet_parties}
-use Rattle.index_image_law.specs.Rest.{IsRestImage, cached_image}
+use Rattle.index_core.specs.index_image_law.specs.Rest.{IsRestImage, cached_image}
 use Rattle.recovery.specs.Opened.{IsOpenedFrom}
 use Rattle.recovery.specs.Cores.{IsReopened, fresh_image}
 

@@ -1,10 +1,12 @@
 -- How the versions of permutations come to be told, node by node, beside volatile words that tell a list.
-use Rattle.std.proofs.Common.{◌≡◌, ◌≢◌, ℕ, suc, ◌<◌, List, [], ◌∷◌, slice_set, inr, ⊎_elim, refl, sym, ap, ◌∙◌, subst, arith}
+use Rattle.std.proofs.Common.{◌≡◌, ◌≢◌, ℕ, suc, ◌<◌, List, [], ◌∷◌, slice_set, inr, ⊎_elim, refl, sym, ap, ◌∙◌, subst}
+use Rattle.std.proofs.Common.{arith}
 use Rattle.std.specs.List.{AllByRecursion}
 use Rattle.std.proofs.lemmas.Bool.{cases_eq}
 use Rattle.pm_words.specs.declared.layout.Layout.{Layout}
 use Rattle.pm_words.specs.Codes.{no_permutation}
-use Rattle.pm_words.specs.Locations.{Location, Volatile, Clock, Updater, Mark, Cached, Durable, HasLocation, address_of, at}
+use Rattle.pm_words.specs.Locations.{Location, Volatile, Clock, Updater, Mark, Cached, Durable, HasLocation}
+use Rattle.pm_words.specs.Locations.{address_of, at}
 use Rattle.pm_words.specs.declared.action.Action.TheVariants.{Store}
 use Rattle.pm_words.specs.Rows.{IsRow, IsOutsideHeader, acted}
 use Rattle.pm_words.proofs.Apart.{addresses_within, at-set_same, at-set_other}
@@ -12,7 +14,7 @@ use Rattle.pm_words.proofs.Kept.{acted_row, outside_header}
 use Rattle.data_node.specs.Lists.{ListNode, IsIn}
 use Rattle.data_node.proofs.ListLemmas.{all_member}
 use Rattle.pm_words.specs.Offsets.{permutation_version_offset, prev_offset, stamp_offset, status_offset}
-use Rattle.index_opening_law.specs.Openings.{LeadBack, TellsList}
+use Rattle.index_core.specs.index_opening_law.specs.Openings.{LeadBack, TellsList}
 use Rattle.recovery.specs.Tellings.{IsNodeMark, IsOrder, KeepsBeside, KeepsButOrders}
 
 -- Those of so many nodes are told.

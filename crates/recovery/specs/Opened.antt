@@ -17,10 +17,10 @@ use Rattle.index_core.specs.Indexes.{Index, IsIndex, parties_of, world}
 use Rattle.index_core.specs.Fulls.{HasLowStamps}
 use Rattle.index_core.specs.Lone.{HasShortWays, IsQuiet, locks_left}
 use Rattle.index_core.specs.PartyStates.{idle_states}
-use Rattle.image_recovery_law.specs.Rest.{Rests}
-use Rattle.image_recovery_law.specs.Rows.{columns_in}
-use Rattle.image_recovery_law.specs.RowMoves.{MarksTellIn}
-use Rattle.index_opening_law.specs.Openings.{HaveNoOrders, TellsList}
+use Rattle.image_recovery.specs.image_recovery_law.specs.Rest.{Rests}
+use Rattle.image_recovery.specs.image_recovery_law.specs.Rows.{columns_in}
+use Rattle.image_recovery.specs.image_recovery_law.specs.RowMoves.{MarksTellIn}
+use Rattle.index_core.specs.index_opening_law.specs.Openings.{HaveNoOrders, TellsList}
 use Rattle.image_recovery.specs.Plans.{columns, list_of}
 
 -- The index is that of the image. Its base is the image's map, in rising order of names, and nothing is written yet. It

@@ -14,5 +14,7 @@ mod telling;
 
 pub use cores::{open_fresh, reopen};
 pub use image_recovery::OpenFault;
+pub use index_core;
+pub use index_core::node_ops;
 pub use opening::{recover, recover_sound};
 pub use stopping::Recovery;

@@ -1,5 +1,6 @@
 -- What one turn of a change makes of the layer: the store that switches makes it, and no other changes it.
-use Rattle.std.proofs.Common.{◌≡◌, ℕ, ◌==◌, Bool, true, false, cond, List, length, Option, Some, None, refl, sym, subst, ap, ◌∙◌}
+use Rattle.std.proofs.Common.{◌≡◌, ℕ, ◌==◌, Bool, true, false, cond, List, length, Option, Some, None, refl, sym}
+use Rattle.std.proofs.Common.{subst, ap, ◌∙◌}
 use Rattle.pm_words.specs.declared.layout.Layout.{Layout}
 use Rattle.pm_words.specs.declared.action.Action.TheVariants.{Load}
 use Rattle.pm_words.specs.declared.machine.Turn.{Turn}
@@ -19,15 +20,15 @@ use Rattle.tree_law.specs.Words as tree
 use Rattle.tree_row.specs.Rows.{layer_words}
 use Rattle.tree_row.proofs.RowLaw.{load_leaves, outside_leaves}
 use Rattle.layer_map.specs.Keys.{key_number}
-use Rattle.tree_look.specs.declared.look.Spot.{Spot}
-use Rattle.tree_change.specs.declared.take.Take.{Take}
-use Rattle.tree_change.specs.declared.take.TakeAt.{TakeAt}
-use Rattle.tree_change.specs.declared.take.TakeAt.TheVariants as take_at
-use Rattle.tree_change.specs.declared.finish.Finish.{Finish}
-use Rattle.tree_change.specs.declared.finish.FinishAt.{FinishAt}
-use Rattle.tree_change.specs.declared.finish.FinishAt.TheVariants as finish_at
-use Rattle.tree_change.specs.Takes.{IsTake, IsTakeAt, take_asks, take_at_asks}
-use Rattle.tree_change.specs.Finishes.{finish_at_turned, quiet_drained, switch_drained, unmarks}
+use Rattle.tree_update.specs.tree_look.specs.declared.look.Spot.{Spot}
+use Rattle.tree_update.specs.tree_change.specs.declared.take.Take.{Take}
+use Rattle.tree_update.specs.tree_change.specs.declared.take.TakeAt.{TakeAt}
+use Rattle.tree_update.specs.tree_change.specs.declared.take.TakeAt.TheVariants as take_at
+use Rattle.tree_update.specs.tree_change.specs.declared.finish.Finish.{Finish}
+use Rattle.tree_update.specs.tree_change.specs.declared.finish.FinishAt.{FinishAt}
+use Rattle.tree_update.specs.tree_change.specs.declared.finish.FinishAt.TheVariants as finish_at
+use Rattle.tree_update.specs.tree_change.specs.Takes.{IsTake, IsTakeAt, take_asks, take_at_asks}
+use Rattle.tree_update.specs.tree_change.specs.Finishes.{finish_at_turned, quiet_drained, switch_drained, unmarks}
 use Rattle.tree_update.specs.declared.change.Change.{Change}
 use Rattle.tree_update.specs.declared.change.ChangeAt.{ChangeAt}
 use Rattle.tree_update.specs.declared.change.ChangeAt.TheVariants as at
@@ -38,7 +39,8 @@ use Rattle.tree_update.specs.Changes as changes
 use Rattle.tree_update.specs.Changes.{IsChange, change_asks, change_turned, change_at_turned, finish_goes}
 use Rattle.tree_update.specs.Stages.{Aim, made_of}
 use Rattle.search_layer.specs.Kept.{layer_of}
-use Rattle.search_layer.specs.ChangeStages.{Making, change_with, stage_after, has_stored, has_switched, stores_switch, layer_at, LayerAt, LayerAfter}
+use Rattle.search_layer.specs.ChangeStages.{Making, change_with, stage_after, has_stored, has_switched, stores_switch}
+use Rattle.search_layer.specs.ChangeStages.{layer_at, LayerAt, LayerAfter}
 
 -- Once that store is made it stays made.
 

@@ -6,32 +6,35 @@ use Rattle.pm_words.specs.declared.action.Action.TheVariants.{Load, Store, Drain
 use Rattle.pm_words.specs.declared.fence.FenceAt.{FenceAt}
 use Rattle.pm_words.specs.declared.fence.FenceAt.TheVariants as fence_at
 use Rattle.pm_words.specs.Fences.{fence_at_asks}
-use Rattle.pm_words.specs.Locations.{Word, Root, Leaf, Cell, Location, Mark, Cached, HasWord, HasLocation, kind_words, address_of}
+use Rattle.pm_words.specs.Locations.{Word, Root, Leaf, Cell, Location, Mark, Cached, HasWord, HasLocation, kind_words}
+use Rattle.pm_words.specs.Locations.{address_of}
 use Rattle.radix_nodes.specs.declared.filling.Filling.{Filling}
 use Rattle.radix_nodes.specs.declared.filling.Filling.TheVariants as filling
 use Rattle.radix_nodes.specs.declared.fill_leaf.FillLeaf.{FillLeaf}
 use Rattle.radix_nodes.specs.declared.fill_cell.FillCell.{FillCell}
 use Rattle.radix_nodes.specs.Cells.{words_of}
-use Rattle.radix_nodes.specs.Fills.{filling_offset, filling_asks, IsFillLeaf, fill_leaf_asks, leaf_value, IsFillCell, fill_cell_asks, lines_of}
+use Rattle.radix_nodes.specs.Fills.{filling_offset, filling_asks, IsFillLeaf, fill_leaf_asks, leaf_value, IsFillCell}
+use Rattle.radix_nodes.specs.Fills.{fill_cell_asks, lines_of}
 use Rattle.tree_law.specs.Words.{LayerWord, kind_of, number_of}
 use Rattle.tree_row.specs.Rows.{image_word, HasLayerWord, layer_address}
 use Rattle.tree_floor.specs.Floors.{cell_word}
-use Rattle.tree_look.specs.Looks.{look_word}
-use Rattle.tree_change.specs.declared.take.Take.{Take}
-use Rattle.tree_change.specs.declared.take.TakeAt.{TakeAt}
-use Rattle.tree_change.specs.declared.take.TakeAt.TheVariants as take_at
-use Rattle.tree_change.specs.declared.finish.Target.{Target}
-use Rattle.tree_change.specs.declared.finish.Target.TheVariants as target
-use Rattle.tree_change.specs.declared.finish.Finish.{Finish}
-use Rattle.tree_change.specs.declared.finish.FinishAt.{FinishAt}
-use Rattle.tree_change.specs.declared.finish.FinishAt.TheVariants as finish_at
-use Rattle.tree_change.specs.Takes.{IsTake, IsTakeAt, take_asks, take_at_asks}
-use Rattle.tree_change.specs.Finishes.{target_image, line_image, IsFinish, IsFinishAt, finish_asks, finish_at_asks}
-use Rattle.tree_change.specs.Counts.{count_word}
-use Rattle.tree_change.specs.FindRooms.{find_room_word}
-use Rattle.tree_change.specs.Reads.{read_word}
-use Rattle.tree_change.proofs.ActsLaw.{offset_within, whole_lines}
-use Rattle.tree_change.proofs.MarkSteps.{target_has, line_has}
+use Rattle.tree_update.specs.tree_look.specs.Looks.{look_word}
+use Rattle.tree_update.specs.tree_change.specs.declared.take.Take.{Take}
+use Rattle.tree_update.specs.tree_change.specs.declared.take.TakeAt.{TakeAt}
+use Rattle.tree_update.specs.tree_change.specs.declared.take.TakeAt.TheVariants as take_at
+use Rattle.tree_update.specs.tree_change.specs.declared.finish.Target.{Target}
+use Rattle.tree_update.specs.tree_change.specs.declared.finish.Target.TheVariants as target
+use Rattle.tree_update.specs.tree_change.specs.declared.finish.Finish.{Finish}
+use Rattle.tree_update.specs.tree_change.specs.declared.finish.FinishAt.{FinishAt}
+use Rattle.tree_update.specs.tree_change.specs.declared.finish.FinishAt.TheVariants as finish_at
+use Rattle.tree_update.specs.tree_change.specs.Takes.{IsTake, IsTakeAt, take_asks, take_at_asks}
+use Rattle.tree_update.specs.tree_change.specs.Finishes.{target_image, line_image, IsFinish, IsFinishAt, finish_asks}
+use Rattle.tree_update.specs.tree_change.specs.Finishes.{finish_at_asks}
+use Rattle.tree_update.specs.tree_change.specs.Counts.{count_word}
+use Rattle.tree_update.specs.tree_change.specs.FindRooms.{find_room_word}
+use Rattle.tree_update.specs.tree_change.specs.Reads.{read_word}
+use Rattle.tree_update.specs.tree_change.proofs.ActsLaw.{offset_within, whole_lines}
+use Rattle.tree_update.specs.tree_change.proofs.MarkSteps.{target_has, line_has}
 use Rattle.tree_update.specs.declared.change.ChangeAt.{ChangeAt}
 use Rattle.tree_update.specs.declared.change.ChangeAt.TheVariants as at
 use Rattle.tree_update.specs.Changes.{IsChangeAt, change_at_asks}

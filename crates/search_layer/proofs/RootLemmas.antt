@@ -1,5 +1,6 @@
 -- The words of the root's line behind the first, while a change is made.
-use Rattle.std.proofs.Common.{◌≡◌, ℕ, ◌+◌, ◌^◌, ◌<◌, ◌==◌, ◌||◌, Bool, true, false, cond, ltb, List, length, slice_index, slice_set, Option, Some, None, inl, inr, sym, subst, ap, ◌∙◌, arith}
+use Rattle.std.proofs.Common.{◌≡◌, ℕ, ◌+◌, ◌^◌, ◌<◌, ◌==◌, ◌||◌, Bool, true, false, cond, ltb, List, length}
+use Rattle.std.proofs.Common.{slice_index, slice_set, Option, Some, None, inl, inr, sym, subst, ap, ◌∙◌, arith}
 use Rattle.std.specs.Prelude.{nat_le}
 use Rattle.std.proofs.lemmas.Bool.{cases_eq, false≢true}
 use Rattle.std.proofs.lemmas.List.{get_or-set_other}
@@ -12,7 +13,8 @@ use Rattle.pm_words.specs.declared.fence.Fence.{Fence}
 use Rattle.pm_words.specs.declared.fence.FenceAt.{FenceAt}
 use Rattle.pm_words.specs.declared.fence.FenceAt.TheVariants as fence_at
 use Rattle.pm_words.specs.Fences.{fence_at_asks, fence_next, fence_at_next}
-use Rattle.pm_words.specs.Locations.{Root, Location, Mark, Cached, Durable, row_words, address_of, at, cached_address, durable_address}
+use Rattle.pm_words.specs.Locations.{Root, Location, Mark, Cached, Durable, row_words, address_of, at, cached_address}
+use Rattle.pm_words.specs.Locations.{durable_address}
 use Rattle.pm_words.specs.Rows.{acted, evicted}
 use Rattle.pm_words.specs.Rows as rows
 use Rattle.pm_words.proofs.Apart.{words_within, at-set_same, at-set_other}
@@ -25,32 +27,33 @@ use Rattle.tree_law.specs.Trees.{byte_at}
 use Rattle.tree_law.specs.Words.{kind_of}
 use Rattle.tree_row.proofs.RowLaw.{load_same}
 use Rattle.layer_map.specs.Keys.{key_number}
-use Rattle.tree_look.specs.declared.look.Look.{Look}
-use Rattle.tree_look.specs.declared.look.Spot.{Spot}
-use Rattle.tree_look.specs.declared.look.Looked.{Looked}
-use Rattle.tree_look.specs.declared.look.Looked.TheVariants as looked
-use Rattle.tree_look.specs.Looks.{look_turned}
-use Rattle.tree_change.specs.declared.take.Take.{Take}
-use Rattle.tree_change.specs.declared.take.Taken.{Taken}
-use Rattle.tree_change.specs.declared.take.Taken.TheVariants as taken
-use Rattle.tree_change.specs.declared.find_room.FindRoom.{FindRoom}
-use Rattle.tree_change.specs.declared.room.Room.{Room}
-use Rattle.tree_change.specs.declared.room.Room.TheVariants as room
-use Rattle.tree_change.specs.declared.read_cell.ReadCell.{ReadCell}
-use Rattle.tree_change.specs.declared.count.Count.{Count}
-use Rattle.tree_change.specs.declared.others.Counted.{Counted}
-use Rattle.tree_change.specs.declared.others.Counted.TheVariants as counts_as
-use Rattle.tree_change.specs.declared.finish.Target.{Target}
-use Rattle.tree_change.specs.declared.finish.Target.TheVariants as target
-use Rattle.tree_change.specs.declared.finish.Finish.{Finish}
-use Rattle.tree_change.specs.declared.finish.FinishAt.{FinishAt}
-use Rattle.tree_change.specs.declared.finish.FinishAt.TheVariants as finish_at
-use Rattle.tree_change.specs.Takes.{take_turned}
-use Rattle.tree_change.specs.FindRooms.{find_room_turned}
-use Rattle.tree_change.specs.Reads.{read_turned}
-use Rattle.tree_change.specs.Counts.{count_turned}
+use Rattle.tree_update.specs.tree_look.specs.declared.look.Look.{Look}
+use Rattle.tree_update.specs.tree_look.specs.declared.look.Spot.{Spot}
+use Rattle.tree_update.specs.tree_look.specs.declared.look.Looked.{Looked}
+use Rattle.tree_update.specs.tree_look.specs.declared.look.Looked.TheVariants as looked
+use Rattle.tree_update.specs.tree_look.specs.Looks.{look_turned}
+use Rattle.tree_update.specs.tree_change.specs.declared.take.Take.{Take}
+use Rattle.tree_update.specs.tree_change.specs.declared.take.Taken.{Taken}
+use Rattle.tree_update.specs.tree_change.specs.declared.take.Taken.TheVariants as taken
+use Rattle.tree_update.specs.tree_change.specs.declared.find_room.FindRoom.{FindRoom}
+use Rattle.tree_update.specs.tree_change.specs.declared.room.Room.{Room}
+use Rattle.tree_update.specs.tree_change.specs.declared.room.Room.TheVariants as room
+use Rattle.tree_update.specs.tree_change.specs.declared.read_cell.ReadCell.{ReadCell}
+use Rattle.tree_update.specs.tree_change.specs.declared.count.Count.{Count}
+use Rattle.tree_update.specs.tree_change.specs.declared.others.Counted.{Counted}
+use Rattle.tree_update.specs.tree_change.specs.declared.others.Counted.TheVariants as counts_as
+use Rattle.tree_update.specs.tree_change.specs.declared.finish.Target.{Target}
+use Rattle.tree_update.specs.tree_change.specs.declared.finish.Target.TheVariants as target
+use Rattle.tree_update.specs.tree_change.specs.declared.finish.Finish.{Finish}
+use Rattle.tree_update.specs.tree_change.specs.declared.finish.FinishAt.{FinishAt}
+use Rattle.tree_update.specs.tree_change.specs.declared.finish.FinishAt.TheVariants as finish_at
+use Rattle.tree_update.specs.tree_change.specs.Takes.{take_turned}
+use Rattle.tree_update.specs.tree_change.specs.FindRooms.{find_room_turned}
+use Rattle.tree_update.specs.tree_change.specs.Reads.{read_turned}
+use Rattle.tree_update.specs.tree_change.specs.Counts.{count_turned}
 use Rattle.radix_nodes.specs.Fills.{fill_leaf_turned, fill_cell_turned}
-use Rattle.tree_change.specs.Finishes.{line_image, IsFinishAt, finish_asks, finish_at_asks, finish_at_turned, quiet_drained, switch_drained, unmarks}
+use Rattle.tree_update.specs.tree_change.specs.Finishes.{line_image, IsFinishAt, finish_asks, finish_at_asks}
+use Rattle.tree_update.specs.tree_change.specs.Finishes.{finish_at_turned, quiet_drained, switch_drained, unmarks}
 use Rattle.tree_update.specs.declared.change.Change.{Change}
 use Rattle.tree_update.specs.declared.change.ChangeAt.{ChangeAt}
 use Rattle.tree_update.specs.declared.change.ChangeAt.TheVariants as part_at
@@ -59,13 +62,15 @@ use Rattle.tree_update.specs.declared.change.Site.TheVariants as site
 use Rattle.tree_update.specs.declared.change.NewCell.{NewCell}
 use Rattle.tree_update.specs.declared.change.Ended.{Ended}
 use Rattle.tree_update.specs.Changes as changes
-use Rattle.tree_update.specs.Changes.{IsChange, IsChangeAt, change_asks, change_turned, change_at_asks, change_at_turned, finish_goes}
+use Rattle.tree_update.specs.Changes.{IsChange, IsChangeAt, change_asks, change_turned, change_at_asks}
+use Rattle.tree_update.specs.Changes.{change_at_turned, finish_goes}
 use Rattle.tree_update.specs.Stages.{Aim}
 use Rattle.layer_map.specs.Places.{is_of_layer}
 use Rattle.search_layer.specs.ChangeStages.{Changing, Making, Changed, change_with, stage_after}
 use Rattle.search_layer.specs.Beside.{ActsBeside}
 use Rattle.search_layer.specs.Beside as beside
-use Rattle.search_layer.specs.RootLine.{HoldsWord, HoldsIn, HoldsPart, IsRootWord, HoldsRoot, RootLineStays, RootBegins, RootStepKeeps, RootOutlasts, RootOthersKeep, RootEvictionsKeep}
+use Rattle.search_layer.specs.RootLine.{HoldsWord, HoldsIn, HoldsPart, IsRootWord, HoldsRoot, RootLineStays}
+use Rattle.search_layer.specs.RootLine.{RootBegins, RootStepKeeps, RootOutlasts, RootOthersKeep, RootEvictionsKeep}
 use Rattle.search_layer.proofs.RowLemmas.{root_word}
 use Rattle.search_layer.proofs.OnLayer.{IsBody, IsOfTree, ActsIn, loads, stores, marks, drains, drains_root, part_in}
 

@@ -1,5 +1,6 @@
 -- What the layer is at each stage of a change, and in each mix of the cached and the durable words.
-use Rattle.std.proofs.Common.{◌≡◌, ◌≢◌, ℕ, ◌-◌, ◌^◌, ◌<◌, ◌==◌, ◌⊎◌, true, false, cond, Some, None, inl, inr, refl, sym, ap, ◌∙◌, arith}
+use Rattle.std.proofs.Common.{◌≡◌, ◌≢◌, ℕ, ◌-◌, ◌^◌, ◌<◌, ◌==◌, ◌⊎◌, true, false, cond, Some, None, inl, inr, refl}
+use Rattle.std.proofs.Common.{sym, ap, ◌∙◌, arith}
 use Rattle.std.proofs.lemmas.Bool.{ne_eqb, cases_eq}
 use Rattle.pm_words.specs.Locations.{Cached, Durable, leaf_count}
 use Rattle.radix_nodes.specs.Cells.{words_of}
@@ -11,22 +12,25 @@ use Rattle.tree_law.specs.Stages.{Marks}
 use Rattle.tree_row.specs.Rows.{layer_words}
 use Rattle.tree_row.proofs.RowLaw.{reads_fit}
 use Rattle.layer_map.specs.Keys.{key_number}
-use Rattle.tree_look.specs.Looks.{look_most}
-use Rattle.tree_look.proofs.LookExact.{look_is_exact}
-use Rattle.tree_change.specs.declared.finish.Finish.{Finish}
-use Rattle.tree_change.specs.declared.finish.FinishAt.{FinishAt}
-use Rattle.tree_change.specs.declared.finish.FinishAt.TheVariants as finish_at
-use Rattle.tree_change.specs.Endings.{Unmarks, SureCan, SureEnding, ending_at}
-use Rattle.tree_change.specs.Fillings.{stage_at, leaf_words, cell_part}
-use Rattle.tree_change.proofs.EndingLaw.{ending_mixes}
-use Rattle.tree_change.proofs.FillingLaw.{filling_mixes}
+use Rattle.tree_update.specs.tree_look.specs.Looks.{look_most}
+use Rattle.tree_update.specs.tree_look.proofs.LookExact.{look_is_exact}
+use Rattle.tree_update.specs.tree_change.specs.declared.finish.Finish.{Finish}
+use Rattle.tree_update.specs.tree_change.specs.declared.finish.FinishAt.{FinishAt}
+use Rattle.tree_update.specs.tree_change.specs.declared.finish.FinishAt.TheVariants as finish_at
+use Rattle.tree_update.specs.tree_change.specs.Endings.{Unmarks, SureCan, SureEnding, ending_at}
+use Rattle.tree_update.specs.tree_change.specs.Fillings.{stage_at, leaf_words, cell_part}
+use Rattle.tree_update.specs.tree_change.proofs.EndingLaw.{ending_mixes}
+use Rattle.tree_update.specs.tree_change.proofs.FillingLaw.{filling_mixes}
 use Rattle.tree_update.specs.declared.change.ChangeAt.{ChangeAt}
 use Rattle.tree_update.specs.declared.change.ChangeAt.TheVariants as at
 use Rattle.tree_update.specs.Knowns.{Rests}
 use Rattle.tree_update.specs.Stages.{Aim, made_of, aim_of, SureAt}
 use Rattle.tree_update.proofs.RunLaw.{change_evicts}
-use Rattle.search_layer.specs.ChangeStages.{Changing, Making, Changed, has_stored, drains_store, has_switched, layer_at, MixAt, can_switch}
-use Rattle.search_layer.specs.Laws.{ChangeBegins, ChangeEnds, LayerIsEither, MixIsEither, StepIsEither, ChangeIsBacked, ChangeEvicts, UnsetKeepsZero, KeepsZero, LayerStaysRooted, MixStaysRooted, RootedBegins}
+use Rattle.search_layer.specs.ChangeStages.{Changing, Making, Changed, has_stored, drains_store, has_switched}
+use Rattle.search_layer.specs.ChangeStages.{layer_at, MixAt, can_switch}
+use Rattle.search_layer.specs.Laws.{ChangeBegins, ChangeEnds, LayerIsEither, MixIsEither, StepIsEither}
+use Rattle.search_layer.specs.Laws.{ChangeIsBacked, ChangeEvicts, UnsetKeepsZero, KeepsZero, LayerStaysRooted}
+use Rattle.search_layer.specs.Laws.{MixStaysRooted, RootedBegins}
 
 -- all words of it are in order, with the layer of its stage
 abbrev IsMixed : ℕ → ℕ → Layer → Aim → Changing → LayerWords → Type 0

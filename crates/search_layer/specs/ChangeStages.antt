@@ -7,8 +7,8 @@ use Rattle.pm_words.specs.declared.machine.Turn.TheVariants.{Go, Done}
 use Rattle.layer_map.specs.Layers.{Layer, AreSame}
 use Rattle.tree_law.specs.Words.{LayerWords}
 use Rattle.tree_law.specs.Stages.{Marks}
-use Rattle.tree_change.specs.declared.finish.FinishAt.{FinishAt}
-use Rattle.tree_change.specs.declared.finish.FinishAt.TheVariants as finish_at
+use Rattle.tree_update.specs.tree_change.specs.declared.finish.FinishAt.{FinishAt}
+use Rattle.tree_update.specs.tree_change.specs.declared.finish.FinishAt.TheVariants as finish_at
 use Rattle.tree_update.specs.declared.change.Change.{Change}
 use Rattle.tree_update.specs.declared.change.ChangeAt.{ChangeAt}
 use Rattle.tree_update.specs.declared.change.ChangeAt.TheVariants as at

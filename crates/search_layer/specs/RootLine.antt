@@ -6,11 +6,11 @@ use Rattle.pm_words.specs.declared.fence.FenceAt.{FenceAt}
 use Rattle.pm_words.specs.declared.fence.FenceAt.TheVariants as fence_at
 use Rattle.pm_words.specs.Locations.{Root, Cached, Durable, row_words, image_words, at}
 use Rattle.pm_words.specs.Rows.{acted, evicted, got}
-use Rattle.tree_change.specs.declared.finish.Target.{Target}
-use Rattle.tree_change.specs.declared.finish.Target.TheVariants as target
-use Rattle.tree_change.specs.declared.finish.Finish.{Finish}
-use Rattle.tree_change.specs.declared.finish.FinishAt.{FinishAt}
-use Rattle.tree_change.specs.declared.finish.FinishAt.TheVariants as finish_at
+use Rattle.tree_update.specs.tree_change.specs.declared.finish.Target.{Target}
+use Rattle.tree_update.specs.tree_change.specs.declared.finish.Target.TheVariants as target
+use Rattle.tree_update.specs.tree_change.specs.declared.finish.Finish.{Finish}
+use Rattle.tree_update.specs.tree_change.specs.declared.finish.FinishAt.{FinishAt}
+use Rattle.tree_update.specs.tree_change.specs.declared.finish.FinishAt.TheVariants as finish_at
 use Rattle.tree_update.specs.declared.change.ChangeAt.{ChangeAt}
 use Rattle.tree_update.specs.declared.change.ChangeAt.TheVariants as at_change
 use Rattle.tree_update.specs.Stages.{Aim}

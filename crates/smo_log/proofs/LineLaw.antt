@@ -1,5 +1,6 @@
 -- Each turn on a log line is a step on a line, and answers follow from what was told.
-use Rattle.std.proofs.Common.{◌≡◌, ◌≢◌, ℕ, zero, suc, ◌+◌, ◌*◌, ◌^◌, ◌<◌, ◌≤◌, ◌==◌, Bool, true, false, cond, ltb, List, [], ◌∷◌, Option, Some, None, inl, inr, ⊎_elim, refl, sym, ◌∙◌, subst, ap, arith}
+use Rattle.std.proofs.Common.{◌≡◌, ◌≢◌, ℕ, zero, suc, ◌+◌, ◌*◌, ◌^◌, ◌<◌, ◌≤◌, ◌==◌, Bool, true, false, cond, ltb}
+use Rattle.std.proofs.Common.{List, [], ◌∷◌, Option, Some, None, inl, inr, ⊎_elim, refl, sym, ◌∙◌, subst, ap, arith}
 use Rattle.std.specs.Prelude.{slice_index, slice_set}
 use Rattle.std.proofs.lemmas.Bool.{cases_eq, eqb-true, eqb-false, ltb-true, ltb-false}
 use Rattle.std.proofs.lemmas.List.{get_or-set_same, get_or-set_other}
@@ -12,11 +13,12 @@ use Rattle.pm_words.specs.declared.action.Action.{Action}
 use Rattle.pm_words.specs.declared.action.Action.TheVariants.{Load, Store}
 use Rattle.pm_words.specs.declared.machine.Turn.{Turn}
 use Rattle.pm_words.specs.declared.machine.Turn.TheVariants.{Go, Done}
-use Rattle.data_node.specs.Spots.{Spot, updated}
-use Rattle.data_node.proofs.SpotLemmas.{updated-same, updated-other}
+use Rattle.call_stages.specs.data_node.specs.Spots.{Spot, updated}
+use Rattle.call_stages.specs.data_node.proofs.SpotLemmas.{updated-same, updated-other}
 use Rattle.call_stages.specs.Stages.{IsAmong, Tells}
 use Rattle.call_stages.specs.Kinds.{Soils}
-use Rattle.call_stages.specs.Lines.{HeldLine, IsEntry, IsFitLine, TellsDurably, IsBlind, fills, opens, readies, Notes, passes_line, takes, looks_up, notes, keeps_safe}
+use Rattle.call_stages.specs.Lines.{HeldLine, IsEntry, IsFitLine, TellsDurably, IsBlind, fills, opens, readies, Notes}
+use Rattle.call_stages.specs.Lines.{passes_line, takes, looks_up, notes, keeps_safe}
 use Rattle.call_stages.specs.AnySteps.{loads_line, stores_line, drains_line}
 use Rattle.pm_words.specs.declared.fence.Fence.{Fence}
 use Rattle.smo_log.specs.declared.line.Entry.{Entry}
@@ -33,10 +35,14 @@ use Rattle.smo_log.specs.declared.state.ReadyAt.{ReadyAt}
 use Rattle.smo_log.specs.declared.state.ReadyAt.TheVariants as ready_at
 use Rattle.pm_words.specs.Fences.{IsFence, fence_start, fence_next, fence_asks}
 use Rattle.smo_log.specs.LogLines.{caller_of, index_of, numbered_address, field_of, IsEntryOf, fields, settled, fenced}
-use Rattle.smo_log.specs.Takes.{take_line, take_at_asks, saw_state, take_fenced, take_at_turned, IsTakeAt, IsTake, take_at_held, TakeNotes}
-use Rattle.smo_log.specs.Opens.{opens_on, open_at_asks, fields_fenced, state_fenced, open_at_turned, IsOpenAt, IsOpen, stored, filled_line, open_at_held, OpenNotes}
-use Rattle.smo_log.specs.States.{ready_at_asks, ready_fenced, ready_at_turned, IsReadyAt, IsReady, ready_at_held, ReadyNotes}
-use Rattle.smo_log.specs.Laws.{TakesAreNotes, OpensAreNotes, ReadiesAreNotes, ReadsAreNotes, NoneEmpty, HasLooked, TakeHeeds, TakesHeed, ReadsHeed, NotesAreBeside}
+use Rattle.smo_log.specs.Takes.{take_line, take_at_asks, saw_state, take_fenced, take_at_turned, IsTakeAt, IsTake}
+use Rattle.smo_log.specs.Takes.{take_at_held, TakeNotes}
+use Rattle.smo_log.specs.Opens.{opens_on, open_at_asks, fields_fenced, state_fenced, open_at_turned, IsOpenAt, IsOpen}
+use Rattle.smo_log.specs.Opens.{stored, filled_line, open_at_held, OpenNotes}
+use Rattle.smo_log.specs.States.{ready_at_asks, ready_fenced, ready_at_turned, IsReadyAt, IsReady, ready_at_held}
+use Rattle.smo_log.specs.States.{ReadyNotes}
+use Rattle.smo_log.specs.Laws.{TakesAreNotes, OpensAreNotes, ReadiesAreNotes, ReadsAreNotes, NoneEmpty, HasLooked}
+use Rattle.smo_log.specs.Laws.{TakeHeeds, TakesHeed, ReadsHeed, NotesAreBeside}
 use Rattle.smo_log.specs.Reads.{ReadNotes, ReadsOn, seen_in}
 use Rattle.smo_log.proofs.FenceLaw.{Fences, fence_leads}
 

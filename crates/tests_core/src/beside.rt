@@ -5,7 +5,7 @@ use super::calls::Asked::{Del, Get, Part, Put, Turn};
 use super::calls::{Asked, MANY, NAMES, Scene, begin, is_legal, made, map_of, run};
 use super::crashes::shown;
 use call_stages::Once;
-use index_core::{Core, CoreReply};
+use recovery::index_core::{Core, CoreReply};
 use std::alloc::Global;
 use std::test::Fail;
 use updater::TurnReply;

@@ -2,16 +2,16 @@
 
 ghost use Rattle.std.specs.Prelude.{◌≡◌, ℕ, ◌<◌, ◌≤◌, IfSome, IsTrue};
 ghost use Rattle.pm_words.specs.declared.layout.Layout.{Layout as IndexLayout};
-ghost use Rattle.index_core.specs.CoreCalls.{MayStart, most_writes};
-ghost use Rattle.index_core.specs.Indexes.{Index, IsBusy};
-ghost use Rattle.index_core.specs.Lone.{IsQuiet, MayRunAlone};
+ghost use Rattle.recovery.specs.index_core.specs.CoreCalls.{MayStart, most_writes};
+ghost use Rattle.recovery.specs.index_core.specs.Indexes.{Index, IsBusy};
+ghost use Rattle.recovery.specs.index_core.specs.Lone.{IsQuiet, MayRunAlone};
 
 use call_stages::Once;
 use cat_history::Change;
 use cat_key::Name;
-use index_core::{Core, CoreCall, CoreReply, Stepped, Whole};
 use node_ops::PartWords;
 use pm_words::{Layout, Steps};
+use recovery::index_core::{Core, CoreCall, CoreReply, Stepped, Whole};
 use recovery::open_fresh;
 use std::alloc::Global;
 use std::marker::Brand;

@@ -1,12 +1,12 @@
 //! Calls and turns of the updater that are drawn from a number, beside the slow model.
 
 ghost use Rattle.std.specs.Prelude.{◌≡◌};
-ghost use Rattle.index_core.specs.Lone.{IsQuiet};
+ghost use Rattle.recovery.specs.index_core.specs.Lone.{IsQuiet};
 
 use super::calls::{Asked, alone, fresh, name_of};
 use super::model::{Model, NAMES, count_of};
 use super::rows::told;
-use index_core::{Core, Whole};
+use recovery::index_core::{Core, Whole};
 use std::alloc::Global;
 use std::test::Fail;
 

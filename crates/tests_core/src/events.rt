@@ -1,7 +1,7 @@
 //! How many events calls take on a node of 64 names.
 
 use super::calls::{Asked, MANY, begin, fresh, run};
-use index_core::Core;
+use recovery::index_core::Core;
 use std::alloc::Global;
 use std::test::Fail;
 

@@ -1,13 +1,13 @@
 //! Images that are refused, and images that are opened, played on, saved and opened again.
 
 ghost use Rattle.std.specs.Prelude.{◌≡◌, IfSome};
-ghost use Rattle.index_core.specs.Lone.{IsQuiet};
+ghost use Rattle.recovery.specs.index_core.specs.Lone.{IsQuiet};
 
 use super::calls::{Asked, Scene, alone, made, name_of};
 use image_layer_rules::first_broken_of_all;
-use index_core::Core;
 use pm_words::offsets::header;
 use pm_words::{Image, ImageFault, Layout};
+use recovery::index_core::Core;
 use recovery::{OpenFault, recover};
 use std::alloc::Global;
 use std::test::Fail;

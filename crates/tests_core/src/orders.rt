@@ -2,11 +2,11 @@
 //! ones go until the node is written.
 
 ghost use Rattle.std.specs.Prelude.{◌≡◌};
-ghost use Rattle.index_core.specs.Lone.{IsQuiet};
+ghost use Rattle.recovery.specs.index_core.specs.Lone.{IsQuiet};
 
 use super::calls::Asked::{Del, Get, Part, Put, Turn};
 use super::calls::{Asked, Scene, alone, fresh, made};
-use index_core::{Core, Whole};
+use recovery::index_core::{Core, Whole};
 use std::alloc::Global;
 use std::test::Fail;
 

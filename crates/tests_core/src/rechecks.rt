@@ -1,13 +1,13 @@
 //! Rechecks of a part's node: what is called between the two tells whether its version word is still the same.
 
 ghost use Rattle.std.specs.Prelude.{◌≡◌, ◌<◌, IfSome};
-ghost use Rattle.index_core.specs.Lone.{IsQuiet};
+ghost use Rattle.recovery.specs.index_core.specs.Lone.{IsQuiet};
 
 use super::calls::Asked::{Del, Get, Part, Put, Turn};
 use super::calls::{Asked, Scene, alone, made, run};
 use call_stages::Once;
-use index_core::{Core, CoreCall, CoreReply, Whole};
 use node_ops::PartWords;
+use recovery::index_core::{Core, CoreCall, CoreReply, Whole};
 use std::alloc::Global;
 use std::test::Fail;
 

@@ -1,12 +1,12 @@
 //! Whole calls one after another, by rows that were worked out by hand.
 
 ghost use Rattle.std.specs.Prelude.{◌≡◌};
-ghost use Rattle.index_core.specs.Lone.{IsQuiet};
+ghost use Rattle.recovery.specs.index_core.specs.Lone.{IsQuiet};
 
 use super::calls::Asked::{Del, Get, Part, Put, Turn};
 use super::calls::{Asked, NAMES, alone, fresh};
 use super::model::FULL;
-use index_core::{Core, Whole};
+use recovery::index_core::{Core, Whole};
 use std::alloc::Global;
 use std::test::Fail;
 

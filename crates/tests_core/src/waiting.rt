@@ -1,11 +1,11 @@
 //! Calls within a budget beside a turn of the updater that has stopped under its lock.
 
 ghost use Rattle.std.specs.Prelude.{◌≡◌, ◌<◌};
-ghost use Rattle.index_core.specs.Lone.{IsQuiet};
+ghost use Rattle.recovery.specs.index_core.specs.Lone.{IsQuiet};
 
 use super::calls::{Asked, Scene, call_of, made};
-use index_core::{Core, Whole, Within};
 use pm_words::Steps;
+use recovery::index_core::{Core, Whole, Within};
 use std::alloc::Global;
 use std::marker::Brand;
 use std::sync::ledger::{Blank, Ledger};

@@ -1,16 +1,16 @@
 //! A run on a file beside a core that makes the same calls: the file is the core's image, byte for byte.
 
 ghost use Rattle.std.specs.Prelude.{◌≡◌, ◌<◌, ◌≤◌, IfSome};
-ghost use Rattle.index_core.specs.CoreCalls.{MayBegin, most_writes};
-ghost use Rattle.index_core.specs.Lone.{IsQuiet};
+ghost use Rattle.catalog_cli.specs.index_core.specs.CoreCalls.{MayBegin, most_writes};
+ghost use Rattle.catalog_cli.specs.index_core.specs.Lone.{IsQuiet};
 
 use crate::running::{SOUND, plan_of, run};
 use cat_history::{CallerOp, Op};
 use cat_script::generated;
 use cat_text::{MemoryShelf, Shelf};
-use index_core::{Core, CoreCall};
+use catalog_cli::index_core::{Core, CoreCall};
+use catalog_cli::recovery::recover;
 use pm_words::{Image, Steps};
-use recovery::recover;
 use std::alloc::{AllocError, AllocGlobal, Global};
 use std::marker::Brand;
 use std::sync::Wait;

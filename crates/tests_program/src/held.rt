@@ -3,7 +3,7 @@
 
 use crate::running::{SOUND, plan_of, run_gated};
 use cat_text::MemoryShelf;
-use pac_index::Gate;
+use catalog_cli::pac_index::Gate;
 use std::alloc::AllocGlobal;
 use std::sync::Wait;
 use std::sync::atomic::{AtomicBool, AtomicU64, Ordering};

@@ -1,8 +1,8 @@
 //! The top call on words and a script, over an outside in memory.
 
 use cat_text::{FaultPlan, MemoryShelf, MemorySink, MemorySource};
+use catalog_cli::pac_index::Gate;
 use catalog_cli::{Status, catalog};
-use pac_index::Gate;
 use std::alloc::{AllocGlobal, Global};
 use std::sync::Wait;
 use std::thread::Threads;

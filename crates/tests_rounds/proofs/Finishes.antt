@@ -1,5 +1,5 @@
 -- What holds of the core in which the callers of a round met.
-use Rattle.index_core.specs.Indexes.{Index}
+use Rattle.recovery.specs.index_core.specs.Indexes.{Index}
 use Rattle.thread_rounds.specs.RunRounds.{IsJoinedAnd}
 use Rattle.thread_rounds.specs.declared.round.Finish.{Finish}
 use Rattle.thread_rounds.specs.declared.round.Finish.TheVariants.{Joined, Crashed}

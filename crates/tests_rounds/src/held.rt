@@ -1,18 +1,18 @@
 //! Rounds whose gate holds callers, so that they can only end if their calls run beside each other.
 
 ghost use Rattle.std.specs.Prelude.{◌≡◌, ◌<◌, ◌≤◌, ◌^◌, All, IfOk, None};
-ghost use Rattle.index_core.specs.Lone.{IsQuiet};
+ghost use Rattle.recovery.specs.index_core.specs.Lone.{IsQuiet};
 ghost use Rattle.thread_rounds.specs.RunRounds.{IsJoinedAnd};
 
 use cat_history::{CallerOp, Items, Op, RoundPlan};
 use cat_key::Name;
-use pac_index::Gate;
 use pm_words::Layout;
 use recovery::open_fresh;
 use std::alloc::Global;
 use std::sync::atomic::{AtomicBool, AtomicU64, Ordering};
 use std::test::Fail;
 use std::thread::yield_now;
+use thread_rounds::pac_index::Gate;
 use thread_rounds::{Finish, run_round};
 
 /// For how many turns a gate holds a caller at most.

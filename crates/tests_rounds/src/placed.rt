@@ -4,11 +4,11 @@ ghost use Rattle.std.specs.Prelude.{◌≡◌, ◌<◌, ◌≤◌, ◌^◌, All,
 
 use cat_history::{CallerOp, Items, Op, Reply, RoundPlan};
 use cat_key::Name;
-use pac_index::Gate;
 use pm_words::Layout;
 use recovery::open_fresh;
 use std::alloc::Global;
 use std::test::Fail;
+use thread_rounds::pac_index::Gate;
 use thread_rounds::{Finish, Round, run_round};
 
 /// How the names of a round are written.

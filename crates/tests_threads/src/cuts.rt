@@ -2,7 +2,7 @@
 
 ghost use Rattle.std.specs.Prelude.{◌≡◌, ◌<◌};
 ghost use Rattle.pm_words.specs.Layouts.{IsLayout};
-ghost use Rattle.index_core.specs.Indexes.{parties_of};
+ghost use Rattle.recovery.specs.index_core.specs.Indexes.{parties_of};
 ghost use Rattle.pac_index.specs.Callers.{HasCallers, IsCallerOf};
 
 use crate::meeting::{fresh, put_back, take_last};

@@ -3,15 +3,15 @@
 ghost use Rattle.std.specs.Prelude.{◌≡◌, ◌+◌, ◌<◌, [], length, IfOk};
 ghost use denote.Param.Send.{IsSync};
 ghost use Rattle.pm_words.specs.Layouts.{IsLayout};
-ghost use Rattle.index_core.specs.Lone.{IsQuiet};
+ghost use Rattle.recovery.specs.index_core.specs.Lone.{IsQuiet};
 ghost use Rattle.pac_index.specs.Callers.{IsCallerOf, HasCallers};
 
 use crate::playing::{Finished, Notes, Plan, Reply, plays};
 use crate::telling::{are_told, do_rise};
 use crate::watch::Watch;
-use index_core::Core;
 use pac_index::{Caller, Ended, Shared, have_steps};
 use pm_words::{Again, Layout, NoMemory};
+use recovery::index_core::Core;
 use recovery::open_fresh;
 use std::alloc::Global;
 use std::sync::Wait;

@@ -1,7 +1,7 @@
 //! Callers that make calls as planned, and what these are answered.
 
 ghost use Rattle.std.specs.Prelude.{◌≡◌, ◌<◌, ◌≤◌, IfSome};
-ghost use Rattle.index_core.specs.CoreCalls.{MayBegin, most_writes};
+ghost use Rattle.recovery.specs.index_core.specs.CoreCalls.{MayBegin, most_writes};
 ghost use Rattle.pac_index.specs.Callers.{IsCallerOf};
 
 use crate::telling::mixed;
@@ -9,10 +9,10 @@ use crate::watch::Watch;
 use call_stages::{Once, Placed};
 use cat_history::ScanPart;
 use cat_key::{Name, WORDS};
-use index_core::CoreCall;
 use node_ops::PartWords;
 use pac_index::{Caller, Ended, Scanned, Shared, Tried};
 use pm_words::Again;
+use recovery::index_core::CoreCall;
 use std::alloc::Global;
 use std::sync::Wait;
 use std::thread::yield_now;

@@ -1,5 +1,6 @@
 -- What a caller's call is answered, as the record of a round.
-use Rattle.std.proofs.Common.{◌≡◌, ◌≢◌, ℕ, ◌+◌, ◌-◌, ◌<◌, ◌≤◌, ◌⊎◌, inl, inr, ⊎_elim, Bool, true, false, List, [], ◌∷◌, ◌++◌, length, refl, sym, ap, subst, ◌∙◌, arith, append-nil}
+use Rattle.std.proofs.Common.{◌≡◌, ◌≢◌, ℕ, ◌+◌, ◌-◌, ◌<◌, ◌≤◌, ◌⊎◌, inl, inr, ⊎_elim, Bool, true, false, List, []}
+use Rattle.std.proofs.Common.{◌∷◌, ◌++◌, length, refl, sym, ap, subst, ◌∙◌, arith, append-nil}
 use Rattle.std.specs.Prelude.{Option, Some, None, IfSome, IsSomeAnd, All, IfOk, Ok, Err, Result}
 use Rattle.std.specs.Option.{option_to_list}
 use Rattle.std.specs.List.{AllByRecursion}
@@ -9,7 +10,8 @@ use Rattle.cat_history.specs.Writes.{after}
 use Rattle.cat_history.specs.Scans.{IsPart, AreParts, Rise}
 use Rattle.cat_history.specs.Scans.AreParts.{cut_off, ends, goes_on}
 use Rattle.cat_history.specs.CrashRounds.{change_cut}
-use Rattle.cat_history.specs.Records.{as_op, change_of, interval_at, interval_asked, interval_told, placed_write, parts_interval, last_place, Interval}
+use Rattle.cat_history.specs.Records.{as_op, change_of, interval_at, interval_asked, interval_told, placed_write}
+use Rattle.cat_history.specs.Records.{parts_interval, last_place, Interval}
 use Rattle.cat_history.specs.Rounds.{IsAnswer, IsItsMark, IsWriter}
 use Rattle.cat_history.specs.declared.op.Change.{Change}
 use Rattle.cat_history.specs.declared.op.Change.TheVariants as kind
@@ -28,16 +30,16 @@ use Rattle.cat_text.specs.ReportGrammar.{IsReportPart}
 use Rattle.call_stages.specs.declared.once.Once.{Once}
 use Rattle.call_stages.specs.declared.once.Once.TheVariants as once
 use Rattle.call_stages.specs.declared.once.Placed.{Placed}
-use Rattle.node_ops.specs.Asked.{name_asked}
+use Rattle.pac_index.specs.node_ops.specs.Asked.{name_asked}
 use Rattle.index_law.specs.Worlds.{written}
-use Rattle.index_core.specs.declared.party.CoreCall.{CoreCall}
-use Rattle.index_core.specs.declared.party.CoreCall.TheVariants as call
-use Rattle.index_core.specs.Answers.{IsAnswerOf, WasReached}
-use Rattle.index_core.specs.CoreCalls.{op_of, limit_of, most_writes}
-use Rattle.index_core.specs.Crashes.{unplaced}
-use Rattle.index_core.specs.MachineLaws.{place_told}
-use Rattle.index_core.specs.PartyStates.{next_index}
-use Rattle.index_core.specs.Weights.{added_by, added_if}
+use Rattle.pac_index.specs.index_core.specs.declared.party.CoreCall.{CoreCall}
+use Rattle.pac_index.specs.index_core.specs.declared.party.CoreCall.TheVariants as call
+use Rattle.pac_index.specs.index_core.specs.Answers.{IsAnswerOf, WasReached}
+use Rattle.pac_index.specs.index_core.specs.CoreCalls.{op_of, limit_of, most_writes}
+use Rattle.pac_index.specs.index_core.specs.Crashes.{unplaced}
+use Rattle.pac_index.specs.index_core.specs.MachineLaws.{place_told}
+use Rattle.pac_index.specs.index_core.specs.PartyStates.{next_index}
+use Rattle.pac_index.specs.index_core.specs.Weights.{added_by, added_if}
 use Rattle.shapes.specs.ShapeRounds.{one_added}
 use Rattle.stopped_rounds.specs.MoreCuts.{AreAmong}
 use Rattle.pac_index.specs.declared.caller.Caller.{Caller}

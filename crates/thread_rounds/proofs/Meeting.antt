@@ -1,5 +1,6 @@
 -- The callers' work, put together where they meet.
-use Rattle.std.proofs.Common.{◌≡◌, ℕ, zero, suc, ◌+◌, ◌*◌, ◌/◌, ◌<◌, ◌≤◌, true, List, [], ◌∷◌, ◌++◌, length, get_or, map, refl, sym, ap, subst, ◌∙◌, arith}
+use Rattle.std.proofs.Common.{◌≡◌, ℕ, zero, suc, ◌+◌, ◌*◌, ◌/◌, ◌<◌, ◌≤◌, true, List, [], ◌∷◌, ◌++◌, length, get_or}
+use Rattle.std.proofs.Common.{map, refl, sym, ap, subst, ◌∙◌, arith}
 use Rattle.std.specs.Prelude.{All, Option, Some, None, Ok, Result, flat_map, slice_get}
 use Rattle.std.specs.FinMap.{len}
 use Rattle.std.proofs.lemmas.List.{length-map}
@@ -26,12 +27,13 @@ use Rattle.pm_words.specs.Images.{Row}
 use Rattle.shapes.specs.ShapeRounds.{puts_added, FullIsPaid}
 use Rattle.index_law.specs.Facts.{facts_of}
 use Rattle.index_law.specs.Weights.{index_weight}
-use Rattle.index_core.specs.Indexes.{Index, parties_of}
-use Rattle.index_core.specs.Weights.{weight_of}
-use Rattle.index_core.proofs.Lists.{map_from, map_there}
+use Rattle.pac_index.specs.index_core.specs.Indexes.{Index, parties_of}
+use Rattle.pac_index.specs.index_core.specs.Weights.{weight_of}
+use Rattle.pac_index.specs.index_core.proofs.Lists.{map_from, map_there}
 use Rattle.stopped_rounds.specs.LoneStops.{IsWithin}
 use Rattle.stopped_rounds.specs.MoreCuts.{AreAmong}
-use Rattle.caller_rounds.specs.CallerRounds.{own_writes, asked_of, by_caller, EachHasReplies, KnowsRoom, CallerRoom, records_of_all, added_of_all, EachKnowsRoom}
+use Rattle.caller_rounds.specs.CallerRounds.{own_writes, asked_of, by_caller, EachHasReplies, KnowsRoom, CallerRoom}
+use Rattle.caller_rounds.specs.CallerRounds.{records_of_all, added_of_all, EachKnowsRoom}
 use Rattle.caller_rounds.specs.Stopping.{HasStopped}
 use Rattle.caller_rounds.proofs.Parting.{elem-within}
 use Rattle.caller_rounds.proofs.Calling.{replies_stay}
@@ -48,8 +50,10 @@ use Rattle.pac_index.specs.declared.rule.About.{About}
 use Rattle.pac_index.specs.declared.shared.Shared.{Shared}
 use Rattle.pac_index.specs.Kept.{placed_by, Begins, index_of, opening_weight}
 use Rattle.pac_index.specs.declared.crashing.Crashed.{Crashed}
-use Rattle.pac_index.specs.Callers.{AreAtRest, IsAtRest, IsCallerOf, HasCallers, Opened, about_in, seen_by, added_by_all, Meeting}
-use Rattle.pac_index.specs.CrashMeetings.{CrashMeeting, IsCrashOf, change_in_flight, changes_in_flight, cut_of, put_in_flight, puts_in_flight, state_of}
+use Rattle.pac_index.specs.Callers.{AreAtRest, IsAtRest, IsCallerOf, HasCallers, Opened, about_in, seen_by}
+use Rattle.pac_index.specs.Callers.{added_by_all, Meeting}
+use Rattle.pac_index.specs.CrashMeetings.{CrashMeeting, IsCrashOf, change_in_flight, changes_in_flight, cut_of}
+use Rattle.pac_index.specs.CrashMeetings.{put_in_flight, puts_in_flight, state_of}
 use Rattle.thread_rounds.specs.declared.worker.Played.{Played}
 use Rattle.thread_rounds.specs.declared.round.Finish.{Finish}
 use Rattle.thread_rounds.specs.declared.round.Finish.TheVariants.{Crashed as CrashedIn, Joined}

@@ -12,7 +12,7 @@ use Rattle.cat_history.specs.declared.record.Record.{Record}
 use Rattle.cat_history.specs.declared.record.Reply.{Reply}
 use Rattle.cat_history.specs.declared.record.Reply.TheVariants.{Old, Parts, Full, Spent, Cut, Unstarted}
 use Rattle.call_stages.specs.declared.once.Placed.{Placed}
-use Rattle.index_core.specs.PartyStates.{next_index}
+use Rattle.pac_index.specs.index_core.specs.PartyStates.{next_index}
 use Rattle.shapes.specs.ShapeRounds.{one_added}
 use Rattle.stopped_rounds.specs.MoreCuts.{AreAmong}
 use Rattle.caller_rounds.specs.CallerRounds.{IsRepliedSince, HadManyNames}

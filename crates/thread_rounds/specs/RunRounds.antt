@@ -16,14 +16,14 @@ use Rattle.pm_words.specs.Locations.{Clock, at}
 use Rattle.image_rules.specs.Rules.{header_generation}
 use Rattle.image_rules.specs.Sound.{IsMapOf}
 use Rattle.image_rules.specs.Weights.{image_weight}
-use Rattle.image_layer_rules.specs.Sound.{IsSoundByAll}
+use Rattle.pac_index.specs.image_layer_rules.specs.Sound.{IsSoundByAll}
 use Rattle.shapes.specs.ShapeRounds.{puts_added, FullIsPaid}
 use Rattle.cat_text.specs.ReportGrammar.{IsReportReply, StandByCaller}
 use Rattle.caller_rounds.specs.Apart.{AreApart, TookPlace, changes_asked}
-use Rattle.index_core.specs.CrashLaws.{chosen_index, crash_image}
-use Rattle.index_core.specs.Indexes.{Index, IsIndex}
-use Rattle.index_core.specs.Lone.{IsQuiet}
-use Rattle.index_core.specs.Weights.{weight_of}
+use Rattle.pac_index.specs.index_core.specs.CrashLaws.{chosen_index, crash_image}
+use Rattle.pac_index.specs.index_core.specs.Indexes.{Index, IsIndex}
+use Rattle.pac_index.specs.index_core.specs.Lone.{IsQuiet}
+use Rattle.pac_index.specs.index_core.specs.Weights.{weight_of}
 use Rattle.pac_index.specs.Stamps.{stamp_in}
 use Rattle.thread_rounds.specs.declared.round.Finish.{Finish}
 use Rattle.thread_rounds.specs.declared.round.Finish.TheVariants.{Joined, Crashed}

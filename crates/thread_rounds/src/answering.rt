@@ -4,7 +4,7 @@ ghost use Rattle.std.specs.Prelude.{◌≡◌, ◌≢◌, ◌<◌, ◌≤◌, �
 ghost use Rattle.cat_history.specs.Records.{as_op};
 ghost use Rattle.cat_history.specs.declared.op.Op.TheVariants as op;
 ghost use Rattle.cat_history.specs.declared.record.Reply.TheVariants as reply;
-ghost use Rattle.index_core.specs.CoreCalls.{MayBegin, limit_of, most_writes, op_of};
+ghost use Rattle.pac_index.specs.index_core.specs.CoreCalls.{MayBegin, limit_of, most_writes, op_of};
 ghost use Rattle.pac_index.specs.Budgets.{place_in};
 ghost use Rattle.pac_index.specs.Callers.{IsCallerOf, seen_by};
 ghost use Rattle.pac_index.specs.Cuts.{HasPaid};
@@ -14,7 +14,7 @@ ghost use Rattle.thread_rounds.specs.Made.{AnsweredOrCut, HasGone, IsMade, reply
 use call_stages::Placed;
 use cat_history::{CutMark, NoMemory, Op, Reply};
 use cat_key::Name;
-use index_core::CoreCall;
+use pac_index::index_core::CoreCall;
 use pac_index::{Caller, CutCall, Ended, Gate, Scanned, Shared};
 use std::alloc::Global;
 use std::sync::Wait;

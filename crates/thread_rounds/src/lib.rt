@@ -8,4 +8,6 @@ mod round;
 mod worker;
 
 pub use cat_history::{Budgets, CallerOp, CrashPlan, Ops, RoundPlan};
+pub use pac_index;
+pub use pac_index::index_core;
 pub use round::{Finish, Round, run_round};

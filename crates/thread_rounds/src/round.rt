@@ -1,8 +1,8 @@
 //! Running a round.
 
 ghost use Rattle.std.specs.Prelude.{◌≡◌, ◌<◌, ◌≤◌, ◌^◌, [], All, IfOk};
-ghost use Rattle.index_core.specs.Lone.{IsQuiet};
-ghost use Rattle.index_core.specs.Indexes.{parties_of};
+ghost use Rattle.pac_index.specs.index_core.specs.Lone.{IsQuiet};
+ghost use Rattle.pac_index.specs.index_core.specs.Indexes.{parties_of};
 ghost use Rattle.pac_index.specs.Callers.{AreAtRest, AreNew, HasCallers, IsCallerOf};
 ghost use Rattle.thread_rounds.specs.Gathered.{ArePlayed, HasEndedByCrash, HasMet, IsGathered};
 ghost use Rattle.thread_rounds.specs.Played.{IsNew, IsPlayedBy};
@@ -11,7 +11,7 @@ ghost use Rattle.thread_rounds.specs.RunRounds.{IsRun};
 use crate::counting::placed;
 use crate::worker::{Played, plays};
 use cat_history::{Items, NoMemory, Record, Records, RoundPlan};
-use index_core::Core;
+use pac_index::index_core::Core;
 use pac_index::{Caller, Crashed, Gate, Shared};
 use pm_words::Image;
 use std::alloc::Global;

@@ -1,5 +1,6 @@
 -- What the actions of a change make of the words of the layer in a row.
-use Rattle.std.proofs.Common.{◌≡◌, ℕ, zero, suc, ◌+◌, ◌*◌, ◌/◌, ◌^◌, ◌<◌, ◌≤◌, ◌==◌, true, false, cond, List, length, slice_set, Option, Some, None, refl, sym, subst, ap, ◌∙◌, arith}
+use Rattle.std.proofs.Common.{◌≡◌, ℕ, zero, suc, ◌+◌, ◌*◌, ◌/◌, ◌^◌, ◌<◌, ◌≤◌, ◌==◌, true, false, cond, List, length}
+use Rattle.std.proofs.Common.{slice_set, Option, Some, None, refl, sym, subst, ap, ◌∙◌, arith}
 use Rattle.pm_words.specs.declared.layout.Layout.{Layout}
 use Rattle.pm_words.specs.declared.action.Action.{Action}
 use Rattle.pm_words.specs.declared.fence.FenceAt.{FenceAt}
@@ -15,8 +16,8 @@ use Rattle.radix_nodes.specs.declared.fill_cell.FillCell.{FillCell}
 use Rattle.radix_nodes.specs.Cells.{words_of}
 use Rattle.radix_nodes.specs.Fills.{filling_offset, IsFilling, lines_of, fill_leaf_asks, fill_cell_asks, IsFillCell}
 use Rattle.tree_law.specs.Words.{LayerWord, RootWord, Part, LeafPart, part_word, kind_of, number_of}
-use Rattle.tree_row.specs.Rows.{HasLayerWord, layer_address, TwinsStay}
-use Rattle.tree_row.proofs.RowLaw.{reads_words, load_leaves, store_makes, drain_makes, outside_leaves}
+use Rattle.tree_floor.specs.tree_row.specs.Rows.{HasLayerWord, layer_address, TwinsStay}
+use Rattle.tree_floor.specs.tree_row.proofs.RowLaw.{reads_words, load_leaves, store_makes, drain_makes, outside_leaves}
 use Rattle.tree_change.specs.declared.take.TakeAt.{TakeAt}
 use Rattle.tree_change.specs.declared.take.TakeAt.TheVariants as at
 use Rattle.tree_change.specs.Takes.{IsTakeAt, take_mark, take_at_asks}
@@ -26,10 +27,12 @@ use Rattle.tree_change.specs.declared.finish.Finish.{Finish}
 use Rattle.tree_change.specs.declared.finish.FinishAt.{FinishAt}
 use Rattle.tree_change.specs.declared.finish.FinishAt.TheVariants as finish_at
 use Rattle.tree_change.specs.Finishes.{IsTarget, IsFinish, IsFinishAt, cached_at, finish_asks}
-use Rattle.tree_change.specs.Endings.{Effect, Loads, Stores, Drains, Beside, HasEffect, IsBeside, mark, glance, drain, target_word, line_word, loads, drains, fence_effect}
+use Rattle.tree_change.specs.Endings.{Effect, Loads, Stores, Drains, Beside, HasEffect, IsBeside, mark, glance, drain}
+use Rattle.tree_change.specs.Endings.{target_word, line_word, loads, drains, fence_effect}
 use Rattle.tree_change.specs.Endings as endings
 use Rattle.tree_change.specs.Fillings.{effect_at, line_effect, leaf_words, cell_part}
-use Rattle.tree_change.specs.Acts.{IsWithin, IsTold, HappensIn, ActionHappens, FinishHappens, LeafHappens, CellHappens, TakeLeaves}
+use Rattle.tree_change.specs.Acts.{IsWithin, IsTold, HappensIn, ActionHappens, FinishHappens, LeafHappens}
+use Rattle.tree_change.specs.Acts.{CellHappens, TakeLeaves}
 use Rattle.tree_change.proofs.FinishTurns as finish
 use Rattle.tree_change.proofs.FillTurns as fill
 

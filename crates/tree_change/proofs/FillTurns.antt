@@ -1,5 +1,6 @@
 -- Each turn of a machine that fills a leaf or a cell is a step of the stages of a filling.
-use Rattle.std.proofs.Common.{◌≡◌, ℕ, ◌+◌, ◌*◌, ◌^◌, ◌<◌, ◌≤◌, true, false, cond, ltb, Option, Some, None, refl, subst, ap, ap₂, arith}
+use Rattle.std.proofs.Common.{◌≡◌, ℕ, ◌+◌, ◌*◌, ◌^◌, ◌<◌, ◌≤◌, true, false, cond, ltb, Option, Some, None, refl}
+use Rattle.std.proofs.Common.{subst, ap, ap₂, arith}
 use Rattle.std.proofs.lemmas.Bool.{ltb-false}
 use Rattle.pm_words.specs.declared.layout.Layout.{Layout}
 use Rattle.pm_words.specs.declared.action.Action.{Action}
@@ -16,11 +17,15 @@ use Rattle.radix_nodes.specs.declared.fill_cell.FillCell.{FillCell}
 use Rattle.radix_nodes.specs.declared.filling.Filling.{Filling}
 use Rattle.radix_nodes.specs.declared.filling.Filling.TheVariants as at
 use Rattle.radix_nodes.specs.Cells.{words_of}
-use Rattle.radix_nodes.specs.Fills.{filling_offset, filling_asks, filling_next, next_line, IsFilling, lines_of, fill_leaf_asks, fill_cell_asks, IsFillCell, fill_leaf_goes, fill_cell_goes, leaf_address, cell_address}
+use Rattle.radix_nodes.specs.Fills.{filling_offset, filling_asks, filling_next, next_line, IsFilling, lines_of}
+use Rattle.radix_nodes.specs.Fills.{fill_leaf_asks, fill_cell_asks, IsFillCell, fill_leaf_goes, fill_cell_goes}
+use Rattle.radix_nodes.specs.Fills.{leaf_address, cell_address}
 use Rattle.tree_law.specs.Words.{Part, LeafPart, kind_of, number_of, part_word}
-use Rattle.tree_row.specs.Rows.{layer_address}
+use Rattle.tree_floor.specs.tree_row.specs.Rows.{layer_address}
 use Rattle.tree_change.specs.Endings.{Effect, Stores, Drains, HasEffect, word_in_hand}
-use Rattle.tree_change.specs.Fillings.{FillStage, Fills, Filled, FillStep, stores_word, glances_word, drains_word, drains_last, stage_at, line_effect, effect_at, leaf_words, leaf_after, LeafTurns, cell_part, cell_after, CellTurns}
+use Rattle.tree_change.specs.Fillings.{FillStage, Fills, Filled, FillStep, stores_word, glances_word, drains_word}
+use Rattle.tree_change.specs.Fillings.{drains_last, stage_at, line_effect, effect_at, leaf_words, leaf_after}
+use Rattle.tree_change.specs.Fillings.{LeafTurns, cell_part, cell_after, CellTurns}
 
 -- Where its words stand at these addresses, its action has the effect.
 module _ (l : Layout) (part : Part) (words : ℕ → ℕ) (address : ℕ → ℕ) (same : (o : ℕ) → address o ≡ layer_address l (part_word part o)) where

@@ -13,8 +13,8 @@ use Rattle.radix_nodes.specs.declared.filling.Filling.TheVariants as filling
 use Rattle.radix_nodes.specs.Cells.{words_of}
 use Rattle.radix_nodes.specs.Fills.{filling_offset, filling_asks, lines_of}
 use Rattle.tree_law.specs.Words.{kind_of, number_of}
-use Rattle.tree_row.specs.RowMarks.{row_marks}
-use Rattle.tree_row.proofs.MarkLaw.{mark_is_set, store_leaves_marks, load_leaves_marks}
+use Rattle.tree_floor.specs.tree_row.specs.RowMarks.{row_marks}
+use Rattle.tree_floor.specs.tree_row.proofs.MarkLaw.{mark_is_set, store_leaves_marks, load_leaves_marks}
 use Rattle.tree_change.specs.declared.take.TakeAt.{TakeAt}
 use Rattle.tree_change.specs.declared.take.TakeAt.TheVariants as take_at
 use Rattle.tree_change.specs.Takes.{IsTakeAt, take_mark, take_at_asks}
@@ -24,7 +24,8 @@ use Rattle.tree_change.specs.declared.finish.FinishAt.{FinishAt}
 use Rattle.tree_change.specs.declared.finish.FinishAt.TheVariants as finish_at
 use Rattle.tree_change.specs.Finishes.{target_image, line_image, IsTarget, IsFinishAt, cached_at, finish_at_asks}
 use Rattle.tree_change.specs.Fillings.{leaf_words}
-use Rattle.tree_change.specs.MarkSteps.{LeavesMarks, TakeMakes, TakeMakesMarks, FinishMakes, FinishMakesMarks, LeafLeavesMarks, CellLeavesMarks}
+use Rattle.tree_change.specs.MarkSteps.{LeavesMarks, TakeMakes, TakeMakesMarks, FinishMakes, FinishMakesMarks}
+use Rattle.tree_change.specs.MarkSteps.{LeafLeavesMarks, CellLeavesMarks}
 use Rattle.tree_change.proofs.TakeExact.{take_sets, free_sets}
 use Rattle.tree_change.proofs.ActsLaw.{cell_line, offset_within, whole_lines}
 

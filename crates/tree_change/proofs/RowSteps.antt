@@ -10,13 +10,15 @@ use Rattle.radix_nodes.specs.Cells.{words_of}
 use Rattle.radix_nodes.specs.Fills.{lines_of, fill_leaf_asks, fill_leaf_turned, fill_cell_asks, fill_cell_turned}
 use Rattle.layer_map.specs.Layers.{Layer}
 use Rattle.tree_law.specs.Words.{LayerWords, IsMix, Keeps, LeafPart}
-use Rattle.tree_row.specs.Rows.{layer_words}
-use Rattle.tree_row.proofs.RowLaw.{crash_reads, eviction_mixes}
+use Rattle.tree_floor.specs.tree_row.specs.Rows.{layer_words}
+use Rattle.tree_floor.specs.tree_row.proofs.RowLaw.{crash_reads, eviction_mixes}
 use Rattle.tree_change.specs.Finishes.{finish_asks, finish_turned}
-use Rattle.tree_change.specs.Endings.{Ending, CanQuiet, Quieted, CanSwitch, Switched, Unmarks, EndingMix, SureEnding, ending_at, ending_after}
+use Rattle.tree_change.specs.Endings.{Ending, CanQuiet, Quieted, CanSwitch, Switched, Unmarks, EndingMix, SureEnding}
+use Rattle.tree_change.specs.Endings.{ending_at, ending_after}
 use Rattle.tree_change.specs.Endings as endings
 use Rattle.tree_change.specs.Fillings.{SureFilling, effect_at, stage_at, leaf_words, leaf_after, cell_part, cell_after}
-use Rattle.tree_change.specs.RowSteps.{LeavesLayer, FinishActs, FinishEvicts, FinishCrashes, LeafActs, CellActs, FillEvicts, FillCrashes}
+use Rattle.tree_change.specs.RowSteps.{LeavesLayer, FinishActs, FinishEvicts, FinishCrashes, LeafActs, CellActs}
+use Rattle.tree_change.specs.RowSteps.{FillEvicts, FillCrashes}
 use Rattle.tree_change.proofs.FinishTurns.{finish_turns}
 use Rattle.tree_change.proofs.FillTurns.{leaf_turns, cell_turns}
 use Rattle.tree_change.proofs.EndingLaw.{end_step_keeps, ending_drains, ending_mixes}

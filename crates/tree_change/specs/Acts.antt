@@ -9,7 +9,7 @@ use Rattle.radix_nodes.specs.declared.fill_cell.FillCell.{FillCell}
 use Rattle.radix_nodes.specs.Cells.{words_of}
 use Rattle.radix_nodes.specs.Fills.{IsFillLeaf, fill_leaf_asks, IsFillCell, fill_cell_asks}
 use Rattle.tree_law.specs.Words.{LeafPart}
-use Rattle.tree_row.specs.Rows.{HasLayerWord, layer_words, TwinsStay}
+use Rattle.tree_floor.specs.tree_row.specs.Rows.{HasLayerWord, layer_words, TwinsStay}
 use Rattle.tree_change.specs.declared.take.Take.{Take}
 use Rattle.tree_change.specs.Takes.{IsTake, take_asks}
 use Rattle.tree_change.specs.declared.finish.Finish.{Finish}

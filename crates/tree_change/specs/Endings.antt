@@ -14,7 +14,7 @@ use Rattle.layer_map.specs.Layers.{Layer, AreSame, changed_at}
 use Rattle.tree_law.specs.Words.{LayerWord, RootWord, LeafWord, CellWord, LayerWords, word_in, kind_of, number_of}
 use Rattle.tree_law.specs.Words.{layer_of, Stored, AreEven, IsMix, Keeps, ChangesKey}
 use Rattle.tree_law.specs.Stages.{SureSwitched}
-use Rattle.tree_row.specs.Rows.{layer_address}
+use Rattle.tree_floor.specs.tree_row.specs.Rows.{layer_address}
 use Rattle.tree_change.specs.declared.finish.Target.{Target}
 use Rattle.tree_change.specs.declared.finish.Target.TheVariants as target
 use Rattle.tree_change.specs.declared.finish.Finish.{Finish}

@@ -8,7 +8,7 @@ use Rattle.pm_words.specs.declared.machine.Turn.TheVariants.{Go, Done}
 use Rattle.pm_words.specs.Layouts.{IsLayout}
 use Rattle.radix_nodes.specs.Cells.{children, IsForm}
 use Rattle.tree_law.specs.Words.{LayerWord, LayerWords, word_in, kind_of, cell_in}
-use Rattle.tree_row.specs.Rows.{layer_address}
+use Rattle.tree_floor.specs.tree_row.specs.Rows.{layer_address}
 use Rattle.tree_floor.specs.Floors.{cell_word, IsCellOf}
 use Rattle.tree_change.specs.declared.room.Places.{Places}
 use Rattle.tree_change.specs.declared.room.Room.{Room}

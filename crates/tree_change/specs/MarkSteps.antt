@@ -10,7 +10,7 @@ use Rattle.radix_nodes.specs.Fills.{IsFillLeaf, fill_leaf_asks, IsFillCell, fill
 use Rattle.tree_law.specs.Words.{reference_of, part_reference}
 use Rattle.tree_law.specs.Stages.{Marks}
 use Rattle.tree_law.specs.Marking.{IsMarkSet}
-use Rattle.tree_row.specs.RowMarks.{row_marks}
+use Rattle.tree_floor.specs.tree_row.specs.RowMarks.{row_marks}
 use Rattle.tree_change.specs.declared.take.Take.{Take}
 use Rattle.tree_change.specs.declared.take.TakeAt.{TakeAt}
 use Rattle.tree_change.specs.declared.take.TakeAt.TheVariants as take_at

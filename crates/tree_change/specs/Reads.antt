@@ -12,7 +12,7 @@ use Rattle.radix_nodes.specs.Cells.{IsCell, words_of}
 use Rattle.radix_nodes.specs.Changes.{stored}
 use Rattle.tree_law.specs.Trees.{Cell, IsReached}
 use Rattle.tree_law.specs.Words.{LayerWord, LayerWords, word_in, kind_of, tree_of, IsLawful}
-use Rattle.tree_row.specs.Rows.{layer_address}
+use Rattle.tree_floor.specs.tree_row.specs.Rows.{layer_address}
 use Rattle.tree_floor.specs.Floors.{cell_word, IsCellOf}
 use Rattle.tree_change.specs.declared.read_cell.ReadCell.{ReadCell}
 use Rattle.tree_change.specs.Filled.{StandsIn}

@@ -11,7 +11,7 @@ use Rattle.radix_nodes.specs.Fills.{lines_of, IsFillLeaf, fill_leaf_asks, fill_l
 use Rattle.radix_nodes.specs.Fills.{IsFillCell, fill_cell_asks, fill_cell_turned}
 use Rattle.layer_map.specs.Layers.{Layer}
 use Rattle.tree_law.specs.Words.{LayerWords, Keeps, Part, LeafPart}
-use Rattle.tree_row.specs.Rows.{layer_words, image_layer}
+use Rattle.tree_floor.specs.tree_row.specs.Rows.{layer_words, image_layer}
 use Rattle.tree_change.specs.declared.finish.Finish.{Finish}
 use Rattle.tree_change.specs.Finishes.{IsFinish, finish_asks, finish_turned}
 use Rattle.tree_change.specs.Endings.{Ending, SureEnding, ending_at, ending_after}

@@ -1,26 +1,32 @@
 -- So long as the words stay as they are, a floor answers the floor of its key.
-use Rattle.std.proofs.Common.{◌≡◌, ◌≢◌, ℕ, zero, suc, ◌+◌, ◌*◌, ◌^◌, ◌<◌, ◌≤◌, ◌==◌, ◌&&◌, ◌||◌, ◌⊎◌, not, Bool, true, false, cond, ltb, leb, List, Some, slice_set, inl, inr, refl, sym, subst, ap, ap₂, ◌∙◌, arith, le-ltb, lt-ltb, mul-le-mul_right, add-mul, one-mul, div-mul-le_self}
+use Rattle.std.proofs.Common.{◌≡◌, ◌≢◌, ℕ, zero, suc, ◌+◌, ◌*◌, ◌^◌, ◌<◌, ◌≤◌, ◌==◌, ◌&&◌, ◌||◌, ◌⊎◌, not, Bool, true}
+use Rattle.std.proofs.Common.{false, cond, ltb, leb, List, Some, slice_set, inl, inr, refl, sym, subst, ap, ap₂, ◌∙◌}
+use Rattle.std.proofs.Common.{arith, le-ltb, lt-ltb, mul-le-mul_right, add-mul, one-mul, div-mul-le_self}
 use Rattle.std.specs.Prelude.{IsSomeAnd}
-use Rattle.std.proofs.lemmas.Bool.{cases_eq, cases_lt, eqb-true, eqb-false, eq-eqb, ne_eqb, ltb-true, leb-true, leb-false, lt-leb, and_parts}
+use Rattle.std.proofs.lemmas.Bool.{cases_eq, cases_lt, eqb-true, eqb-false, eq-eqb, ne_eqb, ltb-true, leb-true}
+use Rattle.std.proofs.lemmas.Bool.{leb-false, lt-leb, and_parts}
 use Rattle.std.proofs.Math.Nat.{lt-div-mul-add}
 use Rattle.pm_words.specs.declared.layout.Layout.{Layout}
 use Rattle.pm_words.specs.declared.machine.Turn.{Turn}
 use Rattle.pm_words.specs.declared.machine.Turn.TheVariants.{Go, Done}
 use Rattle.pm_words.specs.Layouts.{IsLayout}
 use Rattle.pm_words.specs.Locations.{leaf_count}
-use Rattle.layer_map.specs.Layers.{IsFloorOf}
-use Rattle.tree_law.specs.Trees.{Reference, Nothing, Leaf, Cell, Tree, Reaches, here, below, IsReached, Room, IsLeaf, IsCell, IsSound, IsSoundFrom, span, first_bytes, byte_at}
+use Rattle.tree_row.specs.layer_map.specs.Layers.{IsFloorOf}
+use Rattle.tree_row.specs.tree_law.specs.Trees.{Reference, Nothing, Leaf, Cell, Tree, Reaches, here, below, IsReached}
+use Rattle.tree_row.specs.tree_law.specs.Trees.{Room, IsLeaf, IsCell, IsSound, IsSoundFrom, span, first_bytes}
+use Rattle.tree_row.specs.tree_law.specs.Trees.{byte_at}
 use Rattle.radix_nodes.specs.Cells.{children, prefix_words}
 use Rattle.radix_nodes.specs.Keys.{key_bytes}
 use Rattle.cat_key.specs.declared.TheConstants.{WORDS}
-use Rattle.tree_law.specs.Floors.{child_or, child_below}
-use Rattle.tree_law.specs.FloorWalks.{least_of, goes_back}
-use Rattle.tree_law.specs.Words.{LayerWord, LayerWords, word_in, reference_of, cell_in, tree_of, layer_of, room_of, IsLawful}
-use Rattle.tree_law.proofs.Spans.{first_is, span_pos, span_last, byte_small}
-use Rattle.tree_law.proofs.Reach.{is_nothing, within}
-use Rattle.tree_law.proofs.Avoiding.{join}
-use Rattle.tree_law.proofs.FloorLaw.{greatest, or_some, leaf_reaches, none_reached, nothing_before}
-use Rattle.tree_law.proofs.WalkLaw.{Seeks, Lasts, IsFinal, KnowsOn, ends, goes, goes_last, down_knows}
+use Rattle.tree_row.specs.tree_law.specs.Floors.{child_or, child_below}
+use Rattle.tree_row.specs.tree_law.specs.FloorWalks.{least_of, goes_back}
+use Rattle.tree_row.specs.tree_law.specs.Words.{LayerWord, LayerWords, word_in, reference_of, cell_in, tree_of}
+use Rattle.tree_row.specs.tree_law.specs.Words.{layer_of, room_of, IsLawful}
+use Rattle.tree_row.specs.tree_law.proofs.Spans.{first_is, span_pos, span_last, byte_small}
+use Rattle.tree_row.specs.tree_law.proofs.Reach.{is_nothing, within}
+use Rattle.tree_row.specs.tree_law.proofs.Avoiding.{join}
+use Rattle.tree_row.specs.tree_law.proofs.FloorLaw.{greatest, or_some, leaf_reaches, none_reached, nothing_before}
+use Rattle.tree_row.specs.tree_law.proofs.WalkLaw.{Seeks, Lasts, IsFinal, KnowsOn, ends, goes, goes_last, down_knows}
 use Rattle.tree_floor.specs.declared.floor.Floor.{Floor}
 use Rattle.tree_floor.specs.declared.floor.FloorAt.{FloorAt}
 use Rattle.tree_floor.specs.declared.floor.FloorAt.TheVariants as at
@@ -28,10 +34,13 @@ use Rattle.tree_floor.specs.declared.scan.Scanned.{Scanned}
 use Rattle.tree_floor.specs.declared.scan.Scanned.TheVariants.{More, Found}
 use Rattle.tree_floor.specs.Scans.{scan_offset, scan_told}
 use Rattle.tree_floor.specs.ScanLaws.{word_below}
-use Rattle.layer_map.specs.Keys.{key_number, IsKey}
+use Rattle.tree_row.specs.layer_map.specs.Keys.{key_number, IsKey}
 use Rattle.tree_floor.specs.Floors as floors
-use Rattle.tree_law.specs.Words.{kind_of, number_of}
-use Rattle.tree_floor.specs.Floors.{floor_word, floor_starts, floor_most, no_words, goes_to, lands, turns_back, back, enters, has_key, has_prefix, scans, wants_last, goes_down, has_scanned, floor_at_turned, floor_turned, IsFloor, floor_left, FloorAfter, floor_turn, FloorIsExact}
+use Rattle.tree_row.specs.tree_law.specs.Words.{kind_of, number_of}
+use Rattle.tree_floor.specs.Floors.{floor_word, floor_starts, floor_most, no_words, goes_to, lands, turns_back, back}
+use Rattle.tree_floor.specs.Floors.{enters, has_key, has_prefix, scans, wants_last, goes_down, has_scanned}
+use Rattle.tree_floor.specs.Floors.{floor_at_turned, floor_turned, IsFloor, floor_left, FloorAfter, floor_turn}
+use Rattle.tree_floor.specs.Floors.{FloorIsExact}
 use Rattle.tree_floor.specs.Telling.{turn_answer, answer_in}
 use Rattle.tree_floor.proofs.ScanExact.{Knows, After, told, begins}
 use Rattle.tree_floor.proofs.KeyWords.{AreRead, reads_on, read_number}

@@ -8,7 +8,7 @@ use Rattle.tree_floor.specs.declared.floor.FloorAt.TheVariants as at
 use Rattle.tree_floor.specs.declared.scan.Scan.{Scan}
 use Rattle.tree_floor.specs.declared.scan.Scan.TheVariants as scan
 use Rattle.tree_floor.specs.Scans.{scan_offset, IsScan, first_entry, entry_count}
-use Rattle.tree_law.specs.Words.{kind_of}
+use Rattle.tree_row.specs.tree_law.specs.Words.{kind_of}
 use Rattle.tree_row.specs.Rows.{HasLayerWord}
 use Rattle.tree_floor.specs.Floors.{floor_word, IsFloorAt, FloorOnlyLoads}
 

@@ -1,5 +1,6 @@
 -- A floor that makes its loads one after another.
-use Rattle.std.proofs.Common.{◌≡◌, ℕ, ◌+◌, ◌*◌, ◌%◌, ◌^◌, ◌<◌, ◌≤◌, Bool, cond, inl, inr, ◌⊎◌, List, [], ◌∷◌, length, slice_set}
+use Rattle.std.proofs.Common.{◌≡◌, ℕ, ◌+◌, ◌*◌, ◌%◌, ◌^◌, ◌<◌, ◌≤◌, Bool, cond, inl, inr, ◌⊎◌, List, [], ◌∷◌, length}
+use Rattle.std.proofs.Common.{slice_set}
 use Rattle.std.proofs.Common.{ap, sym, refl, subst, ◌∙◌, arith}
 use Rattle.std.proofs.lemmas.Bool.{lt-ltb}
 use Rattle.std.proofs.lemmas.Nat.{mul-le}
@@ -14,7 +15,7 @@ use Rattle.pm_words.specs.Rows.{CanAct, acted, got}
 use Rattle.pm_words.proofs.Apart.{words_within}
 use Rattle.machine_runs.specs.Runs.{begins}
 use Rattle.machine_runs.proofs.Running.{turn_bursts, third_can, thrice_bursts}
-use Rattle.tree_law.specs.Words.{RootWord, kind_of, number_of}
+use Rattle.tree_row.specs.tree_law.specs.Words.{RootWord, kind_of, number_of}
 use Rattle.tree_row.specs.Rows.{layer_address, HasLayerWord}
 use Rattle.tree_floor.specs.declared.floor.Floor.{Floor}
 use Rattle.tree_floor.specs.declared.floor.FloorAt.{FloorAt}

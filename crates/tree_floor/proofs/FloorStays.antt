@@ -1,5 +1,6 @@
 -- A floor stays one, reads less and less, and answers a node, whatever it is told.
-use Rattle.std.proofs.Common.{◌≡◌, ℕ, ◌+◌, ◌-◌, ◌*◌, ◌^◌, ◌<◌, ◌≤◌, ◌==◌, ◌&&◌, ◌||◌, not, Bool, true, false, cond, ltb, leb, List, slice_set, refl, arith}
+use Rattle.std.proofs.Common.{◌≡◌, ℕ, ◌+◌, ◌-◌, ◌*◌, ◌^◌, ◌<◌, ◌≤◌, ◌==◌, ◌&&◌, ◌||◌, not, Bool, true, false, cond}
+use Rattle.std.proofs.Common.{ltb, leb, List, slice_set, refl, arith}
 use Rattle.std.proofs.lemmas.Bool.{ltb-true, ltb-false, leb-true, leb-false, and_parts, eqb-false}
 use Rattle.pm_words.specs.declared.layout.Layout.{Layout}
 use Rattle.pm_words.specs.declared.machine.Turn.{Turn}
@@ -9,9 +10,9 @@ use Rattle.pm_words.specs.Locations.{leaf_count}
 use Rattle.pm_words.specs.Turns.{GoesBelow}
 use Rattle.cat_key.specs.declared.TheConstants.{WORDS}
 use Rattle.radix_nodes.specs.Keys.{key_bytes}
-use Rattle.tree_law.specs.Trees.{span, first_bytes, byte_at, way_length}
-use Rattle.tree_law.proofs.Spans.{byte_small}
-use Rattle.tree_law.proofs.WalkLaw.{node_small}
+use Rattle.tree_row.specs.tree_law.specs.Trees.{span, first_bytes, byte_at, way_length}
+use Rattle.tree_row.specs.tree_law.proofs.Spans.{byte_small}
+use Rattle.tree_row.specs.tree_law.proofs.WalkLaw.{node_small}
 use Rattle.tree_floor.specs.declared.floor.Floor.{Floor}
 use Rattle.tree_floor.specs.declared.floor.FloorAt.{FloorAt}
 use Rattle.tree_floor.specs.declared.floor.FloorAt.TheVariants as at
@@ -19,9 +20,12 @@ use Rattle.tree_floor.specs.declared.scan.Scanned.{Scanned}
 use Rattle.tree_floor.specs.declared.scan.Scanned.TheVariants.{More, Found}
 use Rattle.tree_floor.specs.Scans.{scan_starts, scan_told, scan_left}
 use Rattle.tree_floor.specs.ScanLaws.{ScanAfter}
-use Rattle.layer_map.specs.Keys.{key_number, IsKey}
-use Rattle.tree_law.specs.Words.{kind_of, number_of}
-use Rattle.tree_floor.specs.Floors.{no_words, goes_to, lands, turns_back, back, enters, has_key, has_prefix, scans, wants_last, goes_last, goes_down, has_scanned, floor_at_turned, floor_turned, IsCellOf, IsDeep, IsFloorAt, floor_takes, level, behind_left, floor_left, FloorAfter, FloorStays}
+use Rattle.tree_row.specs.layer_map.specs.Keys.{key_number, IsKey}
+use Rattle.tree_row.specs.tree_law.specs.Words.{kind_of, number_of}
+use Rattle.tree_floor.specs.Floors.{no_words, goes_to, lands, turns_back, back, enters, has_key, has_prefix, scans}
+use Rattle.tree_floor.specs.Floors.{wants_last, goes_last, goes_down, has_scanned, floor_at_turned, floor_turned}
+use Rattle.tree_floor.specs.Floors.{IsCellOf, IsDeep, IsFloorAt, floor_takes, level, behind_left, floor_left}
+use Rattle.tree_floor.specs.Floors.{FloorAfter, FloorStays}
 use Rattle.tree_floor.proofs.ScanLaw.{scans_end, scans_start}
 use Rattle.tree_floor.proofs.KeyWords.{no_words_key, key_set}
 

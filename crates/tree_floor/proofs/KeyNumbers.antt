@@ -1,14 +1,16 @@
 -- The bytes of a key, and its first bytes, by its number.
-use Rattle.std.proofs.Common.{◌≡◌, ℕ, zero, suc, ◌+◌, ◌-◌, ◌*◌, ◌/◌, ◌%◌, ◌^◌, ◌<◌, ◌≤◌, cond, inl, inr, sym, subst, ap, ap₂, ◌∙◌, arith, pow-suc, mul_assoc, mul_comm, div-mul-le_self, le-ltb, lt-ltb}
+use Rattle.std.proofs.Common.{◌≡◌, ℕ, zero, suc, ◌+◌, ◌-◌, ◌*◌, ◌/◌, ◌%◌, ◌^◌, ◌<◌, ◌≤◌, cond, inl, inr, sym, subst}
+use Rattle.std.proofs.Common.{ap, ap₂, ◌∙◌, arith, pow-suc, mul_assoc, mul_comm, div-mul-le_self, le-ltb, lt-ltb}
 use Rattle.std.proofs.lemmas.Bool.{cases_lt}
 use Rattle.std.proofs.lemmas.Nat.{pow-add, div_below}
 use Rattle.std.proofs.Math.Nat.{div-div-eq-div-mul, mul-add-div_right, mul-div_cancel}
 use Rattle.cat_key.specs.declared.TheConstants.{WORDS}
 use Rattle.radix_nodes.specs.Keys.{KeyWords, key_bytes, word_byte, key_byte_of}
 use Rattle.radix_nodes.proofs.Powers.{powers}
-use Rattle.tree_law.specs.Trees.{span, first_bytes, byte_at}
-use Rattle.tree_law.specs.Words.{number_of_key}
-use Rattle.tree_law.proofs.Spans.{span_is, span_pos, span_last, span_times, times, times_next, first_is, byte_is, power_pos, first_next, fewer_of_prefix}
+use Rattle.tree_row.specs.tree_law.specs.Trees.{span, first_bytes, byte_at}
+use Rattle.tree_row.specs.tree_law.specs.Words.{number_of_key}
+use Rattle.tree_row.specs.tree_law.proofs.Spans.{span_is, span_pos, span_last, span_times, times, times_next}
+use Rattle.tree_row.specs.tree_law.proofs.Spans.{first_is, byte_is, power_pos, first_next, fewer_of_prefix}
 use Rattle.tree_floor.specs.Keys.{ByteIsOfNumber, PrefixIsOfNumber}
 
 split_power : (n k : ℕ) → k ≤ n → 256 ^ n ≡ 256 ^ (n - k) * 256 ^ k

@@ -1,11 +1,12 @@
 -- Keys as their words are read, one after another.
-use Rattle.std.proofs.Common.{◌≡◌, ℕ, zero, suc, ◌+◌, ◌^◌, ◌<◌, List, slice_index, slice_set, inl, inr, refl, sym, subst, ap, ◌∙◌, arith}
+use Rattle.std.proofs.Common.{◌≡◌, ℕ, zero, suc, ◌+◌, ◌^◌, ◌<◌, List, slice_index, slice_set, inl, inr, refl, sym}
+use Rattle.std.proofs.Common.{subst, ap, ◌∙◌, arith}
 use Rattle.std.proofs.lemmas.Bool.{cases_eq}
 use Rattle.std.proofs.lemmas.List.{get_or-set_same, get_or-set_other, length-set}
 use Rattle.cat_key.specs.declared.TheConstants.{WORDS}
-use Rattle.tree_law.specs.Words.{number_of_key}
-use Rattle.tree_law.proofs.WordLaw.{words_alike}
-use Rattle.layer_map.specs.Keys.{key_number, IsKey}
+use Rattle.tree_row.specs.tree_law.specs.Words.{number_of_key}
+use Rattle.tree_row.specs.tree_law.proofs.WordLaw.{words_alike}
+use Rattle.tree_row.specs.layer_map.specs.Keys.{key_number, IsKey}
 use Rattle.tree_floor.specs.Floors.{no_words}
 
 -- the words of no key yet

@@ -11,19 +11,20 @@ use Rattle.pm_words.specs.Layouts.{IsLayout}
 use Rattle.pm_words.specs.Locations.{leaf_count}
 use Rattle.cat_key.specs.declared.TheConstants.{WORDS}
 use Rattle.radix_nodes.specs.Keys.{key_bytes}
-use Rattle.tree_law.specs.Trees.{span, first_bytes, byte_at, way_length}
-use Rattle.tree_law.specs.Words.{LayerWord, RootWord, LeafWord, CellWord, LayerWords, word_in, kind_of, number_of}
-use Rattle.tree_law.specs.Words.{IsLawful, layer_of}
-use Rattle.layer_map.specs.Layers.{IsFloorOf}
+use Rattle.tree_row.specs.tree_law.specs.Trees.{span, first_bytes, byte_at, way_length}
+use Rattle.tree_row.specs.tree_law.specs.Words.{LayerWord, RootWord, LeafWord, CellWord, LayerWords, word_in, kind_of}
+use Rattle.tree_row.specs.tree_law.specs.Words.{number_of}
+use Rattle.tree_row.specs.tree_law.specs.Words.{IsLawful, layer_of}
+use Rattle.tree_row.specs.layer_map.specs.Layers.{IsFloorOf}
 use Rattle.tree_row.specs.Rows.{layer_address, HasLayerWord}
-use Rattle.tree_law.specs.FloorWalks.{node_told}
+use Rattle.tree_row.specs.tree_law.specs.FloorWalks.{node_told}
 use Rattle.tree_floor.specs.declared.floor.Floor.{Floor}
 use Rattle.tree_floor.specs.declared.floor.FloorAt.{FloorAt}
 use Rattle.tree_floor.specs.declared.floor.FloorAt.TheVariants as at
 use Rattle.tree_floor.specs.declared.scan.Scanned.{Scanned}
 use Rattle.tree_floor.specs.declared.scan.Scanned.TheVariants.{More, Found}
 use Rattle.tree_floor.specs.Scans.{scan_starts, scan_offset, scan_told, IsScan, scan_left}
-use Rattle.layer_map.specs.Keys.{key_number, IsKey}
+use Rattle.tree_row.specs.layer_map.specs.Keys.{key_number, IsKey}
 use Rattle.tree_floor.specs.Telling.{answer_in}
 
 abbrev pub cell_word : ℕ → ℕ → LayerWord

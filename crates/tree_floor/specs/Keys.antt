@@ -1,8 +1,8 @@
 -- The bytes of keys, by their words and by their number.
 use Rattle.std.specs.Prelude.{◌≡◌, ℕ, ◌*◌, ◌^◌, ◌<◌}
 use Rattle.radix_nodes.specs.Keys.{KeyWords, key_bytes, key_byte_of, IsPrefixOf}
-use Rattle.tree_law.specs.Trees.{span, first_bytes, byte_at}
-use Rattle.tree_law.specs.Words.{number_of_key}
+use Rattle.tree_row.specs.tree_law.specs.Trees.{span, first_bytes, byte_at}
+use Rattle.tree_row.specs.tree_law.specs.Words.{number_of_key}
 
 -- A byte of a key is that of its number.
 abbrev pub ByteIsOfNumber : Type 0

@@ -1,7 +1,7 @@
 //! The floor of a key, from the root of the tree down.
 
 ghost use Rattle.std.specs.Prelude.{◌≡◌};
-ghost use Rattle.tree_law.specs.FloorWalks.{node_told};
+ghost use Rattle.tree_row.specs.tree_law.specs.FloorWalks.{node_told};
 
 use crate::scan::{BYTES, Scan, Scanned, better_of, child_of, entry_count, first_entry};
 use crate::words::{KEY_WORDS, ROOT, byte_of, is_at_most, is_prefix, word_of};

@@ -4,9 +4,9 @@ ghost use Rattle.std.specs.Prelude.{◌≡◌, ◌==◌, ◌*◌, ◌<◌, nat_l
 ghost use Rattle.pm_words.specs.Layouts.{IsLayout};
 ghost use Rattle.pm_words.specs.Locations.{Cell, word_number, image_words, kind_words};
 ghost use Rattle.radix_nodes.specs.Keys.{key_bytes};
-ghost use Rattle.tree_law.specs.Trees.{span, first_bytes, byte_at};
-ghost use Rattle.tree_law.specs.Words.{kind_of, number_of};
-ghost use Rattle.layer_map.specs.Keys.{key_number};
+ghost use Rattle.tree_row.specs.tree_law.specs.Trees.{span, first_bytes, byte_at};
+ghost use Rattle.tree_row.specs.tree_law.specs.Words.{kind_of, number_of};
+ghost use Rattle.tree_row.specs.layer_map.specs.Keys.{key_number};
 ghost use Rattle.tree_floor.specs.Floors.{IsCellOf};
 
 use cat_key::WORDS;

@@ -1,16 +1,20 @@
 -- Mixes of the words of one stage.
-use Rattle.std.proofs.Common.{◌≡◌, ◌≢◌, ℕ, ◌+◌, ◌*◌, ◌/◌, ◌%◌, ◌<◌, ◌⊎◌, inl, inr, refl, sym, subst, ap, ap₂, ◌∙◌, arith, ◌^◌}
+use Rattle.std.proofs.Common.{◌≡◌, ◌≢◌, ℕ, ◌+◌, ◌*◌, ◌/◌, ◌%◌, ◌<◌, ◌⊎◌, inl, inr, refl, sym, subst, ap, ap₂, ◌∙◌}
+use Rattle.std.proofs.Common.{arith, ◌^◌}
 use Rattle.std.proofs.lemmas.Bool.{cases_eq}
 use Rattle.layer_map.specs.Layers.{Layer, AreSame}
-use Rattle.cat_key.specs.declared.TheConstants.{WORDS}
+use Rattle.layer_map.specs.cat_key.specs.declared.TheConstants.{WORDS}
 use Rattle.tree_law.specs.Trees.{Reference, Nothing, Leaf, Cell, IsReached}
 use Rattle.radix_nodes.specs.Cells.{IsForm}
 use Rattle.tree_law.specs.Switches.{AreSameWhereReached, IsSameAt}
-use Rattle.tree_law.specs.Words.{LayerWord, RootWord, LeafWord, CellWord, LayerWords, word_in, kind_of, number_of, reference_of, cell_in, tree_of, layer_of, room_of, Keeps, Part, LeafPart, CellPart, part_reference, part_word}
+use Rattle.tree_law.specs.Words.{LayerWord, RootWord, LeafWord, CellWord, LayerWords, word_in, kind_of, number_of}
+use Rattle.tree_law.specs.Words.{reference_of, cell_in, tree_of, layer_of, room_of, Keeps, Part, LeafPart, CellPart}
+use Rattle.tree_law.specs.Words.{part_reference, part_word}
 use Rattle.tree_law.specs.Stages.{FillsKeep, SwitchesKeep, QuietKeeps, SomeIsFree}
 use Rattle.tree_law.proofs.OtherLaw.{others_may_differ}
 use Rattle.tree_law.proofs.RoomLaw.{leaves_are_few, cells_are_few}
-use Rattle.tree_law.proofs.WordLaw.{part_may_differ, part_reached, cell_apart, depth_kept, prefix_kept, child_kept, form_kept, head_kept, leaf_key}
+use Rattle.tree_law.proofs.WordLaw.{part_may_differ, part_reached, cell_apart, depth_kept, prefix_kept, child_kept}
+use Rattle.tree_law.proofs.WordLaw.{form_kept, head_kept, leaf_key}
 
 -- the same words, one by one
 pub same_words : (w w' : LayerWords) → ((p : LayerWord) → word_in w' p ≡ word_in w p) → w' ≡ w

@@ -1,12 +1,17 @@
 -- What stores and mixes of words make of the layer that they keep.
-use Rattle.std.proofs.Common.{◌≡◌, ◌≢◌, ℕ, ◌+◌, ◌-◌, ◌*◌, ◌^◌, ◌<◌, Some, inl, inr, refl, sym, subst, ap, ap₂, ◌∙◌, arith}
+use Rattle.std.proofs.Common.{◌≡◌, ◌≢◌, ℕ, ◌+◌, ◌-◌, ◌*◌, ◌^◌, ◌<◌, Some, inl, inr, refl, sym, subst, ap, ap₂, ◌∙◌}
+use Rattle.std.proofs.Common.{arith}
 use Rattle.std.proofs.lemmas.Bool.{cases_eq}
 use Rattle.tree_law.specs.Trees.{Reference, Nothing, Leaf, Cell, Tree, Reaches, here, IsReached, IsSound}
-use Rattle.cat_key.specs.declared.TheConstants.{WORDS}
+use Rattle.layer_map.specs.cat_key.specs.declared.TheConstants.{WORDS}
 use Rattle.radix_nodes.specs.Keys.{KeyWords}
 use Rattle.radix_nodes.specs.Cells.{prefix_words, children, IsForm}
-use Rattle.tree_law.specs.Switches.{Place, Root, Entry, reference_at, rooted, IsSwitched, Makes, AreSameWhereReached, IsSameAt, StaysTree}
-use Rattle.tree_law.specs.Words.{Stored, RootWord, LeafWord, CellWord, LayerWords, kind_of, number_of, number_of_key, reference_of, cell_in, tree_of, room_of, IsLawful, IsSwitchStore, at_root, in_cell, SwitchMakes, NodeWordMakes, Part, LeafPart, CellPart, part_reference, part_word, AreSameBut, PartMayDiffer}
+use Rattle.tree_law.specs.Switches.{Place, Root, Entry, reference_at, rooted, IsSwitched, Makes, AreSameWhereReached}
+use Rattle.tree_law.specs.Switches.{IsSameAt, StaysTree}
+use Rattle.tree_law.specs.Words.{Stored, RootWord, LeafWord, CellWord, LayerWords, kind_of, number_of, number_of_key}
+use Rattle.tree_law.specs.Words.{reference_of, cell_in, tree_of, room_of, IsLawful, IsSwitchStore, at_root, in_cell}
+use Rattle.tree_law.specs.Words.{SwitchMakes, NodeWordMakes, Part, LeafPart, CellPart, part_reference, part_word}
+use Rattle.tree_law.specs.Words.{AreSameBut, PartMayDiffer}
 use Rattle.tree_law.proofs.Avoiding.{Avoids, was, reaches}
 use Rattle.tree_law.proofs.OtherLaw.{rename_makes, others_may_differ, from_named}
 

@@ -1,6 +1,6 @@
 -- The words of an empty catalogue: the zero key leads to node 0, by the first leaf.
 use Rattle.std.specs.Prelude.{ℕ, ◌^◌, ◌<◌, ◌≤◌, ◌==◌, ◌&&◌, if◌then◌else◌, Some, None}
-use Rattle.cat_key.specs.declared.TheConstants.{WORDS}
+use Rattle.layer_map.specs.cat_key.specs.declared.TheConstants.{WORDS}
 use Rattle.layer_map.specs.Layers.{Layer}
 use Rattle.tree_law.specs.Words.{LayerWords, Keeps}
 use Rattle.tree_law.specs.Stages.{Marks, MarksTell}

@@ -11,3 +11,5 @@ pub mod Changes
 pub mod Leaves
 pub mod Reached
 pub mod Marking
+-- crates below, for those above that name them through this one
+pub use Rattle.layer_map

@@ -1,6 +1,6 @@
 -- What a change of the words makes of what their tree reaches, and of the marks that tell it.
 use Rattle.std.specs.Prelude.{◌≡◌, ◌≢◌, ℕ, ◌<◌, ◌≤◌}
-use Rattle.cat_key.specs.declared.TheConstants.{WORDS}
+use Rattle.layer_map.specs.cat_key.specs.declared.TheConstants.{WORDS}
 use Rattle.tree_law.specs.Trees.{Reference, Nothing, Leaf, Cell, IsReached, low, depth_of}
 use Rattle.tree_law.specs.Switches.{Place, Entry, reference_at, Removes, Collapses}
 use Rattle.tree_law.specs.Reached.{Parts, NoPart, Only, Both, IsAmong, ReachesAfter}

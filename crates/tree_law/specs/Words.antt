@@ -1,7 +1,7 @@
 -- The words in which a tree is kept, of one row, and what stores and mixes of them make of its layer.
 use Rattle.std.specs.Prelude.{◌≡◌, ◌≢◌, ℕ, ◌-◌, ◌/◌, ◌%◌, ◌^◌, ◌≤◌, ◌==◌, ◌&&◌, ◌⊎◌}
 use Rattle.std.specs.Prelude.{nat_lt, nat_le, if◌then◌else◌, Option, Some}
-use Rattle.cat_key.specs.declared.TheConstants.{WORDS}
+use Rattle.layer_map.specs.cat_key.specs.declared.TheConstants.{WORDS}
 use Rattle.radix_nodes.specs.Keys.{KeyWords}
 use Rattle.radix_nodes.specs.Cells.{CellWords, prefix_words, children, IsForm}
 use Rattle.radix_nodes.specs.Changes.{IsCellStore}

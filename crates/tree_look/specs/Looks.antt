@@ -13,7 +13,7 @@ use Rattle.radix_nodes.specs.Keys.{key_bytes}
 use Rattle.tree_law.specs.Trees.{span, first_bytes, byte_at, way_length}
 use Rattle.tree_law.specs.Words.{LayerWord, RootWord, LeafWord, kind_of, number_of}
 use Rattle.layer_map.specs.Keys.{key_number, IsKey}
-use Rattle.tree_row.specs.Rows.{layer_address}
+use Rattle.tree_floor.specs.tree_row.specs.Rows.{layer_address}
 use Rattle.tree_floor.specs.Floors.{cell_word, no_words, IsCellOf, IsDeep}
 use Rattle.tree_look.specs.declared.find.Findings.{Findings}
 use Rattle.tree_look.specs.declared.find.Findings.TheVariants.{More, Found, Absent}

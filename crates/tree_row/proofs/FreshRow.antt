@@ -1,12 +1,13 @@
 -- The words of the layer in a fresh image: the root refers to the first leaf, and that leads the zero key to node 0.
-use Rattle.std.proofs.Common.{◌≡◌, ℕ, zero, suc, ◌==◌, ◌&&◌, Bool, true, false, cond, ltb, Some, None, inl, inr, refl, sym, ap, ◌∙◌, subst, arith, lt-ltb}
+use Rattle.std.proofs.Common.{◌≡◌, ℕ, zero, suc, ◌==◌, ◌&&◌, Bool, true, false, cond, ltb, Some, None, inl, inr, refl}
+use Rattle.std.proofs.Common.{sym, ap, ◌∙◌, subst, arith, lt-ltb}
 use Rattle.std.proofs.lemmas.Bool.{cases_eq, eq-eqb, ne_eqb}
 use Rattle.pm_words.specs.declared.layout.Layout.{Layout}
 use Rattle.pm_words.specs.Images.{fresh_words, fresh_word}
 use Rattle.pm_words.specs.Locations.{Leaf, leaf_count, word_at}
 use Rattle.pm_words.proofs.Made.{fresh_at}
 use Rattle.tree_law.specs.Fresh as tree
-use Rattle.layer_map.proofs.FewLemmas.{few_apart}
+use Rattle.tree_law.specs.layer_map.proofs.FewLemmas.{few_apart}
 use Rattle.tree_law.specs.Words.{LayerWord, RootWord, LeafWord, CellWord, LayerWords, word_in, layer_of, Keeps}
 use Rattle.tree_law.proofs.FreshLaw.{fresh_is_lawful}
 use Rattle.tree_row.specs.Rows.{image_word, has_layer_word, image_layer, image_layer_word, FreshReads, FreshKeeps}

@@ -9,7 +9,7 @@ use Rattle.pm_words.specs.Locations.{leaf_count, kind_words, row_words, address_
 use Rattle.pm_words.specs.Images.{IsImage, fresh_words}
 use Rattle.pm_words.specs.Layouts.{IsLayout}
 use Rattle.pm_words.specs.Rows.{acted, evicted, durable_row, row_of}
-use Rattle.layer_map.specs.Layers.{HasFew}
+use Rattle.tree_law.specs.layer_map.specs.Layers.{HasFew}
 use Rattle.tree_law.specs.Fresh as tree
 use Rattle.tree_law.specs.Words.{LayerWord, RootWord, LeafWord, CellWord, LayerWords, word_in, layer_of, Keeps}
 use Rattle.tree_law.specs.Words.{Stored, IsMix}

@@ -6,3 +6,6 @@ pub mod Stages
 pub mod Runs
 pub mod Kinds
 pub mod Alone
+-- crates below, for those above that name them through this one
+pub use Rattle.tree_look
+pub use Rattle.tree_change

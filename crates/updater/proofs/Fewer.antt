@@ -1,5 +1,6 @@
 -- With each turn of its floor or of its change, and with each node, a turn of the updater has less left.
-use Rattle.std.proofs.Common.{◌≡◌, ℕ, ◌+◌, ◌^◌, ◌<◌, ◌≤◌, ◌==◌, ◌-◌, ◌&&◌, not, Bool, true, false, cond, ltb, refl, subst, sym, arith}
+use Rattle.std.proofs.Common.{◌≡◌, ℕ, ◌+◌, ◌^◌, ◌<◌, ◌≤◌, ◌==◌, ◌-◌, ◌&&◌, not, Bool, true, false, cond, ltb, refl}
+use Rattle.std.proofs.Common.{subst, sym, arith}
 use Rattle.std.proofs.lemmas.Bool.{ltb-true}
 use Rattle.pm_words.specs.Codes.{free_status, gone_status, merge_kind}
 use Rattle.pm_words.specs.declared.machine.Turn.{Turn}
@@ -8,18 +9,19 @@ use Rattle.pm_words.specs.Turns.{GoesBelow}
 use Rattle.tree_floor.specs.declared.floor.Floor.{Floor}
 use Rattle.tree_floor.specs.Floors.{floor_turned, floor_left}
 use Rattle.tree_floor.proofs.FloorStays.{floor_fewer}
-use Rattle.tree_update.specs.declared.change.Change.{Change}
-use Rattle.tree_update.specs.declared.change.Ended.{Ended}
-use Rattle.tree_update.specs.declared.set.Set.{Set}
-use Rattle.tree_update.specs.declared.set.Unset.{Unset}
-use Rattle.tree_update.specs.Changes.{change_left, change_turned}
-use Rattle.tree_update.specs.Sets.{IsSet, IsUnset, set_of, set_left, unset_of, unset_left}
-use Rattle.tree_update.proofs.ChangeStays.{change_fewer}
+use Rattle.updater_row_law.specs.tree_update.specs.declared.change.Change.{Change}
+use Rattle.updater_row_law.specs.tree_update.specs.declared.change.Ended.{Ended}
+use Rattle.updater_row_law.specs.tree_update.specs.declared.set.Set.{Set}
+use Rattle.updater_row_law.specs.tree_update.specs.declared.set.Unset.{Unset}
+use Rattle.updater_row_law.specs.tree_update.specs.Changes.{change_left, change_turned}
+use Rattle.updater_row_law.specs.tree_update.specs.Sets.{IsSet, IsUnset, set_of, set_left, unset_of, unset_left}
+use Rattle.updater_row_law.specs.tree_update.proofs.ChangeStays.{change_fewer}
 use Rattle.smo_log.specs.declared.line.Entry.{Entry}
 use Rattle.updater.specs.declared.work.Work.{Work}
 use Rattle.updater.specs.declared.work.WorkAt.{WorkAt}
 use Rattle.updater.specs.declared.work.WorkAt.TheVariants as at
-use Rattle.updater.specs.Works.{IsWork, IsWorkAt, changed, clears, has_landed, has_set, has_unset, lines_left, nodes_left, on, work_at_left, work_at_turned, work_left, work_turned}
+use Rattle.updater.specs.Works.{IsWork, IsWorkAt, changed, clears, has_landed, has_set, has_unset, lines_left}
+use Rattle.updater.specs.Works.{nodes_left, on, work_at_left, work_at_turned, work_left, work_turned}
 
 -- what it keeps at its state
 pub here_at : (work : Work) (a : WorkAt) → IsWork work → work.at ≡ a → IsWorkAt work.terms work.tally a

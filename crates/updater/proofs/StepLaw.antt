@@ -1,5 +1,6 @@
 -- Each turn is a step of its stage.
-use Rattle.std.proofs.Common.{◌≡◌, ◌≢◌, ℕ, ◌+◌, ◌*◌, ◌<◌, ◌≤◌, ◌==◌, ◌&&◌, not, Bool, true, false, cond, ltb, leb, List, [], ◌∷◌, inl, inr, refl, sym, subst, ap, ◌∙◌, arith}
+use Rattle.std.proofs.Common.{◌≡◌, ◌≢◌, ℕ, ◌+◌, ◌*◌, ◌<◌, ◌≤◌, ◌==◌, ◌&&◌, not, Bool, true, false, cond, ltb, leb}
+use Rattle.std.proofs.Common.{List, [], ◌∷◌, inl, inr, refl, sym, subst, ap, ◌∙◌, arith}
 use Rattle.std.specs.Prelude.{slice_set}
 use Rattle.std.proofs.lemmas.Bool.{eqb-true, eqb-false, ltb-true, ltb-false, leb-true, leb-false}
 use Rattle.pm_words.specs.Codes.{gone_status, free_status, ready_state, merge_kind}
@@ -24,23 +25,27 @@ use Rattle.pm_alloc.specs.declared.gone.Release.{Release}
 use Rattle.pm_alloc.specs.declared.gone.ReleaseAt.{ReleaseAt}
 use Rattle.pm_alloc.specs.declared.gone.ReleaseAt.TheVariants as release_at
 use Rattle.pm_alloc.specs.Gone.{stamp_address, release_at_asks, release_at_turned, release_from}
-use Rattle.tree_update.specs.declared.change.Change.{Change}
-use Rattle.tree_update.specs.declared.change.Ended.{Ended}
+use Rattle.updater_row_law.specs.tree_update.specs.declared.change.Change.{Change}
+use Rattle.updater_row_law.specs.tree_update.specs.declared.change.Ended.{Ended}
 use Rattle.tree_floor.specs.declared.floor.Floor.{Floor}
-use Rattle.tree_update.specs.Changes.{change_asks, change_turned}
+use Rattle.updater_row_law.specs.tree_update.specs.Changes.{change_asks, change_turned}
 use Rattle.tree_floor.specs.Floors.{floor_asks, floor_turned}
-use Rattle.tree_update.specs.Sets.{set_of, unset_of, set_starts, unset_starts}
-use Rattle.tree_update.specs.Stages.{Aim, aim_of}
-use Rattle.search_layer.specs.ChangeStages.{ChangeStep, stage_of, stage_after as change_after, start_stage}
-use Rattle.search_layer.specs.Laws.{SoundAfter}
-use Rattle.search_layer.proofs.FloorLemmas.{only_loads as floor_only_loads}
-use Rattle.search_layer.proofs.StepLaw.{changes_are_steps, changes_stay_sound}
+use Rattle.updater_row_law.specs.tree_update.specs.Sets.{set_of, unset_of, set_starts, unset_starts}
+use Rattle.updater_row_law.specs.tree_update.specs.Stages.{Aim, aim_of}
+use Rattle.updater_row_law.specs.search_layer.specs.ChangeStages.{ChangeStep, stage_of, stage_after as change_after}
+use Rattle.updater_row_law.specs.search_layer.specs.ChangeStages.{start_stage}
+use Rattle.updater_row_law.specs.search_layer.specs.Laws.{SoundAfter}
+use Rattle.updater_row_law.specs.search_layer.proofs.FloorLemmas.{only_loads as floor_only_loads}
+use Rattle.updater_row_law.specs.search_layer.proofs.StepLaw.{changes_are_steps, changes_stay_sound}
 use Rattle.smo_log.specs.declared.line.Entry.{Entry}
 use Rattle.smo_log.specs.declared.read.ReadLine.{ReadLine}
 use Rattle.smo_log.specs.LogLines.{numbered_address}
 use Rattle.smo_log.specs.Reads.{read_asks, read_turned, seen_in}
 use Rattle.updater_row_law.specs.Columns.{RowTerms}
-use Rattle.updater_row_law.specs.RowStages.{line_read, RowStage, Resting, Between, Reads, Lands, HasTarget, Changes, Stamps, Clears, Sweeps, Gone, HasStamp, IsUnworn, Frees, Counts, after_line as line_done, after_node as node_done, after_change as change_done}
+use Rattle.updater_row_law.specs.RowStages.{line_read, RowStage, Resting, Between, Reads, Lands, HasTarget, Changes}
+use Rattle.updater_row_law.specs.RowStages.{Stamps, Clears, Sweeps, Gone, HasStamp, IsUnworn, Frees, Counts}
+use Rattle.updater_row_law.specs.RowStages.{after_line as line_done, after_node as node_done}
+use Rattle.updater_row_law.specs.RowStages.{after_change as change_done}
 use Rattle.updater_row_law.specs.RowStages as rows
 use Rattle.updater_row_law.specs.RowSteps.{RowStep, line_at}
 use Rattle.updater_row_law.specs.RowSteps as steps
@@ -53,9 +58,13 @@ use Rattle.updater.specs.declared.work.WorkAt.TheVariants as at
 use Rattle.updater.specs.Takings.{taking_asks, taking_from}
 use Rattle.updater_row_law.specs.Columns.{line_count}
 use Rattle.updater_row_law.specs.RowStages.{are_same}
-use Rattle.updater.specs.Works.{work_at_asks, after_line, reads_fields, saw_state, changes, clears, changed, after_node, saw_status, saw_stamp, saw_version, after_count, on, leaves, found_at, saw_again, has_read, has_landed, has_walked, has_set, has_unset, has_released, work_at_turned, IsReading, IsWalkTo, IsWorkAt, ToldOfLine}
+use Rattle.updater.specs.Works.{work_at_asks, after_line, reads_fields, saw_state, changes, clears, changed}
+use Rattle.updater.specs.Works.{after_node, saw_status, saw_stamp, saw_version, after_count, on, leaves, found_at}
+use Rattle.updater.specs.Works.{saw_again, has_read, has_landed, has_walked, has_set, has_unset, has_released}
+use Rattle.updater.specs.Works.{work_at_turned, IsReading, IsWalkTo, IsWorkAt, ToldOfLine}
 use Rattle.updater.proofs.WalkLoads.{walk_place, walk_told}
-use Rattle.updater.specs.Steps.{row_terms, line_of, target_of, release_stage, work_at_stage, work_stage, stage_after, stage_taken, TakingsAreSteps, WorksStart, WorksAreSteps}
+use Rattle.updater.specs.Steps.{row_terms, line_of, target_of, release_stage, work_at_stage, work_stage, stage_after}
+use Rattle.updater.specs.Steps.{stage_taken, TakingsAreSteps, WorksStart, WorksAreSteps}
 
 pub takings_are_steps : TakingsAreSteps
 takings_are_steps terms x = elim (x == 0) as (λ b. (x == 0) ≡ b → RowStep terms Resting (taking_asks (taking_from terms.layout)) x (stage_taken (Done (cond b took.Taken (took.Held x))))) [

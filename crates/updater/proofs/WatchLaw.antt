@@ -1,5 +1,6 @@
 -- Each turn is a watch, and sees the target that it finds.
-use Rattle.std.proofs.Common.{◌≡◌, ℕ, ◌+◌, ◌<◌, ◌==◌, ◌&&◌, not, Bool, true, false, cond, refl, sym, subst, ap, ◌∙◌, arith}
+use Rattle.std.proofs.Common.{◌≡◌, ℕ, ◌+◌, ◌<◌, ◌==◌, ◌&&◌, not, Bool, true, false, cond, refl, sym, subst, ap, ◌∙◌}
+use Rattle.std.proofs.Common.{arith}
 use Rattle.pm_words.specs.Codes.{free_status}
 use Rattle.pm_words.specs.declared.layout.Layout.{Layout}
 use Rattle.pm_words.specs.declared.action.Action.{Action}
@@ -24,11 +25,11 @@ use Rattle.pm_alloc.specs.declared.gone.ReleaseAt.{ReleaseAt}
 use Rattle.pm_alloc.specs.declared.gone.ReleaseAt.TheVariants as release_at
 use Rattle.pm_alloc.specs.Gone.{release_from, release_turned}
 use Rattle.tree_floor.specs.declared.floor.Floor.{Floor}
-use Rattle.tree_update.specs.declared.set.Set.{Set}
-use Rattle.tree_update.specs.declared.set.Unset.{Unset}
-use Rattle.tree_update.specs.declared.change.Ended.{Ended}
+use Rattle.updater_row_law.specs.tree_update.specs.declared.set.Set.{Set}
+use Rattle.updater_row_law.specs.tree_update.specs.declared.set.Unset.{Unset}
+use Rattle.updater_row_law.specs.tree_update.specs.declared.change.Ended.{Ended}
 use Rattle.tree_floor.specs.Floors.{floor_turned}
-use Rattle.tree_update.specs.Sets.{set_starts, set_turned, unset_starts, unset_turned}
+use Rattle.updater_row_law.specs.tree_update.specs.Sets.{set_starts, set_turned, unset_starts, unset_turned}
 use Rattle.smo_log.specs.declared.line.Entry.{Entry}
 use Rattle.smo_log.specs.declared.read.LineSeen.{LineSeen}
 use Rattle.smo_log.specs.declared.read.ReadLine.{ReadLine}
@@ -43,10 +44,13 @@ use Rattle.updater.specs.declared.terms.Found.{Found}
 use Rattle.updater.specs.declared.work.Work.{Work}
 use Rattle.updater.specs.declared.work.WorkAt.{WorkAt}
 use Rattle.updater.specs.declared.work.WorkAt.TheVariants as at
-use Rattle.updater.specs.Works.{work_at_asks, work_asks, after_line, reads_fields, changes, clears, changed, after_node, on, leaves, saw_again, has_read, has_landed, has_walked, has_set, has_unset, has_released, work_at_turned, work_turned, IsWalkTo, IsWorkAt, ToldOfLine}
+use Rattle.updater.specs.Works.{work_at_asks, work_asks, after_line, reads_fields, changes, clears, changed}
+use Rattle.updater.specs.Works.{after_node, on, leaves, saw_again, has_read, has_landed, has_walked, has_set}
+use Rattle.updater.specs.Works.{has_unset, has_released, work_at_turned, work_turned, IsWalkTo, IsWorkAt, ToldOfLine}
 use Rattle.updater.specs.Steps.{row_terms, line_of, target_of, release_stage, work_at_stage, stage_after}
 use Rattle.updater_row_law.specs.Turnings.{SeesTarget}
-use Rattle.updater.specs.Watches.{work_at_watching, work_watching, SeesFound, WorkWatches, WorksAreWatches, TargetsAreSeen, KeysHaveOneNumber, WalksAreTold}
+use Rattle.updater.specs.Watches.{work_at_watching, work_watching, SeesFound, WorkWatches, WorksAreWatches}
+use Rattle.updater.specs.Watches.{TargetsAreSeen, KeysHaveOneNumber, WalksAreTold}
 use Rattle.updater.proofs.WalkLoads.{LoadsApart, walk_place, walk_told, turn_told}
 
 module _ (work : Work) (w : Watching) (action : Action) (x : ℕ) where

@@ -1,5 +1,6 @@
 -- A turn answers by what it was told.
-use Rattle.std.proofs.Common.{◌≡◌, ◌≢◌, ℕ, ◌+◌, ◌^◌, ◌<◌, ◌≤◌, ◌==◌, ◌&&◌, ◌↔◌, not, Bool, true, false, cond, ltb, inl, inr, refl, sym, subst, ap, ◌∙◌, add-one, arith}
+use Rattle.std.proofs.Common.{◌≡◌, ◌≢◌, ℕ, ◌+◌, ◌^◌, ◌<◌, ◌≤◌, ◌==◌, ◌&&◌, ◌↔◌, not, Bool, true, false, cond, ltb}
+use Rattle.std.proofs.Common.{inl, inr, refl, sym, subst, ap, ◌∙◌, add-one, arith}
 use Rattle.std.specs.Prelude.{slice_set}
 use Rattle.std.proofs.lemmas.Bool.{cases_eq, eqb-true, eqb-false, eq-eqb, ltb-false, and_from}
 use Rattle.pm_words.specs.Codes.{free_status, gone_status, merge_kind}
@@ -17,15 +18,15 @@ use Rattle.pm_alloc.specs.declared.gone.ReleaseAt.{ReleaseAt}
 use Rattle.pm_alloc.specs.declared.gone.ReleaseAt.TheVariants as release_at
 use Rattle.pm_alloc.specs.Gone.{release_from, release_at_turned}
 use Rattle.tree_floor.specs.declared.floor.Floor.{Floor}
-use Rattle.tree_update.specs.declared.set.Set.{Set}
-use Rattle.tree_update.specs.declared.set.Unset.{Unset}
-use Rattle.tree_update.specs.declared.change.Ended.{Ended}
-use Rattle.tree_update.specs.Stages.{Aim}
-use Rattle.search_layer.specs.Laws.{SetAfter, UnsetAfter}
-use Rattle.tree_update.specs.Stages.{aim_of}
-use Rattle.search_layer.proofs.StepLaw.{sets_stay_sound, unsets_stay_sound}
+use Rattle.updater_row_law.specs.tree_update.specs.declared.set.Set.{Set}
+use Rattle.updater_row_law.specs.tree_update.specs.declared.set.Unset.{Unset}
+use Rattle.updater_row_law.specs.tree_update.specs.declared.change.Ended.{Ended}
+use Rattle.updater_row_law.specs.tree_update.specs.Stages.{Aim}
+use Rattle.updater_row_law.specs.search_layer.specs.Laws.{SetAfter, UnsetAfter}
+use Rattle.updater_row_law.specs.tree_update.specs.Stages.{aim_of}
+use Rattle.updater_row_law.specs.search_layer.proofs.StepLaw.{sets_stay_sound, unsets_stay_sound}
 use Rattle.tree_floor.specs.Floors.{floor_turned}
-use Rattle.tree_update.specs.Sets.{set_starts, set_turned, unset_starts, unset_turned}
+use Rattle.updater_row_law.specs.tree_update.specs.Sets.{set_starts, set_turned, unset_starts, unset_turned}
 use Rattle.smo_log.specs.declared.line.Entry.{Entry}
 use Rattle.smo_log.specs.declared.read.LineSeen.{LineSeen}
 use Rattle.smo_log.specs.declared.read.ReadLine.{ReadLine}
@@ -38,9 +39,14 @@ use Rattle.updater.specs.declared.work.WorkAt.{WorkAt}
 use Rattle.updater.specs.declared.work.WorkAt.TheVariants as at
 use Rattle.updater_row_law.specs.Columns.{line_count}
 use Rattle.updater_row_law.specs.RowStages.{are_same}
-use Rattle.updater.specs.Works.{after_line, reads_fields, saw_state, changes, clears, changed, after_node, saw_status, allows, saw_stamp, saw_version, after_count, on, leaves, found_at, saw_again, has_read, has_landed, has_walked, has_set, has_unset, has_released, work_at_asks, work_at_turned, IsOnLine, IsWorkAt, IsTerms}
+use Rattle.updater.specs.Works.{after_line, reads_fields, saw_state, changes, clears, changed, after_node, saw_status}
+use Rattle.updater.specs.Works.{allows, saw_stamp, saw_version, after_count, on, leaves, found_at, saw_again}
+use Rattle.updater.specs.Works.{has_read, has_landed, has_walked, has_set, has_unset, has_released, work_at_asks}
+use Rattle.updater.specs.Works.{work_at_turned, IsOnLine, IsWorkAt, IsTerms}
 use Rattle.updater.specs.Takings.{updater_address}
-use Rattle.updater.specs.Events.{Heard, SaysSo, word_led, how_many, stands, was_ready, is_emptied, is_left, is_freed, NoneFree, EndsSo, IsTold, HasLines, HasNodes, IsFoundBy, HasHeard, Heeds, WorksBegin, WorksHeed, WorksLeave}
+use Rattle.updater.specs.Events.{Heard, SaysSo, word_led, how_many, stands, was_ready, is_emptied, is_left, is_freed}
+use Rattle.updater.specs.Events.{NoneFree, EndsSo, IsTold, HasLines, HasNodes, IsFoundBy, HasHeard, Heeds, WorksBegin}
+use Rattle.updater.specs.Events.{WorksHeed, WorksLeave}
 
 -- one number more is counted where it is so, and else not
 counted : (test : ℕ → Bool) (n : ℕ) → test n ≡ true → how_many test (n + 1) ≡ how_many test n + 1

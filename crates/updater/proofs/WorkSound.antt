@@ -1,5 +1,6 @@
 -- A turn goes on as one whose fields keep the same.
-use Rattle.std.proofs.Common.{◌≡◌, ◌≢◌, ℕ, zero, suc, ◌+◌, ◌*◌, ◌^◌, ◌<◌, ◌≤◌, ◌==◌, Bool, true, false, cond, ltb, List, [], ◌∷◌, length, slice_index, inl, inr, refl, sym, subst, ap, ◌∙◌, arith}
+use Rattle.std.proofs.Common.{◌≡◌, ◌≢◌, ℕ, zero, suc, ◌+◌, ◌*◌, ◌^◌, ◌<◌, ◌≤◌, ◌==◌, Bool, true, false, cond, ltb}
+use Rattle.std.proofs.Common.{List, [], ◌∷◌, length, slice_index, inl, inr, refl, sym, subst, ap, ◌∙◌, arith}
 use Rattle.std.specs.Prelude.{slice_set}
 use Rattle.std.proofs.lemmas.Bool.{cases_eq, ltb-true, ltb-false}
 use Rattle.std.proofs.lemmas.List.{length-set, get_or-set_same, get_or-set_other}
@@ -22,20 +23,20 @@ use Rattle.pm_alloc.specs.declared.gone.ReleaseAt.{ReleaseAt}
 use Rattle.pm_alloc.specs.declared.gone.ReleaseAt.TheVariants as release_at
 use Rattle.pm_alloc.specs.Gone.{IsRelease, release_from, release_at_turned}
 use Rattle.tree_floor.specs.declared.floor.Floor.{Floor}
-use Rattle.tree_update.specs.declared.set.Set.{Set}
-use Rattle.tree_update.specs.declared.set.Unset.{Unset}
-use Rattle.tree_update.specs.declared.change.Ended.{Ended}
+use Rattle.updater_row_law.specs.tree_update.specs.declared.set.Set.{Set}
+use Rattle.updater_row_law.specs.tree_update.specs.declared.set.Unset.{Unset}
+use Rattle.updater_row_law.specs.tree_update.specs.declared.change.Ended.{Ended}
 use Rattle.layer_map.specs.Keys.{key_of}
-use Rattle.tree_update.specs.Stages.{Aim}
+use Rattle.updater_row_law.specs.tree_update.specs.Stages.{Aim}
 use Rattle.tree_floor.specs.Floors.{floor_turned, floor_left}
-use Rattle.tree_update.specs.Sets.{set_starts, set_turned, unset_starts, unset_turned}
+use Rattle.updater_row_law.specs.tree_update.specs.Sets.{set_starts, set_turned, unset_starts, unset_turned}
 use Rattle.tree_floor.specs.Floors.{FloorAfter}
-use Rattle.search_layer.specs.Laws.{SetAfter, UnsetAfter}
-use Rattle.tree_update.specs.Stages.{aim_of}
-use Rattle.search_layer.proofs.FloorLemmas.{stays as floor_stays}
-use Rattle.search_layer.proofs.FloorLemmas.{starts_sound as floor_starts_sound}
-use Rattle.search_layer.proofs.StepLaw.{sets_stay_sound, unsets_stay_sound}
-use Rattle.search_layer.proofs.OnLayer.{sets_begin_sound, unsets_begin_sound}
+use Rattle.updater_row_law.specs.search_layer.specs.Laws.{SetAfter, UnsetAfter}
+use Rattle.updater_row_law.specs.tree_update.specs.Stages.{aim_of}
+use Rattle.updater_row_law.specs.search_layer.proofs.FloorLemmas.{stays as floor_stays}
+use Rattle.updater_row_law.specs.search_layer.proofs.FloorLemmas.{starts_sound as floor_starts_sound}
+use Rattle.updater_row_law.specs.search_layer.proofs.StepLaw.{sets_stay_sound, unsets_stay_sound}
+use Rattle.updater_row_law.specs.search_layer.proofs.OnLayer.{sets_begin_sound, unsets_begin_sound}
 use Rattle.smo_log.specs.declared.line.Entry.{Entry}
 use Rattle.smo_log.specs.declared.read.ReadLine.{ReadLine}
 use Rattle.smo_log.specs.LogLines.{numbered_address}
@@ -48,7 +49,11 @@ use Rattle.updater.specs.declared.work.WorkAt.{WorkAt}
 use Rattle.updater.specs.declared.work.WorkAt.TheVariants as at
 use Rattle.updater_row_law.specs.Columns.{line_count}
 use Rattle.updater_row_law.specs.RowStages.{are_same}
-use Rattle.updater.specs.Works.{work_at_asks, after_line, reads_fields, saw_state, lands, walks, changes, clears, changed, after_node, saw_status, allows, saw_stamp, saw_version, after_count, on, leaves, found_at, saw_again, has_read, has_landed, has_walked, has_set, has_unset, has_released, work_at_turned, IsTerms, IsEntry, IsOnLine, IsOnNode, IsThrough, IsReading, IsWalkTo, IsWorkAt, IsWork, ToldOfLine}
+use Rattle.updater.specs.Works.{work_at_asks, after_line, reads_fields, saw_state, lands, walks, changes, clears}
+use Rattle.updater.specs.Works.{changed, after_node, saw_status, allows, saw_stamp, saw_version, after_count, on}
+use Rattle.updater.specs.Works.{leaves, found_at, saw_again, has_read, has_landed, has_walked, has_set, has_unset}
+use Rattle.updater.specs.Works.{has_released, work_at_turned, IsTerms, IsEntry, IsOnLine, IsOnNode, IsThrough}
+use Rattle.updater.specs.Works.{IsReading, IsWalkTo, IsWorkAt, IsWork, ToldOfLine}
 use Rattle.updater.specs.Laws.{WorkStays, WorksStaySound}
 use Rattle.updater.proofs.WalkLoads.{walk_told}
 

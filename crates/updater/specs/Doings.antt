@@ -4,8 +4,8 @@ use Rattle.pm_words.specs.declared.action.Action.{Action}
 use Rattle.pm_words.specs.declared.action.Action.TheVariants.{Load, Store}
 use Rattle.call_stages.specs.Kinds.{status_address}
 use Rattle.pm_alloc.specs.Gone.{stamp_address}
-use Rattle.tree_update.specs.declared.change.Change.{Change}
-use Rattle.tree_update.specs.Changes.{change_asks}
+use Rattle.updater_row_law.specs.tree_update.specs.declared.change.Change.{Change}
+use Rattle.updater_row_law.specs.tree_update.specs.Changes.{change_asks}
 use Rattle.smo_log.specs.LogLines.{numbered_address}
 use Rattle.updater.specs.declared.terms.Terms.{Terms}
 use Rattle.updater.specs.declared.work.Work.{Work}

@@ -6,3 +6,5 @@ pub mod Doings
 pub mod Steps
 pub mod Watches
 pub mod Makings
+-- crates below, for those above that name them through this one
+pub use Rattle.updater_row_law

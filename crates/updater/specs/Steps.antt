@@ -4,7 +4,7 @@ use Rattle.pm_words.specs.declared.machine.Turn.{Turn}
 use Rattle.pm_words.specs.declared.machine.Turn.TheVariants.{Go, Done}
 use Rattle.pm_alloc.specs.declared.gone.ReleaseAt.{ReleaseAt}
 use Rattle.pm_alloc.specs.declared.gone.ReleaseAt.TheVariants as release_at
-use Rattle.search_layer.specs.ChangeStages.{stage_of}
+use Rattle.updater_row_law.specs.search_layer.specs.ChangeStages.{stage_of}
 use Rattle.smo_log.specs.declared.line.Entry.{Entry}
 use Rattle.updater_row_law.specs.Columns.{RowTerms}
 use Rattle.updater_row_law.specs.RowStages.{RowLine, RowTarget, RowStage, Resting, Between, Reads, Lands, HasTarget}

@@ -20,13 +20,14 @@ use Rattle.pm_alloc.specs.declared.gone.Release.{Release}
 use Rattle.pm_alloc.specs.Gone.{IsRelease, stamp_address, no_stamp, release_from, release_asks, release_turned}
 use Rattle.pm_alloc.specs.Gone.{release_left}
 use Rattle.tree_floor.specs.declared.floor.Floor.{Floor}
-use Rattle.tree_update.specs.declared.set.Set.{Set}
-use Rattle.tree_update.specs.declared.set.Unset.{Unset}
-use Rattle.tree_update.specs.declared.change.Ended.{Ended}
+use Rattle.updater_row_law.specs.tree_update.specs.declared.set.Set.{Set}
+use Rattle.updater_row_law.specs.tree_update.specs.declared.set.Unset.{Unset}
+use Rattle.updater_row_law.specs.tree_update.specs.declared.change.Ended.{Ended}
 use Rattle.layer_map.specs.Keys.{IsKey, key_number}
 use Rattle.tree_floor.specs.Floors.{IsFloor, floor_starts, floor_asks, floor_turned, floor_left}
-use Rattle.tree_update.specs.Sets.{IsSet, set_starts, set_asks, set_turned, set_left, IsUnset, unset_starts}
-use Rattle.tree_update.specs.Sets.{unset_asks, unset_turned, unset_left}
+use Rattle.updater_row_law.specs.tree_update.specs.Sets.{IsSet, set_starts, set_asks, set_turned, set_left, IsUnset}
+use Rattle.updater_row_law.specs.tree_update.specs.Sets.{unset_starts}
+use Rattle.updater_row_law.specs.tree_update.specs.Sets.{unset_asks, unset_turned, unset_left}
 use Rattle.smo_log.specs.declared.line.Entry.{Entry}
 use Rattle.smo_log.specs.declared.read.LineSeen.{LineSeen}
 use Rattle.smo_log.specs.declared.read.ReadLine.{ReadLine}

@@ -10,8 +10,8 @@ use pm_words::codes::kind::MERGE;
 use pm_words::codes::state::READY;
 use pm_words::codes::status::GONE;
 use pm_words::{KEY, LOG_LINES};
-use search_layer::{Floor, Set, Unset};
 use smo_log::{Clear, Entry, ReadLine};
+use updater_row_law::search_layer::{Floor, Set, Unset};
 use version_lock::{GENERATION_UNIT, LAST_COUNT, generation_in};
 
 impl Terms {

@@ -29,9 +29,9 @@ use pm_words::codes::updater_lock::UNTAKEN;
 use pm_words::offsets::shared::UPDATER;
 use pm_words::offsets::{node, volatile};
 use pm_words::{Action, LOG_LINES, Layout, Machine, Memory, Steps, Turn};
-use search_layer::{Floor, Set, Unset};
 use smo_log::{Clear, Entry, ReadLine};
 use std::sync::ledger::Ledger;
+use updater_row_law::search_layer::{Floor, Set, Unset};
 
 /// A turn of the updater, which has taken the updater lock for it.
 #[derive(Clone, Copy)]
@@ -286,7 +286,7 @@ impl Work {
     ghost use Rattle.smo_log.specs.Reads.{read_turned};
     ghost use Rattle.tree_floor.specs.Floors.{floor_turned};
     ghost use Rattle.data_list.specs.Walks.{walk_turned};
-    ghost use Rattle.tree_update.specs.Sets.{set_turned, unset_turned};
+    ghost use Rattle.updater_row_law.specs.tree_update.specs.Sets.{set_turned, unset_turned};
     ghost use Rattle.pm_alloc.specs.Gone.{release_turned};
     ghost use Rattle.updater.specs.declared.work.WorkAt.TheVariants as WorkAt;
     ghost use Rattle.updater.specs.Works.{work_takes, saw_state, saw_status, after_count, on};

@@ -9,3 +9,5 @@ pub mod Fresh
 pub mod Laws
 pub mod Traces
 pub mod Lone
+-- crates below, for those above that name them through this one
+pub use Rattle.tree_law

@@ -1,5 +1,6 @@
 -- A step of a change of the layer, as the law of turns sees it.
-use Rattle.std.proofs.Common.{◌≡◌, ◌≢◌, ℕ, ◌-◌, ◌≤◌, ◌⊎◌, cond, List, Option, Some, None, inl, inr, refl, sym, ap, ◌∙◌, arith}
+use Rattle.std.proofs.Common.{◌≡◌, ◌≢◌, ℕ, ◌-◌, ◌≤◌, ◌⊎◌, cond, List, Option, Some, None, inl, inr, refl, sym, ap}
+use Rattle.std.proofs.Common.{◌∙◌, arith}
 use Rattle.std.proofs.lemmas.Bool.{cases_eq, eq-eqb, ne_eqb}
 use Rattle.pm_words.specs.declared.layout.Layout.{Layout}
 use Rattle.pm_words.specs.declared.action.Action.{Action}
@@ -9,10 +10,11 @@ use Rattle.layer_map.specs.Layers.{Layer, changed_at, node_of}
 use Rattle.layer_map.specs.Keys.{key_number}
 use Rattle.search_layer.specs.Rows.{LayerWords, layer_words, layer_marks}
 use Rattle.search_layer.specs.Kept.{layer_of, kept}
-use Rattle.tree_update.specs.Stages.{Aim}
+use Rattle.search_layer.specs.tree_update.specs.Stages.{Aim}
 use Rattle.search_layer.specs.ChangeStages.{Changing, ChangeStep, LayerAt, MixAt, LayerAfter}
 use Rattle.search_layer.specs.Laws.{ChangeKeeps}
-use Rattle.search_layer.proofs.StageLemmas.{change_is_backed, layer_is_either, mix_is_either, step_is_either, rooted_begins, layer_stays_rooted}
+use Rattle.search_layer.proofs.StageLemmas.{change_is_backed, layer_is_either, mix_is_either, step_is_either}
+use Rattle.search_layer.proofs.StageLemmas.{rooted_begins, layer_stays_rooted}
 use Rattle.search_layer.proofs.StepLaw.{change_step_keeps}
 use Rattle.search_layer.proofs.RootLemmas.{root_step_keeps}
 use Rattle.search_layer.proofs.RowLemmas.{mix_of_durable}

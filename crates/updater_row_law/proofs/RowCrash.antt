@@ -4,7 +4,7 @@ use Rattle.pm_words.specs.Locations.{Cached, Durable}
 use Rattle.layer_map.specs.Layers.{Layer, AreSame, HasFew}
 use Rattle.search_layer.specs.Rows.{LayerWords, layer_words, layer_marks}
 use Rattle.search_layer.specs.Kept.{layer_of, kept, IsKept}
-use Rattle.tree_update.specs.Stages.{Aim}
+use Rattle.search_layer.specs.tree_update.specs.Stages.{Aim}
 use Rattle.search_layer.specs.ChangeStages.{Changing, LayerAt, MixAt}
 use Rattle.search_layer.proofs.StageLemmas.{change_is_backed, mix_is_either}
 use Rattle.search_layer.proofs.RowLemmas.{kept_leads_below}
@@ -12,7 +12,9 @@ use Rattle.search_layer.proofs.RowLemmas.{even_are_same, mix_of_durable}
 use Rattle.layer_map.proofs.FewLemmas.{few_apart}
 use Rattle.updater_law.proofs.Crash.{keys_lead_apart}
 use Rattle.updater_row_law.specs.Columns.{RowTerms, Ghosts, terms_of, facts_in}
-use Rattle.updater_row_law.specs.RowStages.{RowLine, aim_of, RowStage, Resting, Between, Reads, Lands, HasTarget, Changes, Stamps, Clears, Sweeps, Gone, HasStamp, IsUnworn, Frees, Counts, turn_stage}
+use Rattle.updater_row_law.specs.RowStages.{RowLine, aim_of, RowStage, Resting, Between, Reads, Lands, HasTarget}
+use Rattle.updater_row_law.specs.RowStages.{Changes, Stamps, Clears, Sweeps, Gone, HasStamp, IsUnworn, Frees, Counts}
+use Rattle.updater_row_law.specs.RowStages.{turn_stage}
 use Rattle.updater_row_law.specs.RowLaw.{LayerRests, RowLawful, IsSafeLayer, LayerIsSafe}
 
 -- a layer with the same keys as one that has few has few

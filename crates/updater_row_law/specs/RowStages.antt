@@ -4,7 +4,7 @@ use Rattle.std.specs.Prelude.{slice_index}
 use Rattle.pm_words.specs.Codes.{merge_kind}
 use Rattle.layer_map.specs.Keys.{key_number}
 use Rattle.layer_map.specs.Layers.{node_of}
-use Rattle.tree_update.specs.Stages.{Aim}
+use Rattle.search_layer.specs.tree_update.specs.Stages.{Aim}
 use Rattle.search_layer.specs.ChangeStages.{Changing}
 use Rattle.updater_law.specs.TurnStages.{ReadyLine, TurnStage}
 use Rattle.updater_law.specs.TurnStages as turns

@@ -6,11 +6,12 @@ use Rattle.std.specs.Prelude.{All}
 use Rattle.std.proofs.lemmas.Result.{IfOk-weaker}
 use Rattle.cat_history.specs.declared.op.CallerOp.{CallerOp}
 use Rattle.cat_history.specs.declared.plan.RoundPlan.{RoundPlan}
-use Rattle.core_rounds.specs.LoneCalls.{AreReportCalls}
+use Rattle.crowd_rounds.specs.core_rounds.specs.LoneCalls.{AreReportCalls}
 use Rattle.crowd_rounds.specs.Segments.{HasBudgets}
-use Rattle.core_rounds.specs.Summaries.{IsWithin}
-use Rattle.core_rounds.proofs.Played.{each_is_reported}
-use Rattle.catalog_cli.proofs.SeededCalls.{all-of-one, calls-are, calls-fit, calls-told, calls-within, one-plan-few, seeded, seeded-round, summed-up}
+use Rattle.crowd_rounds.specs.core_rounds.specs.Summaries.{IsWithin}
+use Rattle.crowd_rounds.specs.core_rounds.proofs.Played.{each_is_reported}
+use Rattle.catalog_cli.proofs.SeededCalls.{all-of-one, calls-are, calls-fit, calls-told, calls-within, one-plan-few}
+use Rattle.catalog_cli.proofs.SeededCalls.{seeded, seeded-round, summed-up}
 use Rattle.catalog_cli.proofs.generated.play_generated.Goals as goal
 
 pub play_plans-requires-clause-callers : goal.play_plans-requires-clause-callers

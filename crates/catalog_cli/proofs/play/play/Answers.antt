@@ -2,11 +2,11 @@ use Rattle.std.proofs.Common.{◌/◌, ap, arith, length, List, [], ◌∷◌, s
 use Rattle.std.specs.FinMap.{empty}
 use Rattle.cat_history.specs.declared.plan.RoundPlan.{RoundPlan}
 use Rattle.index_law.specs.Anchors.{anchors_in}
-use Rattle.index_core.specs.Indexes.{map_of_index, world}
-use Rattle.core_rounds.specs.CrashWork.{CrashRoundsWork}
-use Rattle.core_rounds.specs.Rounds.{ArePlayed}
-use Rattle.core_rounds.specs.LoneCalls.{calls_in}
-use Rattle.core_rounds.proofs.Played.{each_is_reported}
+use Rattle.crowd_rounds.specs.index_core.specs.Indexes.{map_of_index, world}
+use Rattle.crowd_rounds.specs.core_rounds.specs.CrashWork.{CrashRoundsWork}
+use Rattle.crowd_rounds.specs.core_rounds.specs.Rounds.{ArePlayed}
+use Rattle.crowd_rounds.specs.core_rounds.specs.LoneCalls.{calls_in}
+use Rattle.crowd_rounds.specs.core_rounds.proofs.Played.{each_is_reported}
 use Rattle.catalog_cli.proofs.Playable.{all-playable, some-round}
 use Rattle.catalog_cli.proofs.PlayedReports.{played-report}
 use Rattle.catalog_cli.proofs.ScriptCalls.{calls-of-script, rounds-of-script}

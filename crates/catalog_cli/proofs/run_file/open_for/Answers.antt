@@ -1,6 +1,6 @@
 use Rattle.std.proofs.Common.{arith}
 use Rattle.std.proofs.lemmas.Result.{err_from_is_err_and}
-use Rattle.core_rounds.proofs.Restarting.{restarts_few}
+use Rattle.crowd_rounds.specs.core_rounds.proofs.Restarting.{restarts_few}
 use Rattle.catalog_cli.proofs.RunEnds.{can-be-played, not-opened}
 use Rattle.catalog_cli.proofs.run_file.open_for.Goals as goal
 

@@ -4,8 +4,8 @@ use Rattle.std.proofs.lemmas.Result.{err_from_is_err_and}
 use Rattle.cat_history.specs.declared.op.CallerOp.{CallerOp}
 use Rattle.cat_history.specs.declared.plan.RoundPlan.{RoundPlan}
 use Rattle.pm_words.specs.declared.layout.Layout.{Layout}
-use Rattle.core_rounds.specs.LoneCalls.{calls_in}
-use Rattle.core_rounds.proofs.Played.{each_is_reported}
+use Rattle.crowd_rounds.specs.core_rounds.specs.LoneCalls.{calls_in}
+use Rattle.crowd_rounds.specs.core_rounds.proofs.Played.{each_is_reported}
 use Rattle.crowd_rounds.specs.Segments.{HasBudgets}
 use Rattle.catalog_cli.specs.Reports.{IsAccepted, IsRefusedBy}
 use Rattle.catalog_cli.specs.Runs.{IsOpenable, IsPlayRefused}

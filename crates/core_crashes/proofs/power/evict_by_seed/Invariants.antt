@@ -1,6 +1,6 @@
 use Rattle.std.proofs.Common.{◌≡◌}
-use Rattle.index_core.specs.CrashLaws.{evicted_by}
-use Rattle.index_core.specs.Indexes.{IsIndex}
+use Rattle.core_rounds.specs.index_core.specs.CrashLaws.{evicted_by}
+use Rattle.core_rounds.specs.index_core.specs.Indexes.{IsIndex}
 use Rattle.core_crashes.proofs.power.evict_by_seed.Given as goal
 
 -- those of the words so far are durable

@@ -1,5 +1,5 @@
-use Rattle.recovery.specs.Opened.{IsOpenedFrom}
-use Rattle.recovery.proofs.OpenedCores.{if_ok}
+use Rattle.core_rounds.specs.recovery.specs.Opened.{IsOpenedFrom}
+use Rattle.core_rounds.specs.recovery.proofs.OpenedCores.{if_ok}
 use Rattle.core_crashes.specs.Power.{IsBehindCrash}
 use Rattle.core_crashes.proofs.Failing.{is_early, is_sound, opened_behind}
 use Rattle.core_crashes.proofs.power.fail_power.Goals as goal

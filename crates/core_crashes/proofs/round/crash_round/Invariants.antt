@@ -1,5 +1,5 @@
 use Rattle.index_law.specs.Anchors.{anchors_in}
-use Rattle.index_core.specs.Indexes.{world}
+use Rattle.core_rounds.specs.index_core.specs.Indexes.{world}
 use Rattle.core_crashes.proofs.round.crash_round.Given as goal
 
 -- the ledger of the steps is a blank one

@@ -3,11 +3,12 @@ use Rattle.std.proofs.Math.Nat.{le-mul_of_pos_right}
 use Rattle.cat_history.specs.Maps.{map_of}
 use Rattle.pm_words.specs.declared.layout.Layout.{Layout}
 use Rattle.index_law.specs.Anchors.{anchors_in}
-use Rattle.index_core.specs.Costs.{turn_actions}
-use Rattle.index_core.specs.Indexes.{world}
+use Rattle.core_rounds.specs.index_core.specs.Costs.{turn_actions}
+use Rattle.core_rounds.specs.index_core.specs.Indexes.{world}
 use Rattle.cat_history.specs.declared.op.CallerOp.{CallerOp}
 use Rattle.stopped_rounds.specs.InTime.{HasTimelyTurns}
-use Rattle.core_crashes.specs.CrashMaps.{FindRoom, IsTurnless, MakeNoTurns, Stoppable, anchors_by, members_by, most_between, state_of}
+use Rattle.core_crashes.specs.CrashMaps.{FindRoom, IsTurnless, MakeNoTurns, Stoppable, anchors_by, members_by}
+use Rattle.core_crashes.specs.CrashMaps.{most_between, state_of}
 use Rattle.core_crashes.proofs.CrashMaps.{none_cut_off}
 use Rattle.core_crashes.proofs.Played.{stopped_on}
 use Rattle.core_crashes.proofs.round.stop_on_core.Goals as goal

@@ -1,10 +1,11 @@
 use Rattle.std.proofs.Common.{◌≡◌, refl, ap}
 use Rattle.std.proofs.lemmas.Bool.{false≢true}
 use Rattle.index_law.specs.Anchors.{anchors_in}
-use Rattle.index_core.specs.Indexes.{world}
-use Rattle.index_core.specs.Lone.{FindsNoRoom, whole_of}
+use Rattle.recovery.specs.index_core.specs.Indexes.{world}
+use Rattle.recovery.specs.index_core.specs.Lone.{FindsNoRoom, whole_of}
 use Rattle.core_rounds.specs.CoreMaps.{anchors_made}
-use Rattle.core_rounds.proofs.CoreMaps.{full_exactly, full_weighs, goes_through, stays_low, told_full, told_map, told_placed, told_weighs, writes_fall}
+use Rattle.core_rounds.proofs.CoreMaps.{full_exactly, full_weighs, goes_through, stays_low, told_full, told_map}
+use Rattle.core_rounds.proofs.CoreMaps.{told_placed, told_weighs, writes_fall}
 use Rattle.core_rounds.proofs.Waiting.{waits_full, waits_placed}
 use Rattle.core_rounds.proofs.core_map.call_alone.Goals as goal
 

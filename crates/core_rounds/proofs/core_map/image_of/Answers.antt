@@ -1,18 +1,19 @@
-use Rattle.std.proofs.Common.{◌≡◌, ℕ, zero, suc, ◌+◌, ◌*◌, ◌/◌, ◌%◌, ◌<◌, ◌==◌, Bool, cond, inl, inr, ⊎_elim, refl, sym, ap, ◌∙◌, subst, arith}
+use Rattle.std.proofs.Common.{◌≡◌, ℕ, zero, suc, ◌+◌, ◌*◌, ◌/◌, ◌%◌, ◌<◌, ◌==◌, Bool, cond, inl, inr, ⊎_elim, refl}
+use Rattle.std.proofs.Common.{sym, ap, ◌∙◌, subst, arith}
 use Rattle.std.proofs.lemmas.Result.{IfOk-weaker}
 use Rattle.pm_words.specs.Codes.{empty_state, ready_state}
 use Rattle.pm_words.specs.Images.{Row}
 use Rattle.pm_words.specs.Locations.{Line, Cached, at, word_at}
 use Rattle.pm_words.specs.Rows.{cached_row}
 use Rattle.pm_words.proofs.Made.{cached_row-at}
-use Rattle.updater_row_law.specs.Columns.{line_count, line_word}
-use Rattle.updater_row_law.proofs.RowColumns.{column-here}
-use Rattle.lone_updater_law.specs.LoneTurns.{is_ready, line_state}
-use Rattle.updater.specs.Events.{how_many}
-use Rattle.index_image_law.specs.Rest.{IsRestImage, cached_image}
-use Rattle.index_core.specs.Indexes.{Index, IsIndex, world}
-use Rattle.index_core.specs.Lone.{IsQuiet}
-use Rattle.index_core.proofs.Logs.{quiet_has_none_open}
+use Rattle.recovery.specs.updater_row_law.specs.Columns.{line_count, line_word}
+use Rattle.recovery.specs.updater_row_law.proofs.RowColumns.{column-here}
+use Rattle.recovery.specs.lone_updater_law.specs.LoneTurns.{is_ready, line_state}
+use Rattle.recovery.specs.updater.specs.Events.{how_many}
+use Rattle.recovery.specs.index_image_law.specs.Rest.{IsRestImage, cached_image}
+use Rattle.recovery.specs.index_core.specs.Indexes.{Index, IsIndex, world}
+use Rattle.recovery.specs.index_core.specs.Lone.{IsQuiet}
+use Rattle.recovery.specs.index_core.proofs.Logs.{quiet_has_none_open}
 use Rattle.core_rounds.specs.CoreMaps.{IsImageOf}
 use Rattle.core_rounds.proofs.core_map.image_of.Goals as goal
 

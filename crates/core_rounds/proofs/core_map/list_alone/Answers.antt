@@ -1,5 +1,5 @@
 use Rattle.core_rounds.proofs.CoreMaps.{part_goes_through, part_weighs, stays_low}
-use Rattle.index_core.specs.Lone.{part_whole}
+use Rattle.recovery.specs.index_core.specs.Lone.{part_whole}
 use Rattle.core_rounds.proofs.Waiting.{waits_listed}
 use Rattle.core_rounds.proofs.core_map.list_alone.Goals as goal
 

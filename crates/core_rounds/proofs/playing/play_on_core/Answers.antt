@@ -3,7 +3,7 @@ use Rattle.std.specs.FinMap.{len}
 use Rattle.cat_history.specs.declared.plan.RoundPlan.{RoundPlan}
 use Rattle.cat_text.specs.declared.report.RoundReport.{RoundReport}
 use Rattle.index_law.specs.Anchors.{anchors_in}
-use Rattle.index_core.specs.Indexes.{Index, map_of_index, world}
+use Rattle.recovery.specs.index_core.specs.Indexes.{Index, map_of_index, world}
 use Rattle.core_rounds.specs.CoreMaps.{Waits, calls_left_of}
 use Rattle.core_rounds.specs.LoneCalls.{calls_in}
 use Rattle.core_rounds.specs.Rounds.{added_in}

@@ -1,5 +1,5 @@
 use Rattle.std.proofs.Common.{◌≡◌, ℕ, take, sym, ◌∙◌, subst, arith}
-use Rattle.core_rounds.specs.LoneCalls.{restarts}
+use Rattle.core_crashes.specs.core_rounds.specs.LoneCalls.{restarts}
 use Rattle.crowd_rounds.proofs.Segmenting.{one-first}
 use Rattle.crowd_rounds.proofs.playing.plain_at_first.Goals as goal
 

@@ -1,5 +1,5 @@
 use Rattle.std.proofs.Common.{◌≡◌, take}
-use Rattle.core_rounds.specs.LoneCalls.{restarts}
+use Rattle.core_crashes.specs.core_rounds.specs.LoneCalls.{restarts}
 use Rattle.crowd_rounds.proofs.playing.plain_at_first.Given as goal
 
 -- behind none of those so far it is opened again

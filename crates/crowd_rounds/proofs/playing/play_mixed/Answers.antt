@@ -2,7 +2,7 @@ use Rattle.std.proofs.Common.{◌≡◌, ℕ, ◌+◌, ◌-◌, List, length, ta
 use Rattle.std.proofs.lemmas.List.{length-drop, take_all}
 use Rattle.cat_history.specs.declared.plan.RoundPlan.{RoundPlan}
 use Rattle.cat_text.specs.declared.report.RoundReport.{RoundReport}
-use Rattle.core_rounds.specs.LoneCalls.{restarts}
+use Rattle.core_crashes.specs.core_rounds.specs.LoneCalls.{restarts}
 use Rattle.crowd_rounds.specs.Segments.{AreFirstPlayed, ArePlayable, WorkOn}
 use Rattle.crowd_rounds.proofs.Segmenting.{all-played, goes-on, none-played, playable-left}
 use Rattle.crowd_rounds.proofs.Working.{none-work, stretches-work}

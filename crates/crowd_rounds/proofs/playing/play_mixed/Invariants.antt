@@ -1,6 +1,6 @@
 use Rattle.std.proofs.Common.{◌≡◌, ◌-◌, ◌<◌, length, take}
 use Rattle.pm_words.specs.Images.{Row}
-use Rattle.recovery.specs.Opened.{IsOpenedFrom}
+use Rattle.core_crashes.specs.recovery.specs.Opened.{IsOpenedFrom}
 use Rattle.crowd_rounds.specs.Segments.{AreFirstPlayed, WorkOn}
 use Rattle.crowd_rounds.proofs.playing.play_mixed.Given as goal
 

@@ -10,12 +10,12 @@ use Rattle.pm_words.specs.declared.layout.Layout.{Layout}
 use Rattle.shapes.specs.Anchors.{Anchors}
 use Rattle.version_lock.specs.Versions.{IsGeneration}
 use Rattle.index_law.specs.Anchors.{anchors_in}
-use Rattle.index_core.specs.Indexes.{Index, map_of_index, world}
-use Rattle.index_core.specs.Weights.{weight_of}
-use Rattle.core_rounds.specs.LoneCalls.{restarts}
-use Rattle.core_rounds.specs.Rounds.{ArePlayed}
-use Rattle.core_rounds.proofs.Restarting.{restarts_few}
-use Rattle.core_rounds.proofs.Played.{more_pays}
+use Rattle.thread_rounds.specs.index_core.specs.Indexes.{Index, map_of_index, world}
+use Rattle.thread_rounds.specs.index_core.specs.Weights.{weight_of}
+use Rattle.core_crashes.specs.core_rounds.specs.LoneCalls.{restarts}
+use Rattle.core_crashes.specs.core_rounds.specs.Rounds.{ArePlayed}
+use Rattle.core_crashes.specs.core_rounds.proofs.Restarting.{restarts_few}
+use Rattle.core_crashes.specs.core_rounds.proofs.Played.{more_pays}
 use Rattle.crowd_rounds.specs.Segments.{HasBudgets}
 use Rattle.crowd_rounds.proofs.Working.{from-one}
 use Rattle.crowd_rounds.proofs.playing.play_plans.Goals as goal

@@ -1,6 +1,6 @@
 use Rattle.std.proofs.Common.{◌∙◌, sym, ap, refl}
-use Rattle.core_rounds.proofs.Restarting.{crowd_or_lone}
-use Rattle.core_rounds.specs.LoneCalls.{is_crowd}
+use Rattle.core_crashes.specs.core_rounds.proofs.Restarting.{crowd_or_lone}
+use Rattle.core_crashes.specs.core_rounds.specs.LoneCalls.{is_crowd}
 use Rattle.crowd_rounds.proofs.Restarts.{crash-restart, crowd-restart}
 use Rattle.crowd_rounds.proofs.playing.play_restart.Goals as goal
 

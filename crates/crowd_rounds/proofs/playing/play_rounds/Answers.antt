@@ -4,12 +4,12 @@ use Rattle.cat_history.specs.declared.plan.RoundPlan.{RoundPlan}
 use Rattle.cat_text.specs.ReportGrammar.{IsReportRound}
 use Rattle.cat_text.specs.declared.report.RoundReport.{RoundReport}
 use Rattle.index_law.specs.Anchors.{anchors_in}
-use Rattle.index_core.specs.Indexes.{Index, map_of_index, world}
-use Rattle.core_rounds.specs.CoreMaps.{Waits}
-use Rattle.core_rounds.specs.Waiting.{HaveNoTurns, changes_made, puts_asked, writes_asked}
-use Rattle.core_rounds.proofs.Restarting.{joined_lone_have_no_restart}
-use Rattle.core_rounds.proofs.CrashWork.{plain_rounds_work}
-use Rattle.core_rounds.proofs.Played.{each_is_reported}
+use Rattle.thread_rounds.specs.index_core.specs.Indexes.{Index, map_of_index, world}
+use Rattle.core_crashes.specs.core_rounds.specs.CoreMaps.{Waits}
+use Rattle.core_crashes.specs.core_rounds.specs.Waiting.{HaveNoTurns, changes_made, puts_asked, writes_asked}
+use Rattle.core_crashes.specs.core_rounds.proofs.Restarting.{joined_lone_have_no_restart}
+use Rattle.core_crashes.specs.core_rounds.proofs.CrashWork.{plain_rounds_work}
+use Rattle.core_crashes.specs.core_rounds.proofs.Played.{each_is_reported}
 use Rattle.crowd_rounds.specs.Segments.{WorkOn}
 use Rattle.crowd_rounds.proofs.playing.play_rounds.Goals as goal
 

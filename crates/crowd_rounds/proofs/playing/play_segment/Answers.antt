@@ -4,9 +4,9 @@ use Rattle.cat_history.specs.declared.op.CallerOp.{CallerOp}
 use Rattle.cat_history.specs.declared.plan.RoundPlan.{RoundPlan}
 use Rattle.pm_words.specs.declared.layout.Layout.{Layout}
 use Rattle.version_lock.specs.Versions.{IsGeneration}
-use Rattle.core_rounds.proofs.Restarting.{joined_lone_have_no_restart}
-use Rattle.core_rounds.specs.CoreMaps.{calls_left_of}
-use Rattle.core_rounds.specs.LoneCalls.{AreReportCalls, has_restart}
+use Rattle.core_crashes.specs.core_rounds.proofs.Restarting.{joined_lone_have_no_restart}
+use Rattle.core_crashes.specs.core_rounds.specs.CoreMaps.{calls_left_of}
+use Rattle.core_crashes.specs.core_rounds.specs.LoneCalls.{AreReportCalls, has_restart}
 use Rattle.crowd_rounds.specs.Segments.{HasBudgets}
 use Rattle.crowd_rounds.proofs.Segmenting.{as-many, calls-before, next-there, plain-first, plain-then-restart}
 use Rattle.crowd_rounds.proofs.Working.{plain-works, stretch-works}

@@ -1,6 +1,6 @@
 use Rattle.std.proofs.Common.{◌∙◌, sym}
 use Rattle.pm_words.specs.Locations.{word_at}
-use Rattle.updater_row_law.specs.Columns.{line_word}
+use Rattle.image_recovery_law.specs.updater_row_law.specs.Columns.{line_word}
 use Rattle.image_recovery_law.proofs.RowColumns.{word_if-here, has_line_word, line_here}
 use Rattle.image_recovery.proofs.lines.column.Goals as goal
 

@@ -2,7 +2,7 @@ use Rattle.std.proofs.Common.{◌∙◌, subst}
 use Rattle.pm_words.specs.declared.layout.Layout.{Layout}
 use Rattle.pm_words.specs.Rows.{IsRow}
 use Rattle.index_law.specs.Facts.{list_in}
-use Rattle.index_opening_law.specs.Openings.{HaveNoOrders}
+use Rattle.index_core.specs.index_opening_law.specs.Openings.{HaveNoOrders}
 use Rattle.recovery.specs.Tellings.{KeepsButOrders}
 use Rattle.recovery.proofs.Orders.{keeps_beside, tells_still}
 use Rattle.recovery.proofs.telling.tell_list.Goals as goal

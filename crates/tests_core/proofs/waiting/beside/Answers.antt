@@ -1,7 +1,7 @@
 use Rattle.std.proofs.Common.{◌≡◌, false, refl, sym, ◌∙◌, subst, arith}
 use Rattle.std.specs.Prelude.{Option, Some, None, is_some}
 use Rattle.updater.specs.declared.terms.Turned.{Turned}
-use Rattle.index_core.specs.Lone.{IsQuiet}
+use Rattle.recovery.specs.index_core.specs.Lone.{IsQuiet}
 use Rattle.tests_core.proofs.waiting.beside.Goals as goal
 
 none_is : (turned : Option Turned) → is_some turned ≡ false → turned ≡ None

@@ -1,4 +1,4 @@
-use Rattle.index_core.specs.Lone.{IsQuiet}
+use Rattle.catalog_cli.specs.index_core.specs.Lone.{IsQuiet}
 use Rattle.tests_program.proofs.beside_core.bytes_after.Given as goal
 
 abbrev pub invariant-loop-call : goal.invariant-loop-call

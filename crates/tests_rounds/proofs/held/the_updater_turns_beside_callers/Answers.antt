@@ -1,5 +1,5 @@
 use Rattle.cat_history.specs.declared.plan.CrashPlan.{CrashPlan}
-use Rattle.index_core.specs.Lone.{IsQuiet}
+use Rattle.recovery.specs.index_core.specs.Lone.{IsQuiet}
 use Rattle.thread_rounds.specs.RunRounds.{EndsAs}
 use Rattle.tests_rounds.proofs.Finishes.{joined-so}
 use Rattle.std.proofs.Common.{ap, subst}

@@ -3,7 +3,7 @@ use Rattle.std.specs.Prelude.{Option}
 use Rattle.cat_history.specs.Records.{as_op}
 use Rattle.cat_history.specs.declared.record.CutMark.{CutMark}
 use Rattle.cat_history.specs.declared.record.Reply.{Reply}
-use Rattle.index_core.specs.CoreCalls.{op_of}
+use Rattle.pac_index.specs.index_core.specs.CoreCalls.{op_of}
 use Rattle.pac_index.specs.declared.caller.CutCall.{CutCall}
 use Rattle.pac_index.specs.declared.rule.Member.{Member}
 use Rattle.pac_index.specs.Budgets.{place_in}

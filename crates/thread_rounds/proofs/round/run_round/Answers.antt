@@ -1,6 +1,6 @@
 use Rattle.std.proofs.Common.{sym, subst}
 use Rattle.std.proofs.lemmas.Result.{IfOk-weaker}
-use Rattle.index_core.specs.Indexes.{parties_of}
+use Rattle.pac_index.specs.index_core.specs.Indexes.{parties_of}
 use Rattle.pac_index.specs.declared.rule.About.{About}
 use Rattle.pac_index.specs.Callers.{HasCallers}
 use Rattle.thread_rounds.proofs.Meeting.{all-rest, crashes, have-callers, joins}

@@ -1,5 +1,5 @@
 use Rattle.std.proofs.Common.{rules, ◌∙◌}
-use Rattle.layer_map.proofs.KeyLemmas.{key_order}
+use Rattle.tree_row.specs.layer_map.proofs.KeyLemmas.{key_order}
 use Rattle.tree_floor.proofs.words.is_at_most.Goals as goal
 
 pub returns : goal.returns

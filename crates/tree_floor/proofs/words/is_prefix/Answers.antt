@@ -1,5 +1,5 @@
 use Rattle.std.proofs.Common.{rules, ◌==◌, slice_index, ap, ◌∙◌}
-use Rattle.layer_map.specs.Keys.{key_number}
+use Rattle.tree_row.specs.layer_map.specs.Keys.{key_number}
 use Rattle.tree_floor.proofs.KeyNumbers.{prefix_is_of_number}
 use Rattle.tree_floor.proofs.words.is_prefix.Goals as goal
 

@@ -1,12 +1,13 @@
 use Rattle.std.proofs.Common.{◌≡◌, ◌<◌, ◌≤◌, [], false, true, arith, ap, sym, subst}
 use Rattle.pm_words.specs.declared.layout.Layout.{Layout}
 use Rattle.version_lock.specs.declared.TheConstants.{LAST_COUNT}
-use Rattle.index_core.specs.Lone.{part_whole}
+use Rattle.core_rounds.specs.index_core.specs.Lone.{part_whole}
 use Rattle.stopped_rounds.specs.Bounded.{IsSame}
 use Rattle.core_rounds.proofs.CoreMaps.{same_run}
-use Rattle.index_core.specs.declared.party.CoreCall.TheVariants as call
+use Rattle.core_rounds.specs.index_core.specs.declared.party.CoreCall.TheVariants as call
 use Rattle.core_crashes.specs.CrashMaps.{Stoppable, calls_of, state_of, weighs_of}
-use Rattle.core_crashes.proofs.CrashMaps.{few_calls, calls_are, cut_weighs, listed_weighs, part_cut, part_goes_on, goes, no_calls, part_same, stops_same}
+use Rattle.core_crashes.proofs.CrashMaps.{few_calls, calls_are, cut_weighs, listed_weighs, part_cut, part_goes_on}
+use Rattle.core_crashes.proofs.CrashMaps.{goes, no_calls, part_same, stops_same}
 use Rattle.core_crashes.proofs.crash_map.CrashMap.list.Goals as goal
 
 pub part_within-requires-clause-still : goal.part_within-requires-clause-still

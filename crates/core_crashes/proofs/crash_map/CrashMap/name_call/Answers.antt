@@ -1,18 +1,21 @@
-use Rattle.std.proofs.Common.{◌≡◌, ◌+◌, ◌<◌, ◌≤◌, ℕ, length, inl, inr, [], ◌∷◌, Bool, true, arith, refl, sym, ap, ◌∙◌, subst}
+use Rattle.std.proofs.Common.{◌≡◌, ◌+◌, ◌<◌, ◌≤◌, ℕ, length, inl, inr, [], ◌∷◌, Bool, true, arith, refl, sym, ap, ◌∙◌}
+use Rattle.std.proofs.Common.{subst}
 use Rattle.std.specs.Prelude.{Option, Result, Ok, Err, nat_lt}
 use Rattle.shapes.specs.declared.map.Full.{Full}
 use Rattle.stopped_rounds.specs.declared.bounded_map.Bounded.{Bounded}
 use Rattle.stopped_rounds.specs.declared.bounded_map.Bounded.TheVariants as bounded
 use Rattle.version_lock.specs.declared.TheConstants.{LAST_COUNT}
 use Rattle.cat_history.specs.Records.{change_of}
-use Rattle.index_core.specs.CoreCalls.{most_writes, op_of}
-use Rattle.index_core.specs.Lone.{whole_of}
+use Rattle.core_rounds.specs.index_core.specs.CoreCalls.{most_writes, op_of}
+use Rattle.core_rounds.specs.index_core.specs.Lone.{whole_of}
 use Rattle.stopped_rounds.specs.Bounded.{ComesTo}
 use Rattle.core_rounds.specs.CoreMaps.{calls_left_of}
 use Rattle.core_rounds.proofs.CoreMaps.{goes_through, same_run, writes_fall}
 use Rattle.core_rounds.specs.CrashWork.{most_events}
-use Rattle.core_crashes.specs.CrashMaps.{FindRoom, Gave, IsTurnless, Stoppable, WasCutBy, added_within, calls_of, state_of, weighs_of, writes_of}
-use Rattle.core_crashes.proofs.CrashMaps.{few_calls, calls_are, calls_fall, cut_name, cut_weighs, gave, gave_weighs, goes, no_calls, some_calls, writes_are, writes_now}
+use Rattle.core_crashes.specs.CrashMaps.{FindRoom, Gave, IsTurnless, Stoppable, WasCutBy, added_within, calls_of}
+use Rattle.core_crashes.specs.CrashMaps.{state_of, weighs_of, writes_of}
+use Rattle.core_crashes.proofs.CrashMaps.{few_calls, calls_are, calls_fall, cut_name, cut_weighs, gave, gave_weighs}
+use Rattle.core_crashes.proofs.CrashMaps.{goes, no_calls, some_calls, writes_are, writes_now}
 use Rattle.std.proofs.lemmas.Bool.{false≢true}
 use Rattle.pm_words.specs.declared.layout.Layout.{Layout}
 use Rattle.stopped_rounds.specs.Bounded.{IsInTime}

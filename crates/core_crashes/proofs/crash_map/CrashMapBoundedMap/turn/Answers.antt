@@ -1,14 +1,16 @@
 use Rattle.std.proofs.Common.{◌≡◌, ◌+◌, ◌<◌, ◌≤◌, Bool, [], true, length, refl, sym, ap, ◌∙◌, subst, arith}
 use Rattle.stopped_rounds.specs.Bounded.{IsSame}
 use Rattle.pm_words.specs.declared.layout.Layout.{Layout}
-use Rattle.index_core.specs.Costs.{turn_actions}
-use Rattle.index_core.specs.Indexes.{Index}
-use Rattle.index_core.proofs.Quiet.{quiet_is_still}
+use Rattle.core_rounds.specs.index_core.specs.Costs.{turn_actions}
+use Rattle.core_rounds.specs.index_core.specs.Indexes.{Index}
+use Rattle.core_rounds.specs.index_core.proofs.Quiet.{quiet_is_still}
 use Rattle.core_rounds.specs.CoreMaps.{calls_left_of}
 use Rattle.core_rounds.proofs.CoreMaps.{same_run, turned_run}
-use Rattle.core_crashes.specs.CrashMaps.{FindRoom, Stoppable, calls_of, members_by, members_of, state_of, weighs_of, writes_of}
+use Rattle.core_crashes.specs.CrashMaps.{FindRoom, Stoppable, calls_of, members_by, members_of, state_of, weighs_of}
+use Rattle.core_crashes.specs.CrashMaps.{writes_of}
 use Rattle.core_crashes.proofs.Turnless.{room_stays, turned_calls, turned_turnless}
-use Rattle.core_crashes.proofs.CrashMaps.{anchors_are, calls_are, calls_stay, low_then, none_cut_off, plain, turn_cut, turn_cut_weighs, turn_goes_on, turn_stops, turned_weighs, writes_stay}
+use Rattle.core_crashes.proofs.CrashMaps.{anchors_are, calls_are, calls_stay, low_then, none_cut_off, plain, turn_cut}
+use Rattle.core_crashes.proofs.CrashMaps.{turn_cut_weighs, turn_goes_on, turn_stops, turned_weighs, writes_stay}
 use Rattle.core_crashes.proofs.crash_map.CrashMapBoundedMap.turn.Goals as goal
 
 pub turn_within-requires-clause-still : goal.turn_within-requires-clause-still

@@ -1,12 +1,12 @@
 use Rattle.std.proofs.Common.{ℕ, ◌+◌, ◌≤◌, refl, sym, subst, arith}
 use Rattle.shapes.specs.Anchors.{merges}
 use Rattle.index_law.specs.Anchors.{anchors_in}
-use Rattle.index_core.specs.Indexes.{Index, map_of_index, world}
+use Rattle.recovery.specs.index_core.specs.Indexes.{Index, map_of_index, world}
 use Rattle.core_rounds.specs.CoreMaps.{Waits}
 use Rattle.core_rounds.specs.Waiting.{one_if}
 use Rattle.core_rounds.proofs.Waiting.{no_put_more}
 use Rattle.core_rounds.proofs.CoreMaps.{told_name, removal_counted, same_run}
-use Rattle.index_core.specs.Weights.{weight_of}
+use Rattle.recovery.specs.index_core.specs.Weights.{weight_of}
 use Rattle.core_rounds.proofs.CoreMaps.{no_put_adds}
 use Rattle.cat_history.specs.declared.op.NameOp.TheVariants as op
 use Rattle.core_rounds.proofs.core_map.CoreMapUpdatedMap.del.Goals as goal

@@ -1,8 +1,8 @@
 use Rattle.std.proofs.Common.{◌≤◌, refl, sym, subst, arith}
-use Rattle.index_core.specs.Indexes.{Index}
+use Rattle.recovery.specs.index_core.specs.Indexes.{Index}
 use Rattle.core_rounds.specs.CoreMaps.{Waits}
 use Rattle.core_rounds.proofs.Waiting.{no_more, none_changed}
-use Rattle.index_core.specs.Weights.{weight_of}
+use Rattle.recovery.specs.index_core.specs.Weights.{weight_of}
 use Rattle.core_rounds.proofs.CoreMaps.{no_put_adds}
 use Rattle.cat_history.specs.declared.op.NameOp.TheVariants as op
 use Rattle.core_rounds.proofs.core_map.CoreMapUpdatedMap.get.Goals as goal

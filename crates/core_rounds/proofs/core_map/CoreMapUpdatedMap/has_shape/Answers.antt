@@ -1,7 +1,7 @@
 use Rattle.std.proofs.Common.{◌≤◌, subst, arith}
 use Rattle.shapes.specs.Weights.{IsShape, weight}
-use Rattle.index_core.specs.Indexes.{map_of_index, world}
-use Rattle.index_core.specs.Weights.{weight_of}
+use Rattle.recovery.specs.index_core.specs.Indexes.{map_of_index, world}
+use Rattle.recovery.specs.index_core.specs.Weights.{weight_of}
 use Rattle.index_law.specs.Anchors.{anchors_in}
 use Rattle.core_rounds.proofs.CoreMaps.{core_light, core_shape}
 use Rattle.core_rounds.proofs.core_map.CoreMapUpdatedMap.has_shape.Goals as goal

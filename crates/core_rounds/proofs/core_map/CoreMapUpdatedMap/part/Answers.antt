@@ -1,7 +1,7 @@
 use Rattle.std.proofs.Common.{ℕ, ◌≤◌, subst}
-use Rattle.index_core.specs.Indexes.{Index}
+use Rattle.recovery.specs.index_core.specs.Indexes.{Index}
 use Rattle.core_rounds.specs.CoreMaps.{Waits}
-use Rattle.index_core.specs.Weights.{weight_of}
+use Rattle.recovery.specs.index_core.specs.Weights.{weight_of}
 use Rattle.core_rounds.proofs.core_map.CoreMapUpdatedMap.part.Goals as goal
 
 pub returns-in_err-listed_pairs-clause-waits : goal.returns-in_err-listed_pairs-clause-waits

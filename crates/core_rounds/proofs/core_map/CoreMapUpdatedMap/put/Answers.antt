@@ -2,12 +2,12 @@ use Rattle.std.proofs.Common.{ℕ, ◌+◌, ◌≤◌, refl, sym, ap, subst, ◌
 use Rattle.std.specs.FinMap.{len}
 use Rattle.shapes.specs.Anchors.{splits}
 use Rattle.index_law.specs.Anchors.{anchors_in}
-use Rattle.index_core.specs.Indexes.{Index, map_of_index, world}
+use Rattle.recovery.specs.index_core.specs.Indexes.{Index, map_of_index, world}
 use Rattle.core_rounds.specs.CoreMaps.{Waits}
 use Rattle.core_rounds.specs.Waiting.{one_if}
 use Rattle.core_rounds.proofs.CoreMaps.{few_names, put_counted, same_run}
 use Rattle.std.specs.Prelude.{is_none}
-use Rattle.index_core.specs.Weights.{weight_of}
+use Rattle.recovery.specs.index_core.specs.Weights.{weight_of}
 use Rattle.core_rounds.proofs.CoreMaps.{on-err, put_adds}
 use Rattle.core_rounds.proofs.core_map.CoreMapUpdatedMap.put.Goals as goal
 

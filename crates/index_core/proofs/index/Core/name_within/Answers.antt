@@ -3,17 +3,25 @@ use Rattle.call_stages.specs.declared.once.Once.{Once}
 use Rattle.call_stages.specs.declared.once.Placed.{Placed}
 use Rattle.pm_words.specs.declared.layout.Layout.{Layout}
 use Rattle.std.specs.Prelude.{Some, None}
-use Rattle.lone_updater_law.specs.CallLogs.{ready_lines}
+use Rattle.lone_hops_law.specs.lone_updater_law.specs.CallLogs.{ready_lines}
 use Rattle.index_core.specs.Costs.{most_actions}
 use Rattle.index_core.specs.Indexes.{Index, world}
 use Rattle.index_core.specs.Lone.{lacks_node, needs_split, whole_of}
-use Rattle.index_core.proofs.Alone.{ran_runs, ran_each, ran_locks, full_runs, full_again, counted_each, counted_locks, ran_quiet, ran_still}
-use Rattle.index_core.proofs.Retrying.{HasItsLine, HasItsNode, RanAll, tried_first, line_at_once, line_behind_turn, node_at_once, node_behind_turn, answered_at_once, ran_once, ran_twice, takes_behind_line, takes_behind_node, takes_behind_split, twice_answered}
-use Rattle.index_core.proofs.Withins.{Stood, stood_first, stood_behind, stood_again, stood_spare, cut_behind, back_line, back_node, back_split}
+use Rattle.index_core.proofs.Alone.{ran_runs, ran_each, ran_locks, full_runs, full_again, counted_each, counted_locks}
+use Rattle.index_core.proofs.Alone.{ran_quiet, ran_still}
+use Rattle.index_core.proofs.Retrying.{HasItsLine, HasItsNode, RanAll, tried_first, line_at_once, line_behind_turn}
+use Rattle.index_core.proofs.Retrying.{node_at_once, node_behind_turn, answered_at_once, ran_once, ran_twice}
+use Rattle.index_core.proofs.Retrying.{takes_behind_line, takes_behind_node, takes_behind_split, twice_answered}
+use Rattle.index_core.proofs.Withins.{Stood, stood_first, stood_behind, stood_again, stood_spare, cut_behind}
+use Rattle.index_core.proofs.Withins.{back_line, back_node, back_split}
 use Rattle.index_core.proofs.Costs.{needs_none}
 use Rattle.index_core.proofs.InTime.{again_so, try_in_time}
 use Rattle.index_core.proofs.index.Core.name_within.Goals as goal
-use Rattle.index_core.proofs.index.Core.name_within.Goals.{then-lacks_line+in-Some-try_behind_turn_within, else-lacks_line, then-lacks_node+in-Some-try_behind_turn_within-2, else-lacks_node, then-needs_split+in-Some-try_within, else-needs_split}
+use Rattle.index_core.proofs.index.Core.name_within.Goals.{then-lacks_line+in-Some-try_behind_turn_within}
+use Rattle.index_core.proofs.index.Core.name_within.Goals.{else-lacks_line}
+use Rattle.index_core.proofs.index.Core.name_within.Goals.{then-lacks_node+in-Some-try_behind_turn_within-2}
+use Rattle.index_core.proofs.index.Core.name_within.Goals.{else-lacks_node, then-needs_split+in-Some-try_within}
+use Rattle.index_core.proofs.index.Core.name_within.Goals.{else-needs_split}
 
 pub try_behind_turn_within-requires-clause-still : goal.try_behind_turn_within-requires-clause-still
 try_behind_turn_within-requires-clause-still g c = c.in-Some.ensures.tries.still c.args.caller c.requires.still

@@ -2,7 +2,7 @@ use Rattle.std.proofs.Common.{◌≡◌, ◌<◌, refl, sym, subst, arith}
 use Rattle.call_stages.specs.declared.once.Once.{Once}
 use Rattle.call_stages.specs.declared.once.Placed.{Placed}
 use Rattle.node_ops.specs.declared.part.PartWords.{PartWords}
-use Rattle.lone_updater_law.specs.CallLogs.{ready_lines}
+use Rattle.lone_hops_law.specs.lone_updater_law.specs.CallLogs.{ready_lines}
 use Rattle.index_core.specs.declared.party.CoreCall.{CoreCall}
 use Rattle.index_core.specs.declared.party.CoreCall.TheVariants as call
 use Rattle.index_core.specs.Costs.{most_actions}
@@ -12,7 +12,8 @@ use Rattle.index_core.specs.Withins.{EndsInTime}
 use Rattle.node_ops.specs.declared.recheck.Same.{Same}
 use Rattle.index_core.specs.Rechecks.{CutsRecheckOff, RechecksAlone, same_whole}
 use Rattle.index_core.proofs.Either.{a_recheck, a_turn, no_recheck, no_turn}
-use Rattle.index_core.proofs.Ends.{ends_by, in_time_ends, name_ends, recheck_ends, recheck_no_name, recheck_no_turn, spent_ends, stays_end}
+use Rattle.index_core.proofs.Ends.{ends_by, in_time_ends, name_ends, recheck_ends, recheck_no_name, recheck_no_turn}
+use Rattle.index_core.proofs.Ends.{spent_ends, stays_end}
 use Rattle.index_core.proofs.Stepping.{respare}
 use Rattle.index_core.proofs.index.Core.run_within.Goals as goal
 

@@ -3,7 +3,7 @@ use Rattle.pm_words.specs.declared.action.Action.TheVariants.{Load}
 use Rattle.pm_words.specs.declared.machine.Turn.TheVariants.{Done}
 use Rattle.pm_words.specs.Locations.{cached_address}
 use Rattle.machine_runs.proofs.Inside.{same_bursts}
-use Rattle.tree_law.specs.FloorWalks.{node_told}
+use Rattle.tree_row.specs.tree_law.specs.FloorWalks.{node_told}
 use Rattle.tree_floor.specs.declared.floor.FloorAt.TheVariants as at
 use Rattle.tree_floor.proofs.FloorReading.{floor_is, floor_can, load_bursts, at_may, at_bursts, at_key, first_loads}
 use Rattle.tree_floor.proofs.FloorReading.{root_address, leaf_within, leaf_bursts}

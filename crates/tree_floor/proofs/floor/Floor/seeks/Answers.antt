@@ -3,7 +3,7 @@ use Rattle.pm_words.specs.declared.action.Action.TheVariants.{Load}
 use Rattle.pm_words.specs.Locations.{Cell, word_number, cached_address}
 use Rattle.machine_runs.proofs.Running.{run_may, burst_behind}
 use Rattle.machine_runs.proofs.Inside.{same_bursts}
-use Rattle.tree_law.specs.Words.{kind_of, number_of}
+use Rattle.tree_row.specs.tree_law.specs.Words.{kind_of, number_of}
 use Rattle.tree_floor.specs.declared.floor.FloorAt.TheVariants as at
 use Rattle.tree_floor.specs.declared.scan.Scanned.{Scanned}
 use Rattle.tree_floor.specs.Floors.{floor_takes, has_scanned}

@@ -1,7 +1,7 @@
 use Rattle.std.proofs.Common.{ℕ, ap, subst, arith}
 use Rattle.pm_words.specs.declared.action.Action.TheVariants.{Load}
 use Rattle.machine_runs.proofs.Running.{run_begins, run_goes, run_may, run_takes}
-use Rattle.tree_law.specs.Words.{kind_of}
+use Rattle.tree_row.specs.tree_law.specs.Words.{kind_of}
 use Rattle.tree_floor.specs.declared.floor.FloorAt.TheVariants as at
 use Rattle.tree_floor.specs.declared.scan.Scan.{Scan}
 use Rattle.tree_floor.specs.declared.scan.Scan.TheVariants as scan

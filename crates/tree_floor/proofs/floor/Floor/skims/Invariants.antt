@@ -1,5 +1,5 @@
 use Rattle.std.proofs.Common.{ℕ, ◌-◌}
-use Rattle.tree_law.specs.Words.{kind_of}
+use Rattle.tree_row.specs.tree_law.specs.Words.{kind_of}
 use Rattle.tree_floor.specs.declared.floor.FloorAt.TheVariants as at
 use Rattle.tree_floor.specs.declared.scan.Scan.TheVariants as scan
 use Rattle.tree_floor.specs.Scans.{entry_count}
