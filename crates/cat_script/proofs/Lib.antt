@@ -1,6 +1,7 @@
 mod LineLemmas
 mod NumberLemmas
 mod WordLemmas
+mod PlainLemmas
 mod CrashLemmas
 mod RoundLemmas
 mod ReadLemmas

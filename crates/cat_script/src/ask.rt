@@ -6,7 +6,7 @@ ghost use Rattle.std.specs.Prelude.{◌↔◌, IfSome, IsNone, IsTrue};
 ghost use Rattle.std.specs.List.{AllZip};
 ghost use Rattle.std.specs.Str.{bytes_eq};
 ghost use Rattle.cat_key.specs.Names.{IsName};
-ghost use Rattle.cat_script.specs.Asks.{Says, IsLine};
+ghost use Rattle.cat_script.specs.Asks.{IsComment, Says, IsLine};
 ghost use Rattle.cat_script.specs.Lines.{words_of};
 ghost use Rattle.cat_script.specs.Numbers.{IsNumber, IsUpTo, IsSomeUpTo};
 ghost use Rattle.cat_script.specs.Reasons.{setting_verb, HaveFirst, IsFirstReason, FailsBy};
@@ -294,10 +294,24 @@ pub(crate) fn read_line(alloc: Global, line: &[u8]) -> Result<Line, LineFault>
     if first.starts_with(b"#") {
         return Ok(Line::Blank);
     }
-    if !is_plain(line) {
-        return Err(LineFault::Faulty(Reason::Byte));
+    match read_words(alloc, first, rest) {
+        Ok(asked) => Ok(asked),
+        Err(fault) => Err(first_fault(line, fault)),
     }
-    read_words(alloc, first, rest)
+}
+
+/// The first fault of a line whose words have this one. What asks something has only bytes that a line may have, so no
+/// other line is looked at for them.
+fn first_fault(line: &[u8], fault: LineFault) -> LineFault
+    requires some { words_of line.now ≢ [] }
+    requires asks { ¬ IsComment (words_of line.now) }
+    requires fails { FailsBy (HaveFirst (words_of line.now)) fault }
+    ensures { FailsBy (IsFirstReason line.now) result }
+{
+    if is_plain(line) {
+        return fault;
+    }
+    LineFault::Faulty(Reason::Byte)
 }
 
 /// The one word of a text; None where it has none or more.
