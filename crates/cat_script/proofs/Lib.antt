@@ -2,6 +2,7 @@ mod LineLemmas
 mod NumberLemmas
 mod WordLemmas
 mod PlainLemmas
+mod UsualLemmas
 mod CrashLemmas
 mod RoundLemmas
 mod ReadLemmas

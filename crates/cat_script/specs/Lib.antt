@@ -12,3 +12,4 @@ pub mod Reading
 pub mod Fits
 pub mod Generators
 pub mod Laws
+pub mod Usual

@@ -14,6 +14,7 @@ ghost use Rattle.cat_script.specs.Reasons.{setting_verb, HaveFirst, IsFirstReaso
 use crate::cut::{is_plain, split_word};
 use crate::line::{Line, LineFault, Reason};
 use crate::number::{number_up_to, read_number};
+use crate::usual::usual_call;
 use cat_history::{CrashPlan, Items, Op};
 use cat_key::Name;
 use pm_words::MOST_WRITES;
@@ -286,6 +287,16 @@ fn is_word(word: &[u8], text: &str) -> bool
 
 /// Reads a line.
 pub(crate) fn read_line(alloc: Global, line: &[u8]) -> Result<Line, LineFault>
+    ensures { MatchResult result (IsLine line.now) (FailsBy (IsFirstReason line.now)) }
+{
+    if let Some(asked) = usual_call(line) {
+        return Ok(asked);
+    }
+    read_any(alloc, line)
+}
+
+/// Reads a line by its words.
+fn read_any(alloc: Global, line: &[u8]) -> Result<Line, LineFault>
     ensures { MatchResult result (IsLine line.now) (FailsBy (IsFirstReason line.now)) }
 {
     let Some((first, rest)) = split_word(line) else {

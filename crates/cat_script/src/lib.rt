@@ -13,6 +13,7 @@ mod line;
 mod number;
 mod read;
 mod script;
+mod usual;
 
 pub use fault::{MOST_BYTES, ScriptFault};
 pub use fitting::fits;

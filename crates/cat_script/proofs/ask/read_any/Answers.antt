@@ -1,7 +1,7 @@
 use Rattle.std.proofs.Common.{ℕ, List, sym, subst}
 use Rattle.cat_script.specs.Asks.{Says}
 use Rattle.cat_script.proofs.PlainLemmas.{said_is_line}
-use Rattle.cat_script.proofs.ask.read_line.Goals as goal
+use Rattle.cat_script.proofs.ask.read_any.Goals as goal
 
 pub returns-in-Ok : goal.returns-in-Ok
 returns-in-Ok c =
