@@ -82,12 +82,22 @@ fn add_record(text: &mut Vec<u8>, call: &Record) -> Result<(), NoMemory>
 fn add_record_line(text: &mut Vec<u8>, call: &Record) -> Result<(), NoMemory>
     ensures { OnOk result (text.new.items ≡ text.old.items ++ record_line call.now) }
 {
-    add_number(text, call.caller)?;
+    add_caller(text, call.caller)?;
     text.extend_from_slice(b" ")?;
     add_op(text, &call.op)?;
     text.extend_from_slice(b" -> ")?;
     add_reply(text, &call.reply)?;
     text.extend_from_slice(b"\n")
+}
+
+/// Adds a caller's number, which is mostly a digit.
+fn add_caller(text: &mut Vec<u8>, caller: u64) -> Result<(), NoMemory>
+    ensures { OnOk result (text.new.items ≡ text.old.items ++ decimal caller) }
+{
+    if caller < 10 {
+        return text.extend_from_slice(&[b'0' + caller as u8]);
+    }
+    add_number(text, caller)
 }
 
 fn add_op(text: &mut Vec<u8>, op: &Op) -> Result<(), NoMemory>
