@@ -150,6 +150,7 @@ impl Machine for Del {
 
     ghost left = { del_left };
 
+    #[inline(always)]
     fn action(&self) -> Action {
         match self {
             Del::Single(single) => single.action(),
@@ -173,6 +174,7 @@ impl Del {
     ghost use Rattle.node_ops.specs.DelSteps.{del_asks, del_left, del_takes, del_turned};
 
     /// Tells it in place the number that its action gave. It goes on, or is done where there is an answer.
+    #[inline(always)]
     pub(crate) fn advance(&mut self, got: u64) -> Option<Once<Placed>>
         requires { del_takes self.old got }
         ensures turned { AdvancesTo (del_turned self.old got) self.new result }

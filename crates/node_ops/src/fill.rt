@@ -55,6 +55,7 @@ impl Machine for Fill {
 
     ghost left = { fill_left };
 
+    #[inline(always)]
     fn action(&self) -> Action {
         let call = &self.call;
         match &self.at {
@@ -93,6 +94,7 @@ impl Fill {
     ghost use Rattle.node_ops.specs.FillSteps.{fill_asks, filled};
 
     /// Tells it in place the number that its action gave, and answers whether it is done.
+    #[inline(always)]
     pub(crate) fn advance(&mut self, got: u64) -> bool
         requires { fill_takes self.old got }
         ensures turned { FillTurns (fill_turned self.old got) self.new result }

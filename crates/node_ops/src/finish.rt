@@ -49,6 +49,7 @@ impl Machine for Finish {
 
     ghost left = { finish_left };
 
+    #[inline(always)]
     fn action(&self) -> Action {
         match &self.at {
             FinishAt::Fence { line, fence } => fence.action(self.call.address(*line + fence.word)),
@@ -82,6 +83,7 @@ impl Finish {
     ghost use Rattle.node_ops.specs.Asked.{op_of_finish};
 
     /// Tells it in place the number that its action gave. It goes on, or is done where there is an answer.
+    #[inline(always)]
     pub(crate) fn advance(&mut self, got: u64) -> Option<Once<Placed>>
         requires { finish_takes self.now got }
         ensures turned { AdvancesTo (finish_turned self.entry.now got) self.exit.now result }

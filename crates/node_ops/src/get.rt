@@ -83,6 +83,7 @@ impl Machine for Get {
 
     ghost left = { get_left };
 
+    #[inline(always)]
     fn action(&self) -> Action {
         match self {
             Get::Looking { lookup } => lookup.action(),
@@ -110,6 +111,7 @@ impl Get {
     ghost use Rattle.node_ops.specs.GetSteps.{checked, get_asks, get_left, get_looked, get_takes, get_turned};
 
     /// Tells it in place the number that its action gave. It goes on, or is done where there is an answer.
+    #[inline(always)]
     pub(crate) fn advance(&mut self, got: u64) -> Option<Once<Placed>>
         requires { get_takes self.old got }
         ensures turned { AdvancesTo (get_turned self.old got) self.new result }
@@ -146,6 +148,7 @@ impl Get {
     }
 
     /// Where it looks, it has one number more, and once it has looked it checks.
+    #[inline(always)]
     fn looked(&mut self, got: u64) -> Option<Once<Placed>>
         requires { get_takes self.old got }
         ensures turned { (lookup : Lookup) → self.old ≡ Get.Looking lookup

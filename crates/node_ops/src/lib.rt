@@ -12,6 +12,9 @@
 //!
 //! A put that finds its node full and without its name splits it, and is to be made again. A delete that leaves few
 //! names takes a log line before its store, and once it is counted merges the next node into its own.
+//!
+//! Callers on threads ask a call for its action, and tell it a number, at each single event. What they go through then
+//! is marked `inline(always)`: handed from level to level through memory, an action would cost more than the event.
 #![tactic(auto)]
 
 mod call;

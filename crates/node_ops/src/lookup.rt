@@ -151,6 +151,7 @@ impl Machine for Lookup {
 
     ghost left = { lookup_left };
 
+    #[inline(always)]
     fn action(&self) -> Action {
         let call = &self.call;
         match &self.at {
@@ -216,6 +217,7 @@ impl Lookup {
     }
 
     /// Tells it in place the number that its action gave. It goes on, or is done where there is an answer.
+    #[inline(always)]
     pub(crate) fn advance(&mut self, got: u64) -> Option<Looked>
         requires { lookup_takes self.old got }
         ensures turned { AdvancesTo (lookup_turned self.old got) self.new result }
@@ -446,6 +448,7 @@ impl Lookup {
     }
 
     /// Where it walks, it has one word more, and at the end of the walk it knows its target.
+    #[inline(always)]
     fn walked(&mut self, got: u64) -> Option<Looked>
         requires takes { lookup_takes self.old got }
         ensures advances { (walk : Walk) → self.old.at ≡ LookupAt.Walk walk
@@ -543,6 +546,7 @@ impl Lookup {
     }
 
     /// Where it loads fingerprints, it has one word more of them, and after the last it knows the candidates.
+    #[inline(always)]
     fn saw_prints(&mut self, word: u64) -> Option<Looked>
         requires here { IsLookup self.old }
         ensures advances { (hold : Hold) (bitmap : ℕ) (prints : List ℕ) (k : ℕ)

@@ -178,6 +178,7 @@ impl Machine for Put {
 
     ghost left = { put_left };
 
+    #[inline(always)]
     fn action(&self) -> Action {
         match self {
             Put::Single(single) => single.action(),
@@ -201,6 +202,7 @@ impl Put {
     ghost use Rattle.node_ops.specs.PutSteps.{put_asks, put_left, put_takes, put_turned};
 
     /// Tells it in place the number that its action gave. It goes on, or is done where there is an answer.
+    #[inline(always)]
     pub(crate) fn advance(&mut self, got: u64) -> Option<Once<Placed>>
         requires { put_takes self.old got }
         ensures turned { AdvancesTo (put_turned self.old got) self.new result }

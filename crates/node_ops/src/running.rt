@@ -38,6 +38,7 @@ impl Machine for Running {
 
     ghost left = { running_left };
 
+    #[inline(always)]
     fn action(&self) -> Action {
         match self {
             Running::Getting(get) => get.action(),
@@ -124,6 +125,7 @@ impl Running {
     ghost use Rattle.node_ops.specs.Asked.{op_in};
 
     /// Tells it in place the number that its action gave. It goes on, or is done where there is an answer.
+    #[inline(always)]
     pub fn advance(&mut self, got: u64) -> Option<Once<Placed>>
         requires { running_takes self.old got }
         ensures turned { AdvancesTo (running_turned self.old got) self.new result }

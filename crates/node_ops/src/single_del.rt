@@ -90,6 +90,7 @@ impl SingleDel {
     ghost use Rattle.node_ops.specs.Bursts.{SingleDelBursts};
 
     /// Tells it in place the number that its action gave. It goes on, or its work on the node is done.
+    #[inline(always)]
     pub(crate) fn advance(&mut self, got: u64) -> Option<SingleDelDone>
         requires { del_takes (Del.Single self.old) got }
         ensures turned { SingleDelTurns (del_turned (Del.Single self.old) got) self.new result }
@@ -152,6 +153,7 @@ impl SingleDel {
     }
 
     /// Where it looks, it has one number more, and once it has looked it goes on with what it found.
+    #[inline(always)]
     fn looked(&mut self, got: u64) -> Option<SingleDelDone>
         requires { del_takes (Del.Single self.old) got }
         ensures turned { (lookup : Lookup) → self.old ≡ SingleDel.Looking lookup
@@ -425,6 +427,7 @@ impl SingleDel {
     }
 
     /// The action that it asks for.
+    #[inline(always)]
     pub(crate) fn action(&self) -> Action
         requires { IsDel (Del.Single self.now) }
         ensures { result ≡ del_asks (Del.Single self.now) }

@@ -73,6 +73,7 @@ impl SinglePut {
     ghost use Rattle.node_ops.specs.Bursts.{SinglePutBursts};
 
     /// Tells it in place the number that its action gave. It goes on, or its work on the node is done.
+    #[inline(always)]
     pub(crate) fn advance(&mut self, got: u64) -> Option<SinglePutDone>
         requires { put_takes (Put.Single self.old) got }
         ensures turned { SinglePutTurns (put_turned (Put.Single self.old) got) self.new result }
@@ -140,6 +141,7 @@ impl SinglePut {
     }
 
     /// Where it looks, it has one number more, and once it has looked it goes on with what it found.
+    #[inline(always)]
     fn looked(&mut self, got: u64) -> Option<SinglePutDone>
         requires { put_takes (Put.Single self.old) got }
         ensures turned { (lookup : Lookup) (value : ℕ) → self.old ≡ SinglePut.Looking lookup value
@@ -328,6 +330,7 @@ impl SinglePut {
     }
 
     /// The action that it asks for.
+    #[inline(always)]
     pub(crate) fn action(&self) -> Action
         requires { IsPut (Put.Single self.now) }
         ensures { result ≡ put_asks (Put.Single self.now) }

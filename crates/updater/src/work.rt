@@ -119,6 +119,7 @@ impl Machine for Work {
 
     ghost left = { work_left };
 
+    #[inline(always)]
     fn action(&self) -> Action {
         let layout = self.terms.layout;
         match &self.at {
@@ -188,6 +189,7 @@ impl Work {
     }
 
     /// Tells it in place the number that its action gave. It goes on, or is done where there is an answer.
+    #[inline(always)]
     pub fn advance(&mut self, got: u64) -> Option<Turned>
         requires { work_takes self.old got }
         ensures turned { AdvancesTo (work_turned self.old got) self.new result }
