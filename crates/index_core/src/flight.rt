@@ -212,7 +212,7 @@ ghost use Rattle.index_core.specs.Bursts.{BurstsInPlace, MayBurst};
 ghost use Rattle.index_core.specs.CoreCalls.{MayBegin, machine_of, op_of};
 
 /// A call begins in this room, in the place of the last one where it can.
-fn begins_in(room: &mut Option<Running>, view: View, call: &CoreCall)
+pub fn begins_in(room: &mut Option<Running>, view: View, call: &CoreCall)
     requires view { IsView view }
     requires begins { MayBegin call.now }
     ensures room { room.new ≡ Some (machine_of view call.now) }

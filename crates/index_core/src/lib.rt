@@ -19,7 +19,7 @@ mod turns;
 mod within;
 
 pub use crash::{Crashed, CutCall, Cuts};
-pub use flight::Flight;
+pub use flight::{Flight, begins_in};
 pub use index::{Core, Parts};
 pub use listing::listed_pairs;
 pub use lone::LONE_STAMP;

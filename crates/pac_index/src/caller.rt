@@ -1,3 +1,4 @@
+use crate::rooms::Rooms;
 use crate::rule::Members;
 use atomic_table::Seat;
 use cat_history::Write;
@@ -5,7 +6,8 @@ use epochs::EpochSeat;
 use index_core::CoreCall;
 
 /// A caller of a shared index: its seats on the words and on the epoch, its number, the index of its next call, how
-/// many more steps on the words it may make, the call of it that was cut off, and the writes that it placed.
+/// many more steps on the words it may make, the call of it that was cut off, the writes that it placed, and rooms for
+/// its calls.
 #[derive(Drop)]
 pub struct Caller {
     pub(crate) seat: Seat<(), Members>,
@@ -15,6 +17,7 @@ pub struct Caller {
     pub(crate) left: Option<u64>,
     pub(crate) cut: Option<CutCall>,
     pub(crate) kept: Vec<PlacedWrite>,
+    pub(crate) rooms: Rooms,
 }
 
 /// A write, with its place in the history.

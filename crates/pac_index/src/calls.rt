@@ -161,6 +161,7 @@ impl Shared {
             &caller.pins,
             &pin,
             &mut caller.left,
+            &mut caller.rooms,
             pace,
         );
         self.epochs.unpin(&mut caller.pins, pin);

@@ -24,6 +24,7 @@ mod meeting;
 mod ran;
 mod rechecks;
 mod repeats;
+mod rooms;
 mod rule;
 mod scans;
 mod shared;

@@ -6,6 +6,7 @@ ghost use Rattle.pac_index.specs.Callers.{Opened, HasCallers, AreNew};
 ghost use Rattle.epochs.specs.Seats.{HasSeats, AreNew as AreNewSeats};
 
 use crate::caller::Caller;
+use crate::rooms::Rooms;
 use crate::rule::{About, Members, SplitFirst};
 use crate::shared::Shared;
 use atomic_table::{Seat, Table};
@@ -68,6 +69,7 @@ impl Shared {
             let seat = self.table.shared.split_seat::<SplitFirst>(&mut all);
             let pins = seats.remove(0);
             let kept = Vec::new(alloc);
+            let rooms = Rooms::new();
             callers.push(Caller {
                 seat,
                 pins,
@@ -76,6 +78,7 @@ impl Shared {
                 left: None,
                 cut: None,
                 kept,
+                rooms,
             })?;
         }
         Ok(callers)

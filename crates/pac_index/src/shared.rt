@@ -18,6 +18,7 @@ ghost use Rattle.pac_index.specs.Calls.{Answers, PartAnswers, Runs, FirstTurn, S
 use crate::budget::{pay, pay_one};
 use crate::gate::{Gate, Pace};
 use crate::ran::Ran;
+use crate::rooms::Rooms;
 use crate::rule::{About, BeginsCall, ByOutcome, FirstStep, Members, NextStep, Outcome, Ruled};
 use atomic_table::{Seat, Table};
 use call_stages::{Once, Placed, View};
@@ -91,6 +92,7 @@ impl Shared {
         pins: &EpochSeat,
         pin: &Pin,
         left: &mut Option<u64>,
+        rooms: &mut Rooms,
         pace: &mut Pace<'_, G>,
     ) -> Ran<Placed>
         requires pinned { Holds pins.now pin.now }
@@ -108,9 +110,34 @@ impl Shared {
             (λ place. (left.new ≡ Some 0) × StopsAt call index (party seat.old.me) place (party seat.new.me)) }
         ensures paid { Pays left.old left.new (party seat.old.me).taken (party seat.new.me).taken }
     {
-        let mut machine = call.machine(self.view(number));
+        let machine = rooms.begun(self.view(number), &call);
+        self.run_in::<C, G>(seat, machine, left, pace)
+    }
+
+    /// The same of this machine, which begins.
+    fn run_in<C: BeginsCall, G: Gate>(
+        &self,
+        seat: &mut Seat<(), Members>,
+        machine: &mut Running,
+        left: &mut Option<u64>,
+        pace: &mut Pace<'_, G>,
+    ) -> Ran<Placed>
+        requires table { seat.old.table_id ≡ self.now.table.shared.table_id }
+        requires lone { IsLone seat.old.me }
+        requires about { (party seat.old.me).about ≡ self.now.about }
+        requires idle { (party seat.old.me).state.machine ≡ None }
+        requires machine { machine.old ≡ machine_in (party seat.old.me) C.call }
+        requires sound { IsRunning machine.old }
+        requires op { IsOf (op_of C.call) machine.old }
+        requires left { left.old ≢ Some 0 }
+        ensures seat { (seat.new.table_id ≡ seat.old.table_id) × (seat.new.id ≡ seat.old.id) }
+        ensures lone { IsLone seat.new.me }
+        ensures ran { OnRan result (λ answer. Answers C.call C.index (party seat.old.me) answer (party seat.new.me))
+            (λ place. (left.new ≡ Some 0) × StopsAt C.call C.index (party seat.old.me) place (party seat.new.me)) }
+        ensures paid { Pays left.old left.new (party seat.old.me).taken (party seat.new.me).taken }
+    {
         pay_one(left);
-        let mut answer = self.begin::<C, G>(seat, &mut machine, pace);
+        let mut answer = self.begin::<C, G>(seat, machine, pace);
         'steps: loop {
             if let Some(answer) = answer {
                 return Ran::Answered(answer);
@@ -120,7 +147,7 @@ impl Shared {
                     place: machine.place(),
                 };
             }
-            answer = self.go_on(seat, &mut machine, pace);
+            answer = self.go_on(seat, machine, pace);
         }
     }
 

@@ -27,7 +27,7 @@ loop-number-preserved c =
     let less : i < parties_of s.about.layout = omega (arith, c.loop-number-test.true, count) in
     let split = c.split_seat-seat.ensures in
     let pins = c.remove-pins.result in
-    let d : Caller = record { seat = c.split_seat-seat.result; pins = pins; number = i; index = 0; left = None; cut = None; kept = c.new-kept.result } in
+    let d : Caller = record { seat = c.split_seat-seat.result; pins = pins; number = i; index = 0; left = None; cut = None; kept = c.new-kept.result; rooms = c.new-rooms.result } in
     let next = next_seat c.args.seats.items i c.loop-number.seats.items pins inv.4 (let count' = c.requires.seats.0.count in let parties = s.parties in omega arith) c.remove-pins.ensures.value in
     let hands = handed s i c.loop-number.callers.items d less inv.2 inv.3 (split.3 ∙ inv.0) (split.4 ∙ ap (λ (v : List Member). (first_of v, [])) (ap (λ q. q.0) inv.1)) refl refl refl refl c.new-kept.ensures.items (c.requires.seats.0.each i pins next) (ap (λ (m : PinMember). m.pin) (c.requires.seats.1 i pins next)) (c.requires.seats.0.numbers i pins next) in (
       split.0 ∙ inv.0,
