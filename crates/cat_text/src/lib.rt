@@ -5,6 +5,7 @@ pub mod laws;
 mod outside;
 mod print;
 mod report;
+mod room;
 mod summary;
 mod word_line;
 

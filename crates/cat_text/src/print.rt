@@ -8,6 +8,7 @@ ghost use Rattle.cat_text.specs.Reports.{report_text, round_text};
 
 use crate::NoMemory;
 use crate::report::{Report, RoundReport};
+use crate::room::room_for;
 use cat_history::{CutMark, Op, Record, Reply, ScanPart};
 use cat_key::{Name, Pair};
 use itoa::Buffer;
@@ -28,8 +29,9 @@ pub fn print_report(alloc: Global, report: &Report) -> Result<Vec<u8>, NoMemory>
 pub fn print_rounds(alloc: Global, report: &Report) -> Result<Vec<u8>, NoMemory>
     ensures { IfOk result (λ text. text.items ≡ report_text report.now) }
 {
-    let mut text = Vec::new(alloc);
-    for round in report.as_slice() {
+    let rounds = report.as_slice();
+    let mut text = Vec::with_capacity(alloc, room_for(rounds))?;
+    for round in rounds {
         add_round(&mut text, round)?;
     }
     Ok(text)
