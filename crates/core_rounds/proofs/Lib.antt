@@ -7,5 +7,6 @@ pub mod Restarting
 pub mod RoundTurns
 pub mod RoundWaits
 pub mod ScanSteps
+pub mod Shortening
 pub mod Summing
 pub mod Waiting

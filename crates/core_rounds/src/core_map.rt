@@ -31,6 +31,9 @@ use std::alloc::Global;
 use std::marker::{Brand, Model, PhantomData};
 use std::sync::ledger::Ledger;
 
+/// So many writes a history may have before it is made shorter.
+const MANY_WRITES: u64 = 4096;
+
 /// The layout and the generation of a run of the index, for proofs alone: no call changes them.
 pub trait RunOf {
     ghost use Rattle.std.specs.Prelude.{ℕ};
@@ -192,10 +195,36 @@ impl<L: Ledger, K: RunOf> UpdatedMap for CoreMap<L, K> {
     }
 
     fn turn(&mut self) {
+        shorten(&mut self.core, self.names);
         let updater = self.core.layout().callers();
         self.core
             .turn_alone(updater, LONE_STAMP, LONE_STAMP, &mut self.steps);
     }
+}
+
+/// Makes the map the base of the history, where that has many writes, and more than a few for each name. Where there
+/// is no memory for it, the history stays. It takes a few steps a write, and keeps a long round's history short.
+fn shorten(core: &mut Core, names: u64)
+    requires index { IsIndex core.old }
+    requires quiet { IsQuiet core.old }
+    ensures map { map_of_index core.new ≡ map_of_index core.old }
+    ensures anchors { anchors_in (world core.new) ≡ anchors_in (world core.old) }
+    ensures layout { core.new.layout ≡ core.old.layout }
+    ensures generation { core.new.generation ≡ core.old.generation }
+    ensures calls_left { calls_left_of core.old ≤ calls_left_of core.new }
+    ensures writes_left { writes_left_of core.old ≤ writes_left_of core.new }
+    ensures weighs { weight_of core.new ≤ weight_of core.old }
+    ensures quiet { IsQuiet core.new }
+    ensures stamps { HasLowStamps core.old → HasLowStamps core.new }
+    ensures index { IsIndex core.new }
+{
+    let writes = core.history().len() as u64;
+    if writes < MANY_WRITES || writes / 4 < names {
+        return;
+    }
+    let Ok(()) = core.new_round() else {
+        return;
+    };
 }
 
 /// A whole call on an index that has calls left, with no other in flight. `Full` comes exactly where a put is full in

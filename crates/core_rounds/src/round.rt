@@ -248,7 +248,8 @@ fn scan<M: UpdatedMap>(
     ensures waits { (changes writes puts : ℕ) → M.waits map.old changes writes puts →
         M.waits map.new changes writes puts }
 {
-    let mut parts = Vec::new(alloc);
+    // Most scans have one part.
+    let mut parts = Vec::with_capacity(alloc, 1)?;
     let mut left = count;
     let mut next = Some(*from);
     while let Some(low) = next {

@@ -253,7 +253,8 @@ fn scan<M: BoundedMap>(
     ensures writes_left { M.writes_left map.old ≤ M.writes_left map.new }
     ensures weighs { M.weighs map.new ≤ M.weighs map.old }
 {
-    let mut parts = Vec::new(alloc);
+    // Most scans have one part.
+    let mut parts = Vec::with_capacity(alloc, 1)?;
     let mut left = count;
     let mut next = Some(*from);
     while let Some(low) = next {

@@ -5,7 +5,7 @@ use Rattle.core_rounds.proofs.round.scan.Goals as goal
 
 pub loop-next-init : goal.loop-next-init
 loop-next-init g c = record {
-  reads = reads-first _ _ c.args.from.now c.args.count c.args.place _ c.new-parts.ensures.items;
+  reads = reads-first _ _ c.args.from.now c.args.count c.args.place _ c.in_ok-parts.ensures.items;
   contents = refl;
   anchors = refl;
   slots = refl;

@@ -5,7 +5,7 @@ use Rattle.stopped_rounds.proofs.crash_round.scan.Goals as goal
 
 pub loop-next-init : goal.loop-next-init
 loop-next-init g c = record {
-  reads = reads-first _ c.args.from.now c.args.count c.args.place _ c.new-parts.ensures.items;
+  reads = reads-first _ c.args.from.now c.args.count c.args.place _ c.in_ok-parts.ensures.items;
   same = (refl, refl, refl);
   slots = refl;
   most = refl;
