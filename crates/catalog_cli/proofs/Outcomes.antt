@@ -29,7 +29,7 @@ use Rattle.catalog_cli.specs.Headline.Prints.{reports, runs, sums_up, makes_file
 use Rattle.catalog_cli.specs.declared.status.ImageRefusal.{ImageRefusal}
 use Rattle.catalog_cli.specs.declared.status.ImageRefusal.TheVariants as image
 use Rattle.cat_text.specs.Shelves.{FileMap, KeepsFiles}
-use Rattle.catalog_cli.specs.Refused.{IsOfNoCommand}
+use Rattle.catalog_cli.specs.Refused.{IsOfNoCommand, IsUnread}
 use Rattle.catalog_cli.specs.Statuses.{status_of_script}
 use Rattle.catalog_cli.specs.declared.status.Status.{Status}
 use Rattle.catalog_cli.specs.declared.status.Status.TheVariants as status
@@ -246,6 +246,29 @@ no-report words layout told status.Write is cause = cause
 no-report words layout told status.Shelf is cause = absurd cause
 no-report words layout told status.NoMemory is cause = inl (inl (layout, is))
 no-report words layout told (status.Image refusal) is cause = absurd cause
+
+-- none is made of what is no script
+pub unread-no-report : (callers : ℕ) (left : Option (List ℕ)) (reads reads' : ℕ) (answer : Status) → IsUnread left reads reads' answer → HasNoReport callers left reads reads' answer
+unread-no-report callers left reads reads' status.Done unread = absurd unread
+unread-no-report callers left reads reads' status.Usage unread = absurd unread
+unread-no-report callers left reads reads' (status.Script what) (inl long) = inl (ap status.Script long.0, long.1)
+unread-no-report callers left reads reads' (status.Script what) (inr first) = inr (first.0, first.1, inr (inl first.2))
+unread-no-report callers left reads reads' status.Read unread = unread
+unread-no-report callers left reads reads' status.Write unread = absurd unread
+unread-no-report callers left reads reads' status.Shelf unread = absurd unread
+unread-no-report callers left reads reads' status.NoMemory unread = tt
+unread-no-report callers left reads reads' (status.Image refusal) unread = absurd unread
+
+-- nor of a script that doesn't fit
+pub unfit-no-report : (callers : ℕ) (left : Option (List ℕ)) (reads reads' : ℕ) (bytes : List ℕ) (answer : Status) → AreBytesLeft left bytes → IsRefusedBy callers bytes answer → HasNoReport callers left reads reads' answer
+unfit-no-report callers left reads reads' bytes status.Done source refused = absurd refused
+unfit-no-report callers left reads reads' bytes status.Usage source refused = absurd refused
+unfit-no-report callers left reads reads' bytes (status.Script what) source refused = inr (bytes, source, refused)
+unfit-no-report callers left reads reads' bytes status.Read source refused = absurd refused
+unfit-no-report callers left reads reads' bytes status.Write source refused = absurd refused
+unfit-no-report callers left reads reads' bytes status.Shelf source refused = absurd refused
+unfit-no-report callers left reads reads' bytes status.NoMemory source refused = absurd refused
+unfit-no-report callers left reads reads' bytes (status.Image refusal) source refused = absurd refused
 
 -- nor is there for words that name no command
 pub no-command : (words : List (List ℕ)) (told : Seen) (answer : Status) → IsOfNoCommand words answer → HasNoText words told answer

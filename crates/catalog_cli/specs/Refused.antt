@@ -1,8 +1,7 @@
 -- Why words and texts are refused, before anything is played.
-use Rattle.std.specs.Prelude.{◌≡◌, ℕ, ◌<◌, ◌⊎◌, List, Option}
+use Rattle.std.specs.Prelude.{ℕ, ◌<◌, List, Option}
 use Rattle.cat_command.specs.Commands.{IsCommand}
 use Rattle.cat_command.specs.declared.command.Command.{Command}
-use Rattle.catalog_cli.specs.Reports.{IsRefusedBy}
 use Rattle.catalog_cli.specs.Runs.{IsNoScript}
 use Rattle.catalog_cli.specs.declared.status.Status.{Status}
 use Rattle.catalog_cli.specs.declared.status.Status.TheVariants as status
@@ -17,10 +16,6 @@ IsOfNoCommand words status.Write = ⊥
 IsOfNoCommand words status.Shelf = ⊥
 IsOfNoCommand words status.NoMemory = ⊥
 IsOfNoCommand words (status.Image refusal) = ⊥
-
--- The bytes are refused so, unless memory ran out.
-abbrev pub IsRefusedText : ℕ → List ℕ → Status → Type 0
-IsRefusedText callers bytes answer = (answer ≡ status.NoMemory) ⊎ IsRefusedBy callers bytes answer
 
 -- Why no script was read from a source.
 abbrev pub IsUnread : Option (List ℕ) → (reads reads' : ℕ) → Status → Type 0

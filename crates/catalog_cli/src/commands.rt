@@ -17,12 +17,12 @@ ghost use Rattle.pm_words.specs.Layouts.{IsLayout};
 use crate::files::{file_of, format_file, list_words};
 use crate::generated::play_generated;
 use crate::play::play;
-use crate::reading::read_accepted;
+use crate::reading::{accept, read_source};
 use crate::run_file::run_file;
 use crate::status::Status;
 use cat_command::{Command, read_command};
 use cat_script::MOST_BYTES;
-use cat_text::{Shelf, Sink, Source, WriteFault, print_report, read_whole, write_whole};
+use cat_text::{Shelf, Sink, Source, WriteFault, print_report, write_whole};
 use crowd_rounds::pac_index::Gate;
 use pm_words::Layout;
 use std::alloc::Global;
@@ -200,9 +200,10 @@ fn report_of<R: Threads + Wait + Sync, S: Source, G: Gate>(
     ensures refusal { IfErr result (HasNoReport layout.callers (S.left script.old) (S.faults script.old)
         (S.faults script.new)) }
 {
-    let bytes = read_whole(alloc, script, MOST_BYTES)?;
-    let script = read_accepted(alloc, layout, &bytes)?;
-    let report = play(rt, alloc, &layout, &script, gate)?;
+    // The bytes are let go once they are read, and the script once it is played: what a long one takes is memory.
+    let script = read_source(alloc, script)?;
+    accept(&script, layout)?;
+    let report = play(rt, alloc, &layout, script, gate)?;
     let text = print_report(alloc, &report)?;
     Ok(text)
 }

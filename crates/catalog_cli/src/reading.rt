@@ -4,7 +4,7 @@ ghost use Rattle.std.specs.Prelude.{◌≡◌, ◌+◌, ◌≤◌, ℕ, List, []
 ghost use Rattle.cat_script.specs.Scripts.{IsScript};
 ghost use Rattle.cat_text.specs.Outside.{ConsumesAtMost};
 ghost use Rattle.catalog_cli.specs.Headline.{IsAfterReading};
-ghost use Rattle.catalog_cli.specs.Refused.{IsRefusedText, IsUnread};
+ghost use Rattle.catalog_cli.specs.Refused.{IsUnread};
 ghost use Rattle.catalog_cli.specs.Reports.{IsAccepted, IsRefusedBy};
 ghost use Rattle.catalog_cli.specs.Runs.{AreBytesLeft};
 
@@ -13,16 +13,6 @@ use cat_script::{MOST_BYTES, Script, fits, read_script};
 use cat_text::{Source, read_whole};
 use pm_words::Layout;
 use std::alloc::Global;
-
-/// Reads a text as a script that fits a layout.
-pub(crate) fn read_accepted(alloc: Global, layout: Layout, bytes: &[u8]) -> Result<Script, Status>
-    ensures accepted { IfOk result (IsAccepted layout.callers bytes.now) }
-    ensures refused { IfErr result (IsRefusedText layout.callers bytes.now) }
-{
-    let script = read_script(alloc, bytes)?;
-    accept(&script, layout)?;
-    Ok(script)
-}
 
 /// Whether a script fits a layout.
 pub(crate) fn accept(script: &Script, layout: Layout) -> Result<(), Status>
