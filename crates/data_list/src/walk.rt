@@ -98,6 +98,7 @@ impl Machine for Walk {
 
     ghost left = { walk_left };
 
+    #[inline(always)]
     fn action(&self) -> Action {
         Action::Load(match &self.at {
             WalkAt::Version => self.address(self.node, node::VERSION),
@@ -181,6 +182,7 @@ impl Walk {
     }
 
     /// Tells it in place the word that it asked for. It goes on, or is done where there is an answer.
+    #[inline(always)]
     pub fn advance(&mut self, got: u64) -> Option<Walked>
         requires { walk_takes self.old got }
         ensures turned { AdvancesTo (walk_turned self.old got) self.new result }

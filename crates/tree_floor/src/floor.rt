@@ -78,6 +78,7 @@ impl Machine for Floor {
 
     ghost left = { floor_left };
 
+    #[inline(always)]
     fn action(&self) -> Action {
         let layout = self.layout;
         let word = match self.at {
@@ -138,6 +139,7 @@ impl Floor {
     }
 
     /// Tells it in place the word that it asked for. It goes on, or is done where there is an answer.
+    #[inline(always)]
     pub fn advance(&mut self, got: u64) -> Option<u64>
         requires { floor_takes self.old got }
         ensures { AdvancesTo (floor_turned self.old got) self.new result }
@@ -458,6 +460,7 @@ impl Floor {
     }
 
     /// A greater prefix: all keys there are greater. Its own key's: it goes on by the next byte. Else all are less.
+    #[inline(always)]
     fn has_prefix(&mut self, cell: u64, depth: u64, prefix: Key) -> Option<u64>
         requires layout { IsLayout self.old.layout }
         requires cell { IsCellOf self.old.layout cell }
@@ -478,6 +481,7 @@ impl Floor {
     }
 
     /// It has read more of a cell.
+    #[inline(always)]
     fn has_scanned(&mut self, cell: u64, depth: u64, byte: u64, scanned: Scanned) -> Option<u64>
         requires layout { IsLayout self.old.layout }
         requires depth { depth < key_bytes }

@@ -90,6 +90,7 @@ impl Scan {
     }
 
     /// What it is once it is told that word.
+    #[inline(always)]
     pub(crate) fn told(self, kind: u64, byte: u64, got: u64) -> Scanned
         requires scan { IsScan kind byte self }
         requires byte { byte ≤ 256 }

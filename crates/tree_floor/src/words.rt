@@ -21,6 +21,7 @@ pub const ROOT: u64 = 8;
 pub const KEY_WORDS: u64 = WORDS as u64;
 
 /// A cell's word, as an image word.
+#[inline(always)]
 pub fn word_of(layout: Layout, cell: u64, offset: u64) -> u64
     requires layout { IsLayout layout }
     requires cell { IsCellOf layout cell }
