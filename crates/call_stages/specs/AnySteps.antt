@@ -1,6 +1,7 @@
 -- All steps of a party: those on nodes, and those beside them, on words of log lines, on prevs, on permutations and of
 -- the search layer, which say nothing of nodes.
 use Rattle.std.specs.Prelude.{◌≡◌, ℕ, ◌<◌, ◌≤◌, ◌^◌, ◌⊎◌, Option, None}
+use Rattle.pm_words.specs.Offsets.{permutation_version_offset, permutation_offset}
 use Rattle.pm_words.specs.declared.layout.Layout.{Layout}
 use Rattle.pm_words.specs.declared.action.Action.{Action}
 use Rattle.pm_words.specs.declared.action.Action.TheVariants.{Load, Store, Drain}
@@ -18,7 +19,8 @@ HasLineWord l c j offset = (c < l.callers) × (j < 8) × (offset < 8)
 
 -- The offset, among a node's volatile words, of its permutation's version, or of one of its eight words.
 abbrev pub IsOfPermutation : ℕ → Type 0
-IsOfPermutation offset = (offset ≡ 3) ⊎ ((8 ≤ offset) × (offset < 16))
+IsOfPermutation offset = (offset ≡ permutation_version_offset) ⊎
+    ((permutation_offset 0 ≤ offset) × (offset < permutation_offset 8))
 
 abbrev pub volatile_address : Layout → ℕ → ℕ → ℕ
 volatile_address l n offset = address_of l (Volatile n offset)

@@ -1,12 +1,14 @@
 -- All that a party has at a moment, and the steps that it makes: on nodes, on its log line, the stores of prevs, the
 -- loads of words of the search layer, and the loads and stores of permutations.
-use Rattle.std.specs.Prelude.{◌≡◌, ◌≢◌, ℕ, ◌⊎◌, true, false, [], ◌∷◌, Option, Some, None, IfSome}
+use Rattle.std.specs.Prelude.{◌≡◌, ◌≢◌, ℕ, ◌⊎◌, true, false, [], Option, Some, None, IfSome}
 use Rattle.pm_words.specs.declared.layout.Layout.{Layout}
 use Rattle.pm_words.specs.declared.action.Action.{Action}
 use Rattle.pm_words.specs.declared.action.Action.TheVariants.{Load}
+use Rattle.pm_words.specs.Codes.{empty_state, open_state, merge_kind}
 use Rattle.layer_map.specs.cat_key.specs.Names.{AreNameWords}
 use Rattle.data_node.specs.Spots.{Spot}
-use Rattle.data_node.specs.Lists.{anchor_in}
+use Rattle.data_node.specs.Lists.{anchor_in, anchor_words}
+use Rattle.data_node.specs.Lines.{state_offset, kind_offset, line_node_offset}
 use Rattle.call_stages.specs.declared.once.Once.{Once}
 use Rattle.call_stages.specs.declared.once.Placed.{Placed}
 use Rattle.call_stages.specs.Stages.{Held, Grip, Filling, Linked, Gathered, Joined, Gone, Stage, Holds, Splits, Joins}
@@ -27,19 +29,19 @@ pub record Footing : Type 0 where
 -- What a party knows of its line says that it has this node's anchor, if that is a name.
 abbrev pub HasAnchorOf : HeldLine → Grip → Type 0
 HasAnchorOf e node =
-    (s t : Spot) → Tells e.seen s → Tells node.seen t → AreNameWords (t 3 ∷ t 4 ∷ t 5 ∷ []) → anchor_in s ≡ anchor_in t
+    (s t : Spot) → Tells e.seen s → Tells node.seen t → AreNameWords (anchor_words t) → anchor_in s ≡ anchor_in t
 
 -- And that it is OPEN, durably.
 pub record IsOpenOf (e : HeldLine) (node : Grip) : Type 0 where
   pub unready : e.ready ≡ false
   pub durable : e.dirty ≡ []
-  pub open_state : (s : Spot) → Tells e.seen s → s 0 ≡ 1
+  pub open_state : (s : Spot) → Tells e.seen s → s state_offset ≡ open_state
   pub anchor : HasAnchorOf e node
 
 -- Or that it is of the merge with which this node is left out.
 pub record IsOfMerge (e : HeldLine) (right : Grip) : Type 0 where
-  pub kind : (s : Spot) → Tells e.seen s → s 1 ≡ 2
-  pub node : (s : Spot) → Tells e.seen s → s 2 ≡ right.node
+  pub kind : (s : Spot) → Tells e.seen s → s kind_offset ≡ merge_kind
+  pub node : (s : Spot) → Tells e.seen s → s line_node_offset ≡ right.node
   pub anchor : HasAnchorOf e right
 
 -- It has a line of which this holds.
@@ -70,12 +72,13 @@ IsRetired _ e = ⊥
 -- once the right node is GONE, while both nodes are held.
 abbrev pub Waits : Stage → Option HeldLine → Option HeldLine → Type 0
 Waits stage (Some e) (Some after) = e.ready ≡ false → after.ready ≡ true →
-    ((n : ℕ) → IsSwitched stage n → ⊥) × (((s : Spot) → Tells e.seen s → s 1 ≢ 2) ⊎ IsRetired stage e)
+    ((n : ℕ) → IsSwitched stage n → ⊥) ×
+    (((s : Spot) → Tells e.seen s → s kind_offset ≢ merge_kind) ⊎ IsRetired stage e)
 Waits stage _ _ = Unit {0}
 
 -- The line is known to be EMPTY.
 abbrev pub IsKnownEmpty : HeldLine → Type 0
-IsKnownEmpty e = (s : Spot) → Tells e.seen s → s 0 ≡ 0
+IsKnownEmpty e = (s : Spot) → Tells e.seen s → s state_offset ≡ empty_state
 
 -- The line is left to a turn: it was made READY, and the party gives back the node that it merged, if it did.
 pub record IsLeftToTurn (next : Stage) (e : HeldLine) : Type 0 where

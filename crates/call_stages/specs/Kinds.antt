@@ -9,7 +9,7 @@ use Rattle.pm_words.specs.declared.again.Again.TheVariants as again
 use Rattle.pm_words.specs.declared.layout.Layout.{Layout}
 use Rattle.pm_words.specs.Codes.{free_status, live_status, gone_status}
 use Rattle.pm_words.specs.Locations.{address_of, node_words, Cached, Node, Clock, Volatile}
-use Rattle.pm_words.specs.Offsets.{prev_offset, status_offset}
+use Rattle.pm_words.specs.Offsets.{prev_offset, status_offset, version_offset}
 use Rattle.version_lock.specs.Versions.{generation_of, kept_count, locked_word, IsFree, IsWorn}
 use Rattle.layer_map.specs.cat_key.specs.Names.{IsName}
 use Rattle.data_node.specs.cat_history.specs.Maps.{Map, at}
@@ -17,7 +17,7 @@ use Rattle.data_node.specs.cat_history.specs.Writes.{changed, name_of}
 use Rattle.data_node.specs.cat_history.specs.declared.op.Change.{Change}
 use Rattle.data_node.specs.Slots.{AreAllLive}
 use Rattle.data_node.specs.Spots.{Spot, IsTidy, Means, updated, bitmap_offset}
-use Rattle.data_node.specs.Lists.{next_offset, key_of, anchor_in, IsBetween, StaysIn}
+use Rattle.data_node.specs.Lists.{next_offset, anchor_offset, key_of, anchor_in, IsBetween, StaysIn}
 use Rattle.data_node.specs.Weights.{names_in}
 use Rattle.call_stages.specs.declared.once.Once.{Once}
 use Rattle.call_stages.specs.declared.once.Once.TheVariants as once
@@ -37,7 +37,7 @@ abbrev pub word_address : Layout → ℕ → ℕ → ℕ
 word_address l n offset = address_of l (Cached (Node n offset))
 
 abbrev pub version_address : Layout → ℕ → ℕ
-version_address l n = word_address l n 0
+version_address l n = word_address l n version_offset
 
 -- The addresses of a node's status and of its prev.
 abbrev pub status_address : Layout → ℕ → ℕ
@@ -60,7 +60,8 @@ pub record Told (l : Layout) (g : ℕ) (action : Action) (x : ℕ) : Type 0 wher
   pub fits : x < 2 ^ 64
   pub known : (n : ℕ) → n < l.nodes → action ≡ Load (version_address l n) → generation_of x ≤ g
   pub first_live : action ≡ Load (status_address l 0) → x ≡ live_status
-  pub first_anchor : (offset : ℕ) → 3 ≤ offset → offset ≤ 5 → action ≡ Load (word_address l 0 offset) → x ≡ 0
+  pub first_anchor : (offset : ℕ) → anchor_offset ≤ offset → offset ≤ anchor_offset + 2 →
+      action ≡ Load (word_address l 0 offset) → x ≡ 0
   pub first_next : action ≡ Load (word_address l 0 next_offset) → x ≢ 0 → x < l.nodes
 
 -- A node that was LIVE or that is held leads to one of the layout's.
@@ -121,7 +122,8 @@ pub data Read (l : Layout) (g : ℕ) : Stage → Action → ℕ → Stage → Op
       k'.next ≡ k.next →
       ((s t : Spot) → Sees k s t → s offset ≡ x → Sees k' s t) →
       Read l g (Reads n v k None) (Load (word_address l n offset)) x (Reads n v k' None) None
-  views_next : {n v m x offset : ℕ} {k k' : Sight} → HasWordAt l m offset → 3 ≤ offset → offset ≤ 5 → m ≢ 0 →
+  views_next : {n v m x offset : ℕ} {k k' : Sight} → HasWordAt l m offset → anchor_offset ≤ offset →
+      offset ≤ anchor_offset + 2 → m ≢ 0 →
       k.live ≡ true → k'.live ≡ true → k'.next ≡ m →
       ((s t : Spot) → Sees k s t → s next_offset ≡ m) → ((s t : Spot) → Sees k s t → t offset ≡ x → Sees k' s t) →
       Read l g (Reads n v k None) (Load (word_address l m offset)) x (Reads n v k' None) None
@@ -176,7 +178,8 @@ pub data Look (l : Layout) (g : ℕ) : Stage → Action → ℕ → Stage → Op
       ((s t : Spot) → Sees k s t → s offset ≡ x → Sees k' s t) →
       Look l g (Saw n v w k) (Load (word_address l n offset)) x (Saw n v w k') None
   -- it loads an anchor word of the node that the listed node leads to
-  watches_next : {n v w m x offset : ℕ} {k k' : Sight} → HasWordAt l m offset → 3 ≤ offset → offset ≤ 5 → m ≢ 0 →
+  watches_next : {n v w m x offset : ℕ} {k k' : Sight} → HasWordAt l m offset → anchor_offset ≤ offset →
+      offset ≤ anchor_offset + 2 → m ≢ 0 →
       k.live ≡ true → k'.live ≡ true → k'.next ≡ m →
       ((s t : Spot) → Sees k s t → s next_offset ≡ m) → ((s t : Spot) → Sees k s t → t offset ≡ x → Sees k' s t) →
       Look l g (Saw n v w k) (Load (word_address l m offset)) x (Saw n v w k') None

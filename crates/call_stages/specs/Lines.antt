@@ -5,8 +5,10 @@ use Rattle.pm_words.specs.declared.layout.Layout.{Layout}
 use Rattle.pm_words.specs.declared.action.Action.{Action}
 use Rattle.pm_words.specs.declared.action.Action.TheVariants.{Load, Store, Drain}
 use Rattle.pm_words.specs.Locations.{address_of, Cached, Line}
+use Rattle.pm_words.specs.Codes.{empty_state, open_state, ready_state}
 use Rattle.data_node.specs.Spots.{Spot, updated}
 use Rattle.data_node.specs.Lines as lines
+use Rattle.data_node.specs.Lines.{state_offset}
 use Rattle.call_stages.specs.Stages.{IsAmong, Tells}
 use Rattle.call_stages.specs.Kinds.{Soils, Cleans}
 
@@ -36,19 +38,21 @@ TellsDurably dirty seen s = AllByRecursion (λ (w : ℕ × ℕ). IsAmong dirty w
 
 -- What is known of the words says nothing of the state.
 abbrev pub IsBlind : List (ℕ × ℕ) → Type 0
-IsBlind seen = (s : Spot) (state : ℕ) → Tells seen s → Tells seen (updated s 0 state)
+IsBlind seen = (s : Spot) (state : ℕ) → Tells seen s → Tells seen (updated s state_offset state)
 
 -- What a store into a line of the party is for: from what is known of the line, with what is known then, and whether
 -- the line is READY then.
 pub data Marks (e : HeldLine) : ℕ → ℕ → List (ℕ × ℕ) → Bool → Type 0 where
   -- a field, while the line is EMPTY
-  fills : {y offset : ℕ} {seen : List (ℕ × ℕ)} → offset ≢ 0 → e.ready ≡ false →
-      ((s : Spot) → Tells e.seen s → s 0 ≡ 0) → Marks e offset y seen false
+  fills : {y offset : ℕ} {seen : List (ℕ × ℕ)} → offset ≢ state_offset → e.ready ≡ false →
+      ((s : Spot) → Tells e.seen s → s state_offset ≡ empty_state) → Marks e offset y seen false
   -- its state: OPEN, of an EMPTY line;
-  opens : {seen : List (ℕ × ℕ)} → e.ready ≡ false → ((s : Spot) → Tells e.seen s → s 0 ≡ 0) → Marks e 0 1 seen false
+  opens : {seen : List (ℕ × ℕ)} → e.ready ≡ false →
+      ((s : Spot) → Tells e.seen s → s state_offset ≡ empty_state) → Marks e state_offset open_state seen false
   -- READY, of an OPEN line, all of which is durable
   readies : {seen : List (ℕ × ℕ)} → e.ready ≡ false → e.dirty ≡ [] →
-      ((s : Spot) → Tells e.seen s → s 0 ≡ 1) → IsBlind seen → Marks e 0 2 seen true
+      ((s : Spot) → Tells e.seen s → s state_offset ≡ open_state) → IsBlind seen →
+      Marks e state_offset ready_state seen true
 
 -- The steps on a line: a word of a line is loaded that nothing is relied on of; an EMPTY line is taken, its words are
 -- loaded, stored so that it stays in order whichever of them are durable, and made durable. What is no longer relied on
@@ -56,12 +60,12 @@ pub data Marks (e : HeldLine) : ℕ → ℕ → List (ℕ × ℕ) → Bool → T
 pub data Notes (l : Layout) : Option HeldLine → Action → ℕ → Option HeldLine → Type 0 where
   passes_line : {c j offset x : ℕ} → c < l.callers → j < 8 → offset < 8 →
       Notes l None (Load (line_address l c j offset)) x None
-  takes : {c j x : ℕ} → c < l.callers → j < 8 → x ≡ 0 →
-      Notes l None (Load (line_address l c j 0)) x (Some (record {
+  takes : {c j x : ℕ} → c < l.callers → j < 8 → x ≡ empty_state →
+      Notes l None (Load (line_address l c j state_offset)) x (Some (record {
         caller = c;
         number = j;
-        seen = (0, x) ∷ [];
-        dirty = (0, 8) ∷ [];
+        seen = (state_offset, x) ∷ [];
+        dirty = (state_offset, 8) ∷ [];
         hand = None;
         ready = false;
       }))

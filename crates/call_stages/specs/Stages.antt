@@ -8,7 +8,7 @@ use Rattle.data_node.specs.cat_history.specs.Writes.{changed}
 use Rattle.data_node.specs.cat_history.specs.declared.op.Change.{Change}
 use Rattle.data_node.specs.Slots.{IsLive}
 use Rattle.data_node.specs.Spots.{Spot, IsLiveIn, name_words}
-use Rattle.data_node.specs.Lists.{next_offset}
+use Rattle.data_node.specs.Lists.{next_offset, anchor_offset}
 
 -- What the party that holds a node knows of its words: some of them by offset, and, once it has compared fingerprints,
 -- the slots (as bits) that may still hold its name.
@@ -56,7 +56,8 @@ pub record Sight : Type 0 where
 pub record Sees (k : Sight) (s t : Spot) : Type 0 where
   pub seen : AllByRecursion (λ (w : ℕ × ℕ). s w.0 ≡ w.1) k.seen
   pub leads : k.next ≢ 0 → s next_offset ≡ k.next
-  pub beyond : k.next ≢ 0 → AllByRecursion (λ (w : ℕ × ℕ). (3 ≤ w.0) × (w.0 ≤ 5) × (t w.0 ≡ w.1)) k.beyond
+  pub beyond : k.next ≢ 0 →
+      AllByRecursion (λ (w : ℕ × ℕ). (anchor_offset ≤ w.0) × (w.0 ≤ anchor_offset + 2) × (t w.0 ≡ w.1)) k.beyond
 
 -- As the version word is loaded: nothing else is seen.
 abbrev pub no_sight : Sight

@@ -7,7 +7,7 @@ use Rattle.pm_words.specs.declared.action.Action.TheVariants.{Load}
 use Rattle.pm_words.specs.declared.layout.Layout.{Layout}
 use Rattle.version_lock.specs.Versions.{IsFree}
 use Rattle.data_node.specs.Spots.{Spot}
-use Rattle.data_node.specs.Lists.{next_offset, IsBetween}
+use Rattle.data_node.specs.Lists.{next_offset, anchor_offset, IsBetween}
 use Rattle.call_stages.specs.Stages.{Sight, Sees, no_sight}
 use Rattle.call_stages.specs.Kinds.{HasWordAt, word_address, version_address, status_address}
 
@@ -30,7 +30,8 @@ pub data Watch (l : Layout) (g : ℕ) : Watching → Action → ℕ → Watching
       ((s t : Spot) → Sees k s t → s offset ≡ x → Sees k' s t) →
       Watch l g (Watches n v k) (Load (word_address l n offset)) x (Watches n v k')
   -- it loads an anchor word of the node that the listed node leads to
-  watches_next : {n v m x offset : ℕ} {k k' : Sight} → HasWordAt l m offset → 3 ≤ offset → offset ≤ 5 → m ≢ 0 →
+  watches_next : {n v m x offset : ℕ} {k k' : Sight} → HasWordAt l m offset → anchor_offset ≤ offset →
+      offset ≤ anchor_offset + 2 → m ≢ 0 →
       k.live ≡ true → k'.live ≡ true → k'.next ≡ m →
       ((s t : Spot) → Sees k s t → s next_offset ≡ m) → ((s t : Spot) → Sees k s t → t offset ≡ x → Sees k' s t) →
       Watch l g (Watches n v k) (Load (word_address l m offset)) x (Watches n v k')
@@ -41,4 +42,4 @@ pub data Watch (l : Layout) (g : ℕ) : Watching → Action → ℕ → Watching
 pub record IsSeenAs (key : ℕ) (anchor : List ℕ) (k : Sight) : Type 0 where
   pub live : k.live ≡ true
   pub between : (s t : Spot) → Sees k s t → IsBetween s t key
-  pub low : (s t : Spot) → Sees k s t → (i : ℕ) → i < 3 → s (3 + i) ≡ slice_index anchor i
+  pub low : (s t : Spot) → Sees k s t → (i : ℕ) → i < 3 → s (anchor_offset + i) ≡ slice_index anchor i

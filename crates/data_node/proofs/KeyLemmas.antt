@@ -1,11 +1,11 @@
 -- Keys, and the numbers of their words.
-use Rattle.std.proofs.Common.{◌≡◌, ℕ, ◌^◌, ◌<◌, List, [], ◌∷◌, All, slice_index, refl, sym, ap, ◌∙◌, arith}
+use Rattle.std.proofs.Common.{◌≡◌, ℕ, ◌+◌, ◌^◌, ◌<◌, List, [], ◌∷◌, All, slice_index, refl, sym, ap, ◌∙◌, arith}
 use Rattle.std.proofs.lemmas.List.Elements.{All-weaker}
 use Rattle.cat_key.specs.Names.{IsName, IsNameByte, AreNameWords, words_of}
 use Rattle.cat_key.proofs.Digits.{IsByte}
 use Rattle.cat_key.proofs.Packing.{get_or-words_of_below, byte_of_name}
 use Rattle.data_node.specs.Spots.{Spot}
-use Rattle.data_node.specs.Lists.{three_words, number_of, key_of, anchor_in, anchor_words}
+use Rattle.data_node.specs.Lists.{three_words, number_of, key_of, anchor_in, anchor_words, anchor_offset}
 
 -- the words of a text are three, each of 64 bits
 pub three : (text : List ℕ) → words_of text ≡ slice_index (words_of text) 0 ∷ slice_index (words_of text) 1 ∷ slice_index (words_of text) 2 ∷ []
@@ -39,8 +39,8 @@ pub named_anchor : (s : Spot) (name : List ℕ) → ((offset : ℕ) → s offset
 named_anchor s name fits is same = (
   name,
   is,
-  three name ∙ same_words (slice_index (words_of name) 0) (slice_index (words_of name) 1) (slice_index (words_of name) 2) (s 3) (s 4) (s 5)
-      (word_fits name is.bytes 1) (word_fits name is.bytes 2) (fits 4) (fits 5) (sym (key-number name) ∙ sym same ∙ anchor-number s),
+  three name ∙ same_words (slice_index (words_of name) 0) (slice_index (words_of name) 1) (slice_index (words_of name) 2) (s anchor_offset) (s (anchor_offset + 1)) (s (anchor_offset + 2))
+      (word_fits name is.bytes 1) (word_fits name is.bytes 2) (fits (anchor_offset + 1)) (fits (anchor_offset + 2)) (sym (key-number name) ∙ sym same ∙ anchor-number s),
 )
 
 -- an anchor is zero exactly where its words are
@@ -49,8 +49,8 @@ anchor_zero s zeros = anchor-number s ∙ ap number_of zeros
 
 pub zero_anchor : (s : Spot) → anchor_in s ≡ 0 → anchor_words s ≡ 0 ∷ 0 ∷ 0 ∷ []
 zero_anchor s none =
-    let number : three_words (s 3) (s 4) (s 5) ≡ 0 = sym (anchor-number s) ∙ none in
-    let first : s 3 ≡ 0 = omega arith in
-    let second : s 4 ≡ 0 = omega arith in
-    let third : s 5 ≡ 0 = omega arith in
+    let number : three_words (s anchor_offset) (s (anchor_offset + 1)) (s (anchor_offset + 2)) ≡ 0 = sym (anchor-number s) ∙ none in
+    let first : s anchor_offset ≡ 0 = omega arith in
+    let second : s (anchor_offset + 1) ≡ 0 = omega arith in
+    let third : s (anchor_offset + 2) ≡ 0 = omega arith in
     λ i. first i ∷ second i ∷ third i ∷ []

@@ -1,19 +1,35 @@
 -- What a line of the log may hold, by its words: a state, a kind, a node, an anchor, another node, and 0.
-use Rattle.std.specs.Prelude.{◌≡◌, ℕ, ◌<◌, ◌≤◌, ◌⊎◌, List, [], ◌∷◌}
+use Rattle.std.specs.Prelude.{◌≡◌, ℕ, ◌<◌, ◌≤◌, ◌⊎◌, List}
 use Rattle.cat_key.specs.Names.{IsName, words_of}
 use Rattle.data_node.specs.Spots.{Spot}
+use Rattle.data_node.specs.Lists.{anchor_words}
 
--- A line that isn't EMPTY: a split or a merge of two nodes, with the anchor of the new or the merged one.
+-- The offsets of its words: of its state, of the kind of its change, of the new or the merged node, and of the left
+-- one. The words of the anchor stand where a node has its own.
+abbrev pub state_offset : ℕ
+state_offset = 0
+
+abbrev pub kind_offset : ℕ
+kind_offset = 1
+
+abbrev pub line_node_offset : ℕ
+line_node_offset = 2
+
+abbrev pub left_offset : ℕ
+left_offset = 6
+
+-- A line that isn't EMPTY: a split or a merge of two nodes, with the anchor of the new or the merged one. Its state and
+-- its kind are told by codes of the words.
 pub record IsEntry (nodes : ℕ) (s : Spot) : Type 0 where
-  pub state : s 0 ≤ 2
-  pub kind : (s 1 ≡ 1) ⊎ (s 1 ≡ 2)
-  pub node : (1 ≤ s 2) × (s 2 < nodes)
+  pub state : s state_offset ≤ 2
+  pub kind : (s kind_offset ≡ 1) ⊎ (s kind_offset ≡ 2)
+  pub node : (1 ≤ s line_node_offset) × (s line_node_offset < nodes)
   pub name : List ℕ
   pub is_name : IsName name
-  pub anchor : s 3 ∷ s 4 ∷ s 5 ∷ [] ≡ words_of name
-  pub left : s 6 < nodes
+  pub anchor : anchor_words s ≡ words_of name
+  pub left : s left_offset < nodes
   pub zero : s 7 ≡ 0
 
 -- A line is EMPTY, or holds such a change.
 abbrev pub IsFitLine : ℕ → Spot → Type 0
-IsFitLine nodes s = (s 0 ≡ 0) ⊎ IsEntry nodes s
+IsFitLine nodes s = (s state_offset ≡ 0) ⊎ IsEntry nodes s

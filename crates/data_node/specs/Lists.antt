@@ -9,6 +9,10 @@ use Rattle.data_node.specs.Spots.{Spot, Finds}
 abbrev pub next_offset : ℕ
 next_offset = 2
 
+-- The offset of the first of the anchor's three words.
+abbrev pub anchor_offset : ℕ
+anchor_offset = 3
+
 -- Three words as one number, the first the highest; so their order is that of the numbers.
 abbrev pub three_words : ℕ → ℕ → ℕ → ℕ
 three_words a b c = (a * 2 ^ 64 + b) * 2 ^ 64 + c
@@ -22,14 +26,11 @@ unfoldable pub key_of : List ℕ → ℕ
 key_of name = number_of (words_of name)
 
 unfoldable pub anchor_in : Spot → ℕ
-anchor_in s = three_words (s 3) (s 4) (s 5)
+anchor_in s = three_words (s anchor_offset) (s (anchor_offset + 1)) (s (anchor_offset + 2))
 
--- The offset of the first anchor word, and the words.
-abbrev pub anchor_offset : ℕ
-anchor_offset = 3
-
+-- The words of the anchor.
 abbrev pub anchor_words : Spot → List ℕ
-anchor_words s = s 3 ∷ s 4 ∷ s 5 ∷ []
+anchor_words s = s anchor_offset ∷ s (anchor_offset + 1) ∷ s (anchor_offset + 2) ∷ []
 
 -- The name belongs to the node of these words, if it is listed and the node that it leads to has those words.
 pub record IsBetween (s t : Spot) (key : ℕ) : Type 0 where

@@ -1,5 +1,5 @@
 -- A fresh image is sound, and keeps no name.
-use Rattle.std.proofs.Common.{◌≡◌, ℕ, suc, refl, ◌/◌, ◌%◌, ◌<◌, ◌≤◌, List, [], ◌∷◌, Some, None, inl, inr, sym, subst, ◌∙◌, arith}
+use Rattle.std.proofs.Common.{◌≡◌, ℕ, ◌+◌, suc, refl, ◌/◌, ◌%◌, ◌<◌, ◌≤◌, List, [], ◌∷◌, Some, None, inl, inr, sym, subst, ◌∙◌, arith}
 use Rattle.std.specs.FinMap.{empty, get-empty}
 use Rattle.std.proofs.lemmas.Bool.{cases_eq}
 use Rattle.cat_key.specs.Names.{name_cmp}
@@ -11,12 +11,13 @@ use Rattle.pm_words.specs.Layouts.{IsLayout}
 use Rattle.pm_words.specs.Locations.{Word, Header, Root, Node, Line, Leaf, Cell, word_at}
 use Rattle.pm_words.proofs.Made.{fresh_at, fresh_image}
 use Rattle.version_lock.specs.Versions.{generation_of}
-use Rattle.data_node.specs.Lists.{ListNode, next_offset, IsIn, MakeList}
+use Rattle.data_node.specs.Lists.{ListNode, next_offset, IsIn, MakeList, anchor_offset}
 use Rattle.data_node.proofs.ListLemmas.{chain_is}
 use Rattle.data_node.proofs.KeyLemmas.{anchor_zero}
+use Rattle.data_node.specs.Lines.{state_offset}
 use Rattle.pm_words.specs.Offsets.{version_offset}
 use Rattle.image_rules.specs.Nodes.{image_spot, image_list, IsListedNode, image_range}
-use Rattle.image_rules.specs.Rules.{IsSpare, header_generation}
+use Rattle.image_rules.specs.Rules.{IsSpare, header_generation, generation_offset}
 use Rattle.version_lock.specs.Versions.{IsGeneration}
 use Rattle.image_rules.specs.Laws.{KeepsRules, FreshIsSound}
 use Rattle.image_rules.proofs.WordLemmas.{image_spot-here}
@@ -57,7 +58,7 @@ fresh_makes l is =
     record {
       chain = fresh_zero l 0 next_offset some (omega arith) (omega arith);
       lowest = anchor_zero (image_spot l (fresh_words l) 0)
-          (λ i. fresh_zero l 0 3 some (omega arith) (omega arith) i ∷ fresh_zero l 0 4 some (omega arith) (omega arith) i ∷ fresh_zero l 0 5 some (omega arith) (omega arith) i ∷ []);
+          (λ i. fresh_zero l 0 anchor_offset some (omega arith) (omega arith) i ∷ fresh_zero l 0 (anchor_offset + 1) some (omega arith) (omega arith) i ∷ fresh_zero l 0 (anchor_offset + 2) some (omega arith) (omega arith) i ∷ []);
       rise = tt;
       within = tt;
       named = tt;
@@ -71,14 +72,14 @@ fresh_means l is n listed =
 
 fresh_keeps : (l : Layout) → IsLayout l → KeepsRules l (fresh_words l)
 fresh_keeps l is =
-    let first : header_generation l (fresh_words l) ≡ 1 = fresh_at l (Header 5) (omega arith) in
+    let first : header_generation l (fresh_words l) ≡ 1 = fresh_at l (Header generation_offset) (omega arith) in
     record {
       generation = subst IsGeneration (sym first) (record { least = omega arith; fits = omega arith });
       spare = fresh_spare l;
       versions = λ n here. subst (λ (v : ℕ). generation_of v ≤ header_generation l (fresh_words l)) (sym (fresh_at l (Node n version_offset) (here, omega arith))) (omega arith);
       list = subst (MakeList l.nodes (image_spot l (fresh_words l))) (sym (fresh_list l is)) (fresh_makes l is);
       tidy = λ n listed. (fresh_means l is n listed).tidy;
-      lines = λ line here. inl (fresh_at l (Line (line / 8) (line % 8) 0) (omega arith, omega arith, omega arith));
+      lines = λ line here. inl (fresh_at l (Line (line / 8) (line % 8) state_offset) (omega arith, omega arith, omega arith));
     }
 
 pub fresh_is_sound : FreshIsSound

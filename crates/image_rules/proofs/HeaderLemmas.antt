@@ -5,11 +5,13 @@ use Rattle.std.proofs.lemmas.Nat.{mul-le}
 use Rattle.pm_words.specs.declared.layout.Layout.{Layout}
 use Rattle.pm_words.specs.Locations.{Header, Node, Line, image_parts, node_words, start_of, word_number}
 use Rattle.pm_words.specs.Offsets.{version_offset}
+use Rattle.data_node.specs.Lines.{state_offset}
 use Rattle.image_rules.specs.Lowest.{IsLowest, IsNumberOf}
 use Rattle.image_rules.specs.Rules.{header_generation, BreaksHeader, IsLater, BreaksVersions, IsUnfit, BreaksLines}
 use Rattle.version_lock.specs.Versions.{IsGeneration}
 use Rattle.image_rules.proofs.LowestLemmas.{Moves}
 use Rattle.image_rules.proofs.WordLemmas.{IsUsedSpare, used_number}
+use Rattle.image_rules.specs.Rules.{generation_offset}
 
 -- no word in front of the generation breaks the rule
 none_in_front : (l : Layout) (image : List ℕ) (lower : ℕ) → lower < 5 → ¬ IsNumberOf l (BreaksHeader l image) lower
@@ -25,7 +27,7 @@ none_in_front l image lower below is =
     ]
 
 pub generation_broken : (l : Layout) (image : List ℕ) → ¬ IsGeneration (header_generation l image) → IsLowest (IsNumberOf l (BreaksHeader l image)) (Some 5)
-generation_broken l image wrong = (record { word = Header 5; numbered = refl; holds = inl (refl, wrong) }, none_in_front l image)
+generation_broken l image wrong = (record { word = Header generation_offset; numbered = refl; holds = inl (refl, wrong) }, none_in_front l image)
 
 -- where the generation is right, only spare words can break the rule
 used_of : (l : Layout) (image : List ℕ) → IsGeneration (header_generation l image) → (number : ℕ) → IsNumberOf l (BreaksHeader l image) number →
@@ -64,15 +66,15 @@ versions_move l image = record {
 }
 
 -- and the state words of lines with the lines
-lines_rise : (l : Layout) (line other : ℕ) → word_number l (Line (line / 8) (line % 8) 0) < word_number l (Line (other / 8) (other % 8) 0) → line < other
+lines_rise : (l : Layout) (line other : ℕ) → word_number l (Line (line / 8) (line % 8) state_offset) < word_number l (Line (other / 8) (other % 8) state_offset) → line < other
 lines_rise l line other below =
-    let front : word_number l (Line (line / 8) (line % 8) 0) ≡ start_of (image_parts l) 3 + (64 * (line / 8) + 8 * (line % 8) + 0) = refl in
-    let behind : word_number l (Line (other / 8) (other % 8) 0) ≡ start_of (image_parts l) 3 + (64 * (other / 8) + 8 * (other % 8) + 0) = refl in
+    let front : word_number l (Line (line / 8) (line % 8) state_offset) ≡ start_of (image_parts l) 3 + (64 * (line / 8) + 8 * (line % 8) + 0) = refl in
+    let behind : word_number l (Line (other / 8) (other % 8) state_offset) ≡ start_of (image_parts l) 3 + (64 * (other / 8) + 8 * (other % 8) + 0) = refl in
     omega arith
 
-pub lines_move : (l : Layout) (image : List ℕ) → Moves (IsUnfit l image) (IsNumberOf l (BreaksLines l image)) (λ line. word_number l (Line (line / 8) (line % 8) 0))
+pub lines_move : (l : Layout) (image : List ℕ) → Moves (IsUnfit l image) (IsNumberOf l (BreaksLines l image)) (λ line. word_number l (Line (line / 8) (line % 8) state_offset))
 lines_move l image = record {
-  to = λ line unfit. record { word = Line (line / 8) (line % 8) 0; numbered = refl; holds = (line, refl, unfit) };
+  to = λ line unfit. record { word = Line (line / 8) (line % 8) state_offset; numbered = refl; holds = (line, refl, unfit) };
   from = λ there is. (is.holds.0, is.holds.2, sym (ap (word_number l) is.holds.1) ∙ is.numbered);
   rises = lines_rise l;
 }

@@ -9,12 +9,13 @@ use Rattle.pm_words.specs.declared.layout.Layout.{Layout}
 use Rattle.pm_words.specs.Locations.{Word, Header, Node, Line, word_at}
 use Rattle.data_node.specs.Spots.{Spot, bitmap_offset, print_offset, slot_offset, IsLiveIn, name_words, print_in_spot, IsTidy}
 use Rattle.std.specs.List.{AllByRecursion}
-use Rattle.data_node.specs.Lines.{IsEntry, IsFitLine}
+use Rattle.data_node.specs.Lines.{IsEntry, IsFitLine, state_offset, kind_offset, line_node_offset, left_offset}
 use Rattle.data_node.specs.Lists.{ListNode, next_offset, anchor_offset, anchor_in, key_of, anchor_words, members_from, IsChain, Rise, MakeList}
 use Rattle.data_node.proofs.ListLemmas.{all_member}
 use Rattle.data_node.proofs.KeyLemmas.{anchor_named, named_anchor}
 use Rattle.data_node.proofs.PositionLemmas.{position_in, in_position, position_before, position_rise, chain_next, chain_member, StandOnce, once_few, all_positions, rise_positions, members_end}
 use Rattle.pm_words.specs.Offsets.{version_offset}
+use Rattle.pm_words.specs.Codes.{empty_state, ready_state, split_kind, merge_kind}
 use Rattle.image_rules.specs.Nodes.{image_spot, image_list, IsListedNode, IsListedAt, next_in}
 use Rattle.image_rules.specs.Rules.{header_generation, IsSpare, line_spot, LeadsOut, LeadsBack, BreaksAnchors, BreaksNames, BreaksPrints, BreaksApart, BreaksBy}
 use Rattle.image_rules.specs.declared.listed.NodeRule.{NodeRule}
@@ -24,6 +25,7 @@ use Rattle.image_rules.specs.Sound.{in_header, in_versions, leads_out, leads_bac
 use Rattle.image_rules.specs.Laws.{SoundKeepsRules, RulesMakeSound}
 use Rattle.image_rules.proofs.NameCases.{name_words_or_not}
 use Rattle.image_rules.proofs.WordLemmas.{image_spot-fits, image_spot-outside}
+use Rattle.image_rules.specs.Rules.{generation_offset}
 
 -- the bytes in a slot are those of the name whose words stand there
 text_of : (s : Spot) (slot : ℕ) (name : List ℕ) → IsName name → words_of name ≡ name_words s slot → bytes_of (name_words s slot) ≡ name
@@ -113,7 +115,7 @@ generation_if : (l : Layout) (image : List ℕ) → IsSound l image → IsGenera
 generation_if l image sound =
     elim (generation_or_not (header_generation l image)) as (λ _. IsGeneration (header_generation l image)) [
       | inl counts ↦ counts
-      | inr wrong ↦ absurd (sound 1 0 (Header 5) (in_header (inl (refl, wrong))))
+      | inr wrong ↦ absurd (sound 1 0 (Header generation_offset) (in_header (inl (refl, wrong))))
     ]
 
 spare_if : (l : Layout) (image : List ℕ) → IsSound l image → (w : Word) → IsSpare w → word_at l image w ≡ 0
@@ -214,7 +216,7 @@ module _ (l : Layout) (image : List ℕ) (sound : IsSound l image) where
 
 -- each line of the log is in order or not
 line_or_not : (nodes : ℕ) (s : Spot) → IsFitLine nodes s ⊎ ¬ IsFitLine nodes s
-line_or_not nodes s = elim (cases_eq (s 0) 0) [
+line_or_not nodes s = elim (cases_eq (s state_offset) empty_state) [
   | inl empty ↦ inl (inl empty)
   | inr used ↦ elim (entry_or_not nodes s) [
     | inl is ↦ inl (inr is)
@@ -222,27 +224,27 @@ line_or_not nodes s = elim (cases_eq (s 0) 0) [
   ]
 ]
   where
-    kind_or_not : (k : ℕ) → ((k ≡ 1) ⊎ (k ≡ 2)) ⊎ ¬ ((k ≡ 1) ⊎ (k ≡ 2))
-    kind_or_not k = elim (cases_eq k 1) [
+    kind_or_not : (k : ℕ) → ((k ≡ split_kind) ⊎ (k ≡ merge_kind)) ⊎ ¬ ((k ≡ split_kind) ⊎ (k ≡ merge_kind))
+    kind_or_not k = elim (cases_eq k split_kind) [
       | inl one ↦ inl (inl one)
-      | inr more ↦ elim (cases_eq k 2) [
+      | inr more ↦ elim (cases_eq k merge_kind) [
         | inl two ↦ inl (inr two)
         | inr other ↦ inr (λ is. elim is as (λ _. ⊥) [ inl one ↦ more one | inr two ↦ other two ])
       ]
     ]
 
     entry_or_not : (nodes : ℕ) (s : Spot) → IsEntry nodes s ⊎ ¬ IsEntry nodes s
-    entry_or_not nodes s = elim (cases_lt 2 (s 0)) [
+    entry_or_not nodes s = elim (cases_lt ready_state (s state_offset)) [
       | inl past ↦ inr (λ is. let state = is.state in omega arith)
-      | inr state ↦ elim (kind_or_not (s 1)) [
+      | inr state ↦ elim (kind_or_not (s kind_offset)) [
         | inr other ↦ inr (λ is. other is.kind)
-        | inl kind ↦ elim (cases_lt (s 2) 1) [
+        | inl kind ↦ elim (cases_lt (s line_node_offset) 1) [
           | inl first ↦ inr (λ is. let node = is.node in omega arith)
-          | inr least ↦ elim (cases_lt (s 2) nodes) [
+          | inr least ↦ elim (cases_lt (s line_node_offset) nodes) [
             | inr past ↦ inr (λ is. let node = is.node in omega arith)
-            | inl within ↦ elim (name_words_or_not (s 3 ∷ s 4 ∷ s 5 ∷ [])) [
+            | inl within ↦ elim (name_words_or_not (anchor_words s)) [
               | inr nameless ↦ inr (λ is. nameless (is.name, is.is_name, sym is.anchor))
-              | inl named ↦ elim (cases_lt (s 6) nodes) [
+              | inl named ↦ elim (cases_lt (s left_offset) nodes) [
                 | inr past ↦ inr (λ is. let left = is.left in omega arith)
                 | inl left ↦ elim (cases_eq (s 7) 0) [
                   | inr used ↦ inr (λ is. used is.zero)
@@ -259,7 +261,7 @@ lines_if : (l : Layout) (image : List ℕ) → IsSound l image → (line : ℕ) 
 lines_if l image sound line here =
     elim (line_or_not l.nodes (line_spot l image line)) as (λ _. IsFitLine l.nodes (line_spot l image line)) [
       | inl fit ↦ fit
-      | inr unfit ↦ absurd (sound 9 0 (Line (line / 8) (line % 8) 0) (in_lines (line, refl, record { here = here; unfit = unfit })))
+      | inr unfit ↦ absurd (sound 9 0 (Line (line / 8) (line % 8) state_offset) (in_lines (line, refl, record { here = here; unfit = unfit })))
     ]
 
 -- a sound image keeps the rules

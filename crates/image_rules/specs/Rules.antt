@@ -8,15 +8,18 @@ use Rattle.pm_words.specs.Offsets.{version_offset}
 use Rattle.version_lock.specs.Versions.{generation_of, IsGeneration}
 use Rattle.cat_key.specs.Names.{IsName, AreNameWords, words_of, fingerprint_of}
 use Rattle.data_node.specs.Spots.{Spot, bitmap_offset, print_offset, slot_offset, IsLiveIn, name_words, print_in_spot}
-use Rattle.data_node.specs.Lines.{IsFitLine}
+use Rattle.data_node.specs.Lines.{IsFitLine, state_offset}
 use Rattle.data_node.specs.Lists.{next_offset, anchor_offset, anchor_in, anchor_words}
 use Rattle.image_rules.specs.Nodes.{image_spot, IsListedAt, next_in}
 use Rattle.image_rules.specs.declared.listed.NodeRule.{NodeRule}
 use Rattle.image_rules.specs.declared.listed.NodeRule.TheVariants.{Names, Prints, Apart}
 
--- The number of the run that wrote the header.
+-- The offset in the header of the number of the run that wrote it, and that number.
+abbrev pub generation_offset : ℕ
+generation_offset = 5
+
 abbrev pub header_generation : Layout → List ℕ → ℕ
-header_generation l image = word_at l image (Header 5)
+header_generation l image = word_at l image (Header generation_offset)
 
 -- The words of the header line and of the root line that have no use.
 abbrev pub IsSpare : Word → Type 0
@@ -26,7 +29,7 @@ IsSpare _ = ⊥
 
 -- Rule 1: the header has the number of a run, and spare words are 0.
 abbrev pub BreaksHeader : Layout → List ℕ → Word → Type 0
-BreaksHeader l image w = ((w ≡ Header 5) × ¬ IsGeneration (header_generation l image)) ⊎
+BreaksHeader l image w = ((w ≡ Header generation_offset) × ¬ IsGeneration (header_generation l image)) ⊎
     (IsSpare w × (word_at l image w ≢ 0))
 
 -- A node whose version word is of a later generation.
@@ -139,4 +142,4 @@ pub record IsUnfit (l : Layout) (image : List ℕ) (line : ℕ) : Type 0 where
 -- Rule 9: each line of the log is EMPTY, or is OPEN or READY with a split or a merge, a node other than node 0, a name
 -- as its anchor, a left node, and 0 behind. It is broken at the word of its state.
 abbrev pub BreaksLines : Layout → List ℕ → Word → Type 0
-BreaksLines l image w = (line : ℕ) × (w ≡ Line (line / 8) (line % 8) 0) × IsUnfit l image line
+BreaksLines l image w = (line : ℕ) × (w ≡ Line (line / 8) (line % 8) state_offset) × IsUnfit l image line
