@@ -15,6 +15,8 @@ use Rattle.pm_words.specs.declared.machine.Turn.{Turn}
 use Rattle.pm_words.specs.declared.machine.Turn.TheVariants.{Go, Done}
 use Rattle.call_stages.specs.data_node.specs.Spots.{Spot, updated}
 use Rattle.call_stages.specs.data_node.proofs.SpotLemmas.{updated-same, updated-other}
+use Rattle.call_stages.specs.data_node.specs.Lines.{state_offset, kind_offset, line_node_offset, left_offset}
+use Rattle.call_stages.specs.data_node.specs.Lists.{anchor_offset}
 use Rattle.call_stages.specs.Stages.{IsAmong, Tells}
 use Rattle.call_stages.specs.Kinds.{Soils}
 use Rattle.call_stages.specs.Lines.{HeldLine, IsEntry, IsFitLine, TellsDurably, IsBlind, fills, opens, readies, Notes}
@@ -34,6 +36,7 @@ use Rattle.smo_log.specs.declared.state.Ready.{Ready}
 use Rattle.smo_log.specs.declared.state.ReadyAt.{ReadyAt}
 use Rattle.smo_log.specs.declared.state.ReadyAt.TheVariants as ready_at
 use Rattle.pm_words.specs.Fences.{IsFence, fence_start, fence_next, fence_asks}
+use Rattle.pm_words.specs.Codes.{merge_kind, open_state, ready_state, split_kind, empty_state}
 use Rattle.smo_log.specs.LogLines.{caller_of, index_of, numbered_address, field_of, IsEntryOf, fields, settled, fenced}
 use Rattle.smo_log.specs.Takes.{take_line, take_at_asks, saw_state, take_fenced, take_at_turned, IsTakeAt, IsTake}
 use Rattle.smo_log.specs.Takes.{take_at_held, TakeNotes}
@@ -74,18 +77,18 @@ module _ (take : Take) (sound : IsTake take) where
   here : caller_of line < take.layout.callers
   here = caller_within line take.layout.callers line_within
 
-  at_state : (x : ℕ) → Took None (Load (numbered_address take.layout line 0)) x (saw_state (record take { at = take_at.State }) x)
+  at_state : (x : ℕ) → Took None (Load (numbered_address take.layout line state_offset)) x (saw_state (record take { at = take_at.State }) x)
   at_state x =
-      elim (x == 0) as (λ b. (x == 0) ≡ b → Took None (Load (numbered_address take.layout line 0)) x
+      elim (x == empty_state) as (λ b. (x == empty_state) ≡ b → Took None (Load (numbered_address take.layout line state_offset)) x
       (cond b (Go (record take { at = take_at.Fence fence_start })) (cond (ltb (take.index + 1) 8) (Go (record take { index = take.index + 1; at = take_at.State })) (Done Full)))) [
         | true ↦ λ is. (
-          subst (λ v. Notes take.layout None (Load (numbered_address take.layout line 0)) x (Some (record { caller = caller_of line; number = index_of line; seen = (0, v) ∷ []; dirty = (0, 8) ∷ []; hand = None; ready = false })))
-              (eqb-true x 0 is) (takes here (index_within line) (eqb-true x 0 is)),
+          subst (λ v. Notes take.layout None (Load (numbered_address take.layout line state_offset)) x (Some (record { caller = caller_of line; number = index_of line; seen = (state_offset, v) ∷ []; dirty = (state_offset, 8) ∷ []; hand = None; ready = false })))
+              (eqb-true x empty_state is) (takes here (index_within line) (eqb-true x empty_state is)),
           record { layout = sound.layout; caller = sound.caller; index = sound.index; here = start_is },
           refl,
           refl,
         )
-        | false ↦ λ other. elim (ltb (take.index + 1) 8) as (λ b. ltb (take.index + 1) 8 ≡ b → Took None (Load (numbered_address take.layout line 0)) x
+        | false ↦ λ other. elim (ltb (take.index + 1) 8) as (λ b. ltb (take.index + 1) 8 ≡ b → Took None (Load (numbered_address take.layout line state_offset)) x
             (cond b (Go (record take { index = take.index + 1; at = take_at.State })) (Done Full))) [
               | true ↦ λ more. (passes_line here (index_within line) (omega arith), record { layout = sound.layout; caller = sound.caller; index = ltb-true _ _ more; here = tt }, refl, refl)
               | false ↦ λ last. passes_line here (index_within line) (omega arith)
@@ -94,25 +97,25 @@ module _ (take : Take) (sound : IsTake take) where
 
   take_leads : (at : TakeAt) (x : ℕ) → IsTakeAt at → x < 2 ^ 64 → Took (take_at_held line at) (take_at_asks take.layout line at) x (take_at_turned (record take { at = at }) at x)
   take_leads take_at.State x is fits = at_state x
-  take_leads (take_at.Fence fence) x is fits = after (fence_next fence x) (fence_leads take.layout false line ((0, 0) ∷ []) fence x (λ e. cc) is fits)
+  take_leads (take_at.Fence fence) x is fits = after (fence_next fence x) (fence_leads take.layout false line ((state_offset, empty_state) ∷ []) fence x (λ e. cc) is fits)
     where
-      after : (next : Option Fence) → Fences take.layout false line ((0, 0) ∷ []) (fence_asks (numbered_address take.layout line fence.word) fence) x fence next
-          → Took (Some (fenced false line ((0, 0) ∷ []) fence)) (fence_asks (numbered_address take.layout line fence.word) fence) x (take_fenced (record take { at = take_at.Fence fence }) next)
+      after : (next : Option Fence) → Fences take.layout false line ((state_offset, empty_state) ∷ []) (fence_asks (numbered_address take.layout line fence.word) fence) x fence next
+          → Took (Some (fenced false line ((state_offset, empty_state) ∷ []) fence)) (fence_asks (numbered_address take.layout line fence.word) fence) x (take_fenced (record take { at = take_at.Fence fence }) next)
       after (Some next) leads = (leads.0, record { layout = sound.layout; caller = sound.caller; index = sound.index; here = leads.1 }, refl, refl)
       after None leads = (leads, own, line_within)
 
   module _ (told : ℕ → ℕ) where
-    one_more : NoneEmpty told take.index → told take.index ≢ 0 → NoneEmpty told (take.index + 1)
+    one_more : NoneEmpty told take.index → told take.index ≢ empty_state → NoneEmpty told (take.index + 1)
     one_more none some k within = ⊎_elim (λ same. λ z. some (sym (ap told same) ∙ z)) (λ other. none k (omega arith)) (cases_eq k take.index)
 
     heeds : (at : TakeAt) (x : ℕ) → (at ≡ take_at.State → x ≡ told take.index) → HasLooked told take.index at → TakeHeeds take.caller told take.index (take_at_turned (record take { at = at }) at x)
     heeds take_at.State x is looked =
         let same : x ≡ told take.index = is refl in
-        elim (x == 0) as (λ b. (x == 0) ≡ b → TakeHeeds take.caller told take.index
+        elim (x == empty_state) as (λ b. (x == empty_state) ≡ b → TakeHeeds take.caller told take.index
         (cond b (Go (record take { at = take_at.Fence fence_start })) (cond (ltb (take.index + 1) 8) (Go (record take { index = take.index + 1; at = take_at.State })) (Done Full)))) [
-          | true ↦ λ empty. (looked, sym same ∙ eqb-true x 0 empty)
+          | true ↦ λ empty. (looked, sym same ∙ eqb-true x empty_state empty)
           | false ↦ λ other.
-              let more = one_more looked (λ z. eqb-false x 0 other (same ∙ z)) in
+              let more = one_more looked (λ z. eqb-false x empty_state other (same ∙ z)) in
               elim (ltb (take.index + 1) 8) as (λ b. ltb (take.index + 1) 8 ≡ b → TakeHeeds take.caller told take.index
               (cond b (Go (record take { index = take.index + 1; at = take_at.State })) (Done Full))) [
                 | true ↦ λ on. more
@@ -143,12 +146,12 @@ stored_soils : (n : ℕ) → suc n < 8 → Soils (stored n) (suc n) (stored (suc
 stored_soils zero small = record { stored = inl (omega arith, omega arith); others = λ other among. absurd among }
 stored_soils (suc n) small = record { stored = inl (omega arith, omega arith); others = λ other among. ⊎_elim (λ within. inl (within.0, let high : other < 1 + suc n = within.1 in omega arith)) (λ none. absurd none) among }
 
-last_soils : (n : ℕ) → suc n < 8 → Soils (stored n) (suc n) ((0, 8) ∷ [])
+last_soils : (n : ℕ) → suc n < 8 → Soils (stored n) (suc n) ((state_offset, 8) ∷ [])
 last_soils zero small = record { stored = inl (omega arith, omega arith); others = λ other among. absurd among }
 last_soils (suc n) small = record { stored = inl (omega arith, omega arith); others = λ other among. ⊎_elim (λ within. inl (omega arith, let high : other < 1 + suc n = within.1 in omega arith)) (λ none. absurd none) among }
 
 -- the state isn't among them
-spared : (n : ℕ) → IsAmong (stored n) 0 → ⊥
+spared : (n : ℕ) → IsAmong (stored n) state_offset → ⊥
 spared zero among = among
 spared (suc n) among = ⊎_elim (λ within. let low : 1 ≤ 0 = within.0 in absurd (omega arith)) (λ none. none) among
 
@@ -158,15 +161,15 @@ durable_fields entry zero s told = tt
 durable_fields entry (suc n) s told = (⊎_elim (λ none. absurd none) (λ is. is) told.0, durable_fields entry n s told.1)
 
 -- with these fields and an OPEN or READY state it is in order
-fit_entry : (l : Layout) (entry : Entry) (state : ℕ) (s : Spot) → IsEntryOf l entry → state ≤ 2 → s 0 ≡ state → Tells (fields entry 7) s → IsEntry l s
+fit_entry : (l : Layout) (entry : Entry) (state : ℕ) (s : Spot) → IsEntryOf l entry → state ≤ ready_state → s state_offset ≡ state → Tells (fields entry 7) s → IsEntry l s
 fit_entry l entry state s is small at told = record {
-  state = let a : s 0 ≡ state = at in omega arith;
+  state = let a : s state_offset ≡ state = at in omega arith;
   kind = ⊎_elim (λ one. inl (told.1.1.1.1.1.1.0 ∙ one)) (λ two. inr (told.1.1.1.1.1.1.0 ∙ two)) is.kind;
-  node = let node : s 2 ≡ entry.node = told.1.1.1.1.1.0 in let low = is.node.0 in let high = is.node.1 in (omega arith, omega arith);
+  node = let node : s line_node_offset ≡ entry.node = told.1.1.1.1.1.0 in let low = is.node.0 in let high = is.node.1 in (omega arith, omega arith);
   name = is.name;
   is_name = is.is_name;
   anchor = (λ k. told.1.1.1.1.0 k ∷ told.1.1.1.0 k ∷ told.1.1.0 k ∷ []) ∙ is.anchor;
-  left = let left : s 6 ≡ entry.left = told.1.0 in let high = is.left in omega arith;
+  left = let left : s left_offset ≡ entry.left = told.1.0 in let high = is.left in omega arith;
   zero = told.0;
 }
 
@@ -194,11 +197,11 @@ module _ (machine : Open) (sound : IsOpen machine) where
   field_fits n =
       let is = sound.entry in
       let nodes : l.nodes ≤ 4096 = sound.layout.nodes.1 in
-      let kind : entry.kind < 2 ^ 64 = ⊎_elim (λ one. let k : entry.kind ≡ 1 = one in omega arith) (λ two. let k : entry.kind ≡ 2 = two in omega arith) is.kind in
+      let kind : entry.kind < 2 ^ 64 = ⊎_elim (λ one. let k : entry.kind ≡ split_kind = one in omega arith) (λ two. let k : entry.kind ≡ merge_kind = two in omega arith) is.kind in
       let node : entry.node < 2 ^ 64 = let high : entry.node < l.nodes = is.node.1 in omega arith in
       let left : entry.left < 2 ^ 64 = let high : entry.left < l.nodes = is.left in omega arith in
-      pick (suc n == 1) kind (pick (suc n == 2) node (pick (suc n == 3) (anchor_fits 0 (λ k. slice_index (is.anchor k) 0)) (pick (suc n == 4) (anchor_fits 1 (λ k. slice_index (is.anchor k) 1))
-      (pick (suc n == 5) (anchor_fits 2 (λ k. slice_index (is.anchor k) 2)) (pick (suc n == 6) left (omega arith))))))
+      pick (suc n == kind_offset) kind (pick (suc n == line_node_offset) node (pick (suc n == anchor_offset) (anchor_fits 0 (λ k. slice_index (is.anchor k) 0)) (pick (suc n == anchor_offset + 1) (anchor_fits 1 (λ k. slice_index (is.anchor k) 1))
+      (pick (suc n == anchor_offset + 2) (anchor_fits 2 (λ k. slice_index (is.anchor k) 2)) (pick (suc n == left_offset) left (omega arith))))))
     where
       anchor_fits : (k : ℕ) {word : ℕ} → word ≡ slice_index (words_of sound.entry.name) k → word < 2 ^ 64
       anchor_fits k same = let below : get_or (words_of sound.entry.name) k 0 < 2 ^ 64 = get_or-words_of_below sound.entry.name (name_bytes sound.entry.name sound.entry.is_name) k in subst (λ v. v < 2 ^ 64) (sym same) below
@@ -206,21 +209,21 @@ module _ (machine : Open) (sound : IsOpen machine) where
   abbrev field_store : ℕ → Action
   field_store n = Store (numbered_address l number (suc n)) (field_of entry (suc n))
 
-  field_told : (n : ℕ) (s : Spot) → Tells ((0, 0) ∷ fields entry n) s → Tells ((0, 0) ∷ fields entry (suc n)) (updated s (suc n) (field_of entry (suc n)))
+  field_told : (n : ℕ) (s : Spot) → Tells ((state_offset, empty_state) ∷ fields entry n) s → Tells ((state_offset, empty_state) ∷ fields entry (suc n)) (updated s (suc n) (field_of entry (suc n)))
   field_told n s told = (
     updated-other s (suc n) (field_of entry (suc n)) 0 (λ z. omega arith) ∙ told.0,
     (updated-same s (suc n) (field_of entry (suc n)), fields_stay entry n (suc n) (field_of entry (suc n)) s (λ k low high z. omega arith) told.1),
   )
 
-  field_fit : (n : ℕ) (s : Spot) → TellsDurably (stored n) ((0, 0) ∷ fields entry n) s → IsFitLine l s → IsFitLine l (updated s (suc n) (field_of entry (suc n)))
+  field_fit : (n : ℕ) (s : Spot) → TellsDurably (stored n) ((state_offset, empty_state) ∷ fields entry n) s → IsFitLine l s → IsFitLine l (updated s (suc n) (field_of entry (suc n)))
   field_fit n s told fit = inl (updated-other s (suc n) (field_of entry (suc n)) 0 (λ z. omega arith) ∙ ⊎_elim (λ among. absurd (spared n among)) (λ is. is) told.0)
 
   field_note : (n x : ℕ) → suc n < 8 → Notes l (Some (filled_line number entry n)) (field_store n) x (Some (filled_line number entry (suc n)))
   field_note n x small = notes small (field_fits n) (fills (λ z. omega arith) refl (λ s told. told.0)) (stored_soils n small) (field_told n) (field_fit n)
 
-  last_note : (n x : ℕ) → suc n ≡ 7 → Notes l (Some (filled_line number entry n)) (field_store n) x (Some (fenced false number ((0, 0) ∷ fields entry 7) fence_start))
+  last_note : (n x : ℕ) → suc n ≡ 7 → Notes l (Some (filled_line number entry n)) (field_store n) x (Some (fenced false number ((state_offset, empty_state) ∷ fields entry 7) fence_start))
   last_note n x last =
-      subst (λ k. Notes l (Some (filled_line number entry n)) (field_store n) x (Some (fenced false number ((0, 0) ∷ fields entry k) fence_start))) last
+      subst (λ k. Notes l (Some (filled_line number entry n)) (field_store n) x (Some (fenced false number ((state_offset, empty_state) ∷ fields entry k) fence_start))) last
       (notes (omega arith) (field_fits n) (fills (λ z. omega arith) refl (λ s told. told.0)) (last_soils n (omega arith)) (field_told n) (field_fit n))
 
   at_field : (n x : ℕ) → suc n < 8 → Opened (filled_line number entry n) (field_store n) x (open_at_turned machine (open_at.Field (suc n)) x)
@@ -233,29 +236,29 @@ module _ (machine : Open) (sound : IsOpen machine) where
         | false ↦ λ last. on (filled_line number entry n) (field_store n) x (open_at.FenceFields fence_start) (last_note n x (let end : 8 ≤ suc n + 1 = ltb-false _ _ last in omega arith)) start_is
       ] refl
 
-  at_open : (x : ℕ) → Opened (settled false number ((0, 0) ∷ fields entry 7)) (Store (numbered_address l number 0) 1) x (opens_on machine (open_at.FenceState fence_start))
-  at_open x = on (settled false number ((0, 0) ∷ fields entry 7)) (Store (numbered_address l number 0) 1) x (open_at.FenceState fence_start)
+  at_open : (x : ℕ) → Opened (settled false number ((state_offset, empty_state) ∷ fields entry 7)) (Store (numbered_address l number state_offset) open_state) x (opens_on machine (open_at.FenceState fence_start))
+  at_open x = on (settled false number ((state_offset, empty_state) ∷ fields entry 7)) (Store (numbered_address l number state_offset) open_state) x (open_at.FenceState fence_start)
       (notes (omega arith) (omega arith) (opens refl (λ s told. told.0)) (record { stored = inl (omega arith, omega arith); others = λ other among. absurd among })
-      (λ s told. (updated-same s 0 1, fields_stay entry 7 0 1 s (λ k low high z. omega arith) told.1))
-      (λ s told fit. inr (fit_entry l entry 1 (updated s 0 1) sound.entry (omega arith) (updated-same s 0 1)
-      (fields_stay entry 7 0 1 s (λ k low high z. omega arith) (durable_fields entry 7 s told.1)))))
+      (λ s told. (updated-same s state_offset open_state, fields_stay entry 7 state_offset open_state s (λ k low high z. omega arith) told.1))
+      (λ s told fit. inr (fit_entry l entry open_state (updated s state_offset open_state) sound.entry (omega arith) (updated-same s state_offset open_state)
+      (fields_stay entry 7 state_offset open_state s (λ k low high z. omega arith) (durable_fields entry 7 s told.1)))))
       start_is
 
   open_leads : (at : OpenAt) (x : ℕ) → IsOpenAt at → x < 2 ^ 64 → Opened (open_at_held number entry at) (open_at_asks l number entry at) x (open_at_turned machine at x)
   open_leads (open_at.Field zero) x is fits = let low : 1 ≤ 0 = is.0 in absurd (omega arith)
   open_leads (open_at.Field (suc n)) x is fits = at_field n x is.1
-  open_leads (open_at.FenceFields fence) x is fits = after (fence_next fence x) (fence_leads l false number ((0, 0) ∷ fields entry 7) fence x (λ e. cc) is fits)
+  open_leads (open_at.FenceFields fence) x is fits = after (fence_next fence x) (fence_leads l false number ((state_offset, empty_state) ∷ fields entry 7) fence x (λ e. cc) is fits)
     where
-      after : (next : Option Fence) → Fences l false number ((0, 0) ∷ fields entry 7) (fence_asks (numbered_address l number fence.word) fence) x fence next
-          → Opened (fenced false number ((0, 0) ∷ fields entry 7) fence) (fence_asks (numbered_address l number fence.word) fence) x (fields_fenced machine next)
-      after (Some next) leads = on (fenced false number ((0, 0) ∷ fields entry 7) fence) (fence_asks (numbered_address l number fence.word) fence) x (open_at.FenceFields next) leads.0 leads.1
-      after None leads = on (fenced false number ((0, 0) ∷ fields entry 7) fence) (fence_asks (numbered_address l number fence.word) fence) x open_at.State leads tt
+      after : (next : Option Fence) → Fences l false number ((state_offset, empty_state) ∷ fields entry 7) (fence_asks (numbered_address l number fence.word) fence) x fence next
+          → Opened (fenced false number ((state_offset, empty_state) ∷ fields entry 7) fence) (fence_asks (numbered_address l number fence.word) fence) x (fields_fenced machine next)
+      after (Some next) leads = on (fenced false number ((state_offset, empty_state) ∷ fields entry 7) fence) (fence_asks (numbered_address l number fence.word) fence) x (open_at.FenceFields next) leads.0 leads.1
+      after None leads = on (fenced false number ((state_offset, empty_state) ∷ fields entry 7) fence) (fence_asks (numbered_address l number fence.word) fence) x open_at.State leads tt
   open_leads open_at.State x is fits = at_open x
-  open_leads (open_at.FenceState fence) x is fits = after (fence_next fence x) (fence_leads l false number ((0, 1) ∷ fields entry 7) fence x (λ e. cc) is fits)
+  open_leads (open_at.FenceState fence) x is fits = after (fence_next fence x) (fence_leads l false number ((state_offset, open_state) ∷ fields entry 7) fence x (λ e. cc) is fits)
     where
-      after : (next : Option Fence) → Fences l false number ((0, 1) ∷ fields entry 7) (fence_asks (numbered_address l number fence.word) fence) x fence next
-          → Opened (fenced false number ((0, 1) ∷ fields entry 7) fence) (fence_asks (numbered_address l number fence.word) fence) x (state_fenced machine next)
-      after (Some next) leads = on (fenced false number ((0, 1) ∷ fields entry 7) fence) (fence_asks (numbered_address l number fence.word) fence) x (open_at.FenceState next) leads.0 leads.1
+      after : (next : Option Fence) → Fences l false number ((state_offset, open_state) ∷ fields entry 7) (fence_asks (numbered_address l number fence.word) fence) x fence next
+          → Opened (fenced false number ((state_offset, open_state) ∷ fields entry 7) fence) (fence_asks (numbered_address l number fence.word) fence) x (state_fenced machine next)
+      after (Some next) leads = on (fenced false number ((state_offset, open_state) ∷ fields entry 7) fence) (fence_asks (numbered_address l number fence.word) fence) x (open_at.FenceState next) leads.0 leads.1
       after None leads = leads
 
 pub opens_are_notes : OpensAreNotes
@@ -265,20 +268,20 @@ opens_are_notes machine x sound fits = open_leads machine sound machine.at x sou
 
 -- the fields say nothing of the state
 blind_fields : (entry : Entry) → IsBlind (fields entry 7)
-blind_fields entry s state told = fields_stay entry 7 0 state s (λ k low high z. omega arith) told
+blind_fields entry s state told = fields_stay entry 7 state_offset state s (λ k low high z. omega arith) told
 
 module _ (ready : Ready) (entry : Entry) (sound : IsReady ready) where
-  ready_stays : (s : Spot) → IsEntry ready.layout s → IsEntry ready.layout (updated s 0 2)
+  ready_stays : (s : Spot) → IsEntry ready.layout s → IsEntry ready.layout (updated s state_offset ready_state)
   ready_stays s is =
-      let stays : (k : ℕ) → k ≢ 0 → updated s 0 2 k ≡ s k = λ k other. updated-other s 0 2 k other in
+      let stays : (k : ℕ) → k ≢ 0 → updated s state_offset ready_state k ≡ s k = λ k other. updated-other s state_offset ready_state k other in
       record {
-        state = let at : updated s 0 2 0 ≡ 2 = updated-same s 0 2 in omega arith;
-        kind = ⊎_elim (λ one. inl (stays 1 (λ z. omega arith) ∙ one)) (λ two. inr (stays 1 (λ z. omega arith) ∙ two)) is.kind;
-        node = let same = stays 2 (λ z. omega arith) in let low = is.node.0 in let high = is.node.1 in (omega arith, omega arith);
+        state = let at : updated s state_offset ready_state state_offset ≡ ready_state = updated-same s state_offset ready_state in omega arith;
+        kind = ⊎_elim (λ one. inl (stays kind_offset (λ z. omega arith) ∙ one)) (λ two. inr (stays kind_offset (λ z. omega arith) ∙ two)) is.kind;
+        node = let same = stays line_node_offset (λ z. omega arith) in let low = is.node.0 in let high = is.node.1 in (omega arith, omega arith);
         name = is.name;
         is_name = is.is_name;
-        anchor = (λ k. stays 3 (λ z. omega arith) k ∷ stays 4 (λ z. omega arith) k ∷ stays 5 (λ z. omega arith) k ∷ []) ∙ is.anchor;
-        left = let same = stays 6 (λ z. omega arith) in let high = is.left in omega arith;
+        anchor = (λ k. stays anchor_offset (λ z. omega arith) k ∷ stays (anchor_offset + 1) (λ z. omega arith) k ∷ stays (anchor_offset + 2) (λ z. omega arith) k ∷ []) ∙ is.anchor;
+        left = let same = stays left_offset (λ z. omega arith) in let high = is.left in omega arith;
         zero = stays 7 (λ z. omega arith) ∙ is.zero;
       }
 
@@ -286,9 +289,9 @@ module _ (ready : Ready) (entry : Entry) (sound : IsReady ready) where
       → ReadyNotes ready.layout ready.line entry (ready_at_held ready.line entry at) (ready_at_asks ready.layout ready.line at) x (ready_at_turned ready at x)
   ready_leads ready_at.State x is fits = (
     notes (omega arith) (omega arith) (readies refl refl (λ s told. told.0) (blind_fields entry)) (record { stored = inl (omega arith, omega arith); others = λ other among. absurd among })
-        (λ s told. fields_stay entry 7 0 2 s (λ k low high z. omega arith) told.1)
+        (λ s told. fields_stay entry 7 state_offset ready_state s (λ k low high z. omega arith) told.1)
         (λ s told fit. ⊎_elim
-        (λ empty. let open_ : s 0 ≡ 1 = ⊎_elim (λ none. absurd none) (λ is. is) told.0 in absurd (omega arith))
+        (λ empty. let open_ : s state_offset ≡ open_state = ⊎_elim (λ none. absurd none) (λ is. is) told.0 in absurd (omega arith))
         (λ is. inr (ready_stays s is)) fit),
     record { layout = sound.layout; line = sound.line; here = start_is },
     refl,
@@ -321,11 +324,11 @@ reads_heed read told sound has =
     (cond b (Go (record read { offset = read.offset + 1; words = words })) (Done (seen_in words)))) [
       | true ↦ λ more. record { size = length-set read.words read.offset (told read.offset) ∙ has.size; same = same }
       | false ↦ λ last. let end : 7 ≤ read.offset + 1 = ltb-false _ _ last in record {
-        state = same 0 (omega arith);
-        kind = same 1 (omega arith);
-        node = same 2 (omega arith);
-        anchor = λ k. same 3 (omega arith) k ∷ same 4 (omega arith) k ∷ same 5 (omega arith) k ∷ [];
-        left = same 6 (omega arith);
+        state = same state_offset (omega arith);
+        kind = same kind_offset (omega arith);
+        node = same line_node_offset (omega arith);
+        anchor = λ k. same anchor_offset (omega arith) k ∷ same (anchor_offset + 1) (omega arith) k ∷ same (anchor_offset + 2) (omega arith) k ∷ [];
+        left = same left_offset (omega arith);
       }
     ] refl
   where

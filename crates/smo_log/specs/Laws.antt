@@ -4,6 +4,7 @@ use Rattle.pm_words.specs.declared.layout.Layout.{Layout}
 use Rattle.pm_words.specs.declared.action.Action.{Action}
 use Rattle.pm_words.specs.declared.machine.Turn.{Turn}
 use Rattle.pm_words.specs.declared.machine.Turn.TheVariants.{Go, Done}
+use Rattle.pm_words.specs.Codes.{empty_state}
 use Rattle.call_stages.specs.Lines.{HeldLine, Notes}
 use Rattle.call_stages.specs.AnySteps.{IsBeside}
 use Rattle.smo_log.specs.declared.line.Entry.{Entry}
@@ -42,17 +43,17 @@ ReadsAreNotes = (read : ReadLine) (x : ℕ) → IsRead read →
 
 -- None of a caller's first so many lines was EMPTY, where it was told their states.
 abbrev pub NoneEmpty : (ℕ → ℕ) → ℕ → Type 0
-NoneEmpty told most = (index : ℕ) → index < most → told index ≢ 0
+NoneEmpty told most = (index : ℕ) → index < most → told index ≢ empty_state
 
 -- What a look for a line answers that was told these states: the first EMPTY line, or none.
 abbrev pub TakeTells : ℕ → (ℕ → ℕ) → ℕ → Taken → Type 0
-TakeTells c told index (Line line) = (line ≡ 8 * c + index) × (index < 8) × (told index ≡ 0) × NoneEmpty told index
+TakeTells c told index (Line line) = (line ≡ 8 * c + index) × (index < 8) × (told index ≡ empty_state) × NoneEmpty told index
 TakeTells c told index Full = NoneEmpty told 8
 
 -- The states that it has loaded so far are so.
 abbrev pub HasLooked : (ℕ → ℕ) → ℕ → TakeAt → Type 0
 HasLooked told index at.State = NoneEmpty told index
-HasLooked told index (at.Fence fence) = NoneEmpty told index × (told index ≡ 0)
+HasLooked told index (at.Fence fence) = NoneEmpty told index × (told index ≡ empty_state)
 
 abbrev pub TakeHeeds : ℕ → (ℕ → ℕ) → ℕ → Turn Take Taken → Type 0
 TakeHeeds c told index (Go take) = HasLooked told take.index take.at

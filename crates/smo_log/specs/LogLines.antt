@@ -1,5 +1,5 @@
 -- Log lines by their numbers, and what they say.
-use Rattle.std.specs.Prelude.{◌≡◌, ℕ, zero, suc, ◌-◌, ◌/◌, ◌%◌, ◌<◌, ◌≤◌, ◌==◌, ◌⊎◌, if◌then◌else◌, Bool, true, false}
+use Rattle.std.specs.Prelude.{◌≡◌, ℕ, ◌+◌, zero, suc, ◌-◌, ◌/◌, ◌%◌, ◌<◌, ◌≤◌, ◌==◌, ◌⊎◌, if◌then◌else◌, Bool, true, false}
 use Rattle.std.specs.Prelude.{List, [], ◌∷◌}
 use Rattle.std.specs.Prelude.{slice_index, None}
 use Rattle.pm_words.specs.declared.layout.Layout.{Layout}
@@ -8,6 +8,9 @@ use Rattle.call_stages.specs.Lines.{HeldLine, line_address}
 use Rattle.smo_log.specs.declared.line.Entry.{Entry}
 use Rattle.pm_words.specs.declared.fence.Fence.{Fence}
 use Rattle.pm_words.specs.Fences.{hand_of}
+use Rattle.pm_words.specs.Codes.{merge_kind, split_kind, empty_state, open_state}
+use Rattle.call_stages.specs.data_node.specs.Lists.{anchor_offset}
+use Rattle.call_stages.specs.data_node.specs.Lines.{state_offset, kind_offset, line_node_offset, left_offset}
 
 -- The caller of a line, and which of the caller's lines it is.
 abbrev pub caller_of : ℕ → ℕ
@@ -22,16 +25,16 @@ numbered_address l line offset = line_address l (caller_of line) (index_of line)
 -- The word that is to stand at this offset behind the state.
 abbrev pub field_of : Entry → ℕ → ℕ
 field_of entry offset =
-    if offset == 1 then entry.kind
-    else (if offset == 2 then entry.node
-    else (if offset == 3 then slice_index entry.anchor 0
-    else (if offset == 4 then slice_index entry.anchor 1
-    else (if offset == 5 then slice_index entry.anchor 2
-    else (if offset == 6 then entry.left else 0)))))
+    if offset == kind_offset then entry.kind
+    else (if offset == line_node_offset then entry.node
+    else (if offset == anchor_offset then slice_index entry.anchor 0
+    else (if offset == anchor_offset + 1 then slice_index entry.anchor 1
+    else (if offset == anchor_offset + 2 then slice_index entry.anchor 2
+    else (if offset == left_offset then entry.left else 0)))))
 
 -- A split or a merge of two nodes, with a name as the anchor of the new or the merged one.
 pub record IsEntryOf (l : Layout) (entry : Entry) : Type 0 where
-  pub kind : (entry.kind ≡ 1) ⊎ (entry.kind ≡ 2)
+  pub kind : (entry.kind ≡ split_kind) ⊎ (entry.kind ≡ merge_kind)
   pub node : (1 ≤ entry.node) × (entry.node < l.nodes)
   pub name : List ℕ
   pub is_name : IsName name
@@ -69,10 +72,10 @@ fenced ready line seen fence =
 -- What it knows of a line that it has just taken: it is EMPTY; of one that it opened: it is OPEN, and says this; and of
 -- one that it made READY: it says this, whatever its state is by now.
 abbrev pub empty_line : ℕ → HeldLine
-empty_line line = settled false line ((0, 0) ∷ [])
+empty_line line = settled false line ((state_offset, empty_state) ∷ [])
 
 abbrev pub open_line : ℕ → Entry → HeldLine
-open_line line entry = settled false line ((0, 1) ∷ fields entry 7)
+open_line line entry = settled false line ((state_offset, open_state) ∷ fields entry 7)
 
 abbrev pub ready_line : ℕ → Entry → HeldLine
 ready_line line entry = settled true line (fields entry 7)

@@ -16,6 +16,8 @@ use Rattle.smo_log.specs.declared.open.Open.{Open}
 use Rattle.smo_log.specs.declared.open.OpenAt.{OpenAt}
 use Rattle.smo_log.specs.declared.open.OpenAt.TheVariants as at
 use Rattle.pm_words.specs.Fences.{fence_start, IsFence, fence_asks, fence_next, fence_left}
+use Rattle.pm_words.specs.Codes.{open_state, empty_state}
+use Rattle.call_stages.specs.data_node.specs.Lines.{state_offset}
 use Rattle.smo_log.specs.LogLines.{caller_of, index_of, numbered_address, field_of, IsEntryOf, fields, settled, fenced}
 use Rattle.smo_log.specs.LogLines.{open_line}
 
@@ -25,7 +27,7 @@ open_from layout line entry = record { layout = layout; line = line; entry = ent
 abbrev pub open_at_asks : Layout → ℕ → Entry → OpenAt → Action
 open_at_asks l line entry (at.Field offset) = Store (numbered_address l line offset) (field_of entry offset)
 open_at_asks l line entry (at.FenceFields fence) = fence_asks (numbered_address l line fence.word) fence
-open_at_asks l line entry at.State = Store (numbered_address l line 0) 1
+open_at_asks l line entry at.State = Store (numbered_address l line state_offset) open_state
 open_at_asks l line entry (at.FenceState fence) = fence_asks (numbered_address l line fence.word) fence
 
 abbrev pub open_asks : Open → Action
@@ -91,7 +93,7 @@ filled_line line entry n =
     record {
       caller = caller_of line;
       number = index_of line;
-      seen = (0, 0) ∷ fields entry n;
+      seen = (state_offset, empty_state) ∷ fields entry n;
       dirty = stored n;
       hand =
           None;
@@ -102,9 +104,9 @@ filled_line line entry n =
 abbrev pub open_at_held : ℕ → Entry → OpenAt → HeldLine
 open_at_held line entry (at.Field zero) = filled_line line entry 0
 open_at_held line entry (at.Field (suc n)) = filled_line line entry n
-open_at_held line entry (at.FenceFields fence) = fenced false line ((0, 0) ∷ fields entry 7) fence
-open_at_held line entry at.State = settled false line ((0, 0) ∷ fields entry 7)
-open_at_held line entry (at.FenceState fence) = fenced false line ((0, 1) ∷ fields entry 7) fence
+open_at_held line entry (at.FenceFields fence) = fenced false line ((state_offset, empty_state) ∷ fields entry 7) fence
+open_at_held line entry at.State = settled false line ((state_offset, empty_state) ∷ fields entry 7)
+open_at_held line entry (at.FenceState fence) = fenced false line ((state_offset, open_state) ∷ fields entry 7) fence
 
 abbrev pub open_held : Open → HeldLine
 open_held open_ = open_at_held open_.line open_.entry open_.at

@@ -7,6 +7,8 @@ use Rattle.pm_words.specs.declared.action.Action.TheVariants.{Load}
 use Rattle.pm_words.specs.declared.machine.Turn.{Turn}
 use Rattle.pm_words.specs.declared.machine.Turn.TheVariants.{Go, Done}
 use Rattle.pm_words.specs.Layouts.{IsLayout}
+use Rattle.call_stages.specs.data_node.specs.Lists.{anchor_words}
+use Rattle.call_stages.specs.data_node.specs.Lines.{state_offset, kind_offset, line_node_offset, left_offset}
 use Rattle.call_stages.specs.Lines.{Notes}
 use Rattle.smo_log.specs.declared.read.LineSeen.{LineSeen}
 use Rattle.smo_log.specs.declared.read.ReadLine.{ReadLine}
@@ -21,12 +23,12 @@ read_asks read = Load (numbered_address read.layout read.line read.offset)
 -- what these words say
 abbrev pub seen_in : List ℕ → LineSeen
 seen_in words = record {
-  state = slice_index words 0;
+  state = slice_index words state_offset;
   entry = record {
-    kind = slice_index words 1;
-    node = slice_index words 2;
-    anchor = slice_index words 3 ∷ slice_index words 4 ∷ slice_index words 5 ∷ [];
-    left = slice_index words 6;
+    kind = slice_index words kind_offset;
+    node = slice_index words line_node_offset;
+    anchor = anchor_words (slice_index words);
+    left = slice_index words left_offset;
   };
 }
 
@@ -63,11 +65,11 @@ pub record HasRead (told : ℕ → ℕ) (words : List ℕ) (most : ℕ) : Type 0
 
 -- The line as it was loaded, word by word.
 pub record IsSeen (told : ℕ → ℕ) (seen : LineSeen) : Type 0 where
-  pub state : seen.state ≡ told 0
-  pub kind : seen.entry.kind ≡ told 1
-  pub node : seen.entry.node ≡ told 2
-  pub anchor : seen.entry.anchor ≡ told 3 ∷ told 4 ∷ told 5 ∷ []
-  pub left : seen.entry.left ≡ told 6
+  pub state : seen.state ≡ told state_offset
+  pub kind : seen.entry.kind ≡ told kind_offset
+  pub node : seen.entry.node ≡ told line_node_offset
+  pub anchor : seen.entry.anchor ≡ anchor_words told
+  pub left : seen.entry.left ≡ told left_offset
 
 abbrev pub ReadsOn : (ℕ → ℕ) → Turn ReadLine LineSeen → Type 0
 ReadsOn told (Go read) = HasRead told read.words read.offset

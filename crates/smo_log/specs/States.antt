@@ -14,13 +14,15 @@ use Rattle.smo_log.specs.declared.state.ReadyAt.{ReadyAt}
 use Rattle.smo_log.specs.declared.state.ReadyAt.TheVariants as at
 use Rattle.smo_log.specs.declared.state.Clear.{Clear}
 use Rattle.pm_words.specs.Fences.{fence_start, IsFence, fence_asks, fence_next, fence_left}
+use Rattle.pm_words.specs.Codes.{empty_state, ready_state}
+use Rattle.call_stages.specs.data_node.specs.Lines.{state_offset}
 use Rattle.smo_log.specs.LogLines.{numbered_address, fields, fenced, open_line, ready_line}
 
 abbrev pub ready_from : Layout → ℕ → Ready
 ready_from layout line = record { layout = layout; line = line; at = at.State }
 
 abbrev pub ready_at_asks : Layout → ℕ → ReadyAt → Action
-ready_at_asks l line at.State = Store (numbered_address l line 0) 2
+ready_at_asks l line at.State = Store (numbered_address l line state_offset) ready_state
 ready_at_asks l line (at.Fence fence) = fence_asks (numbered_address l line fence.word) fence
 
 abbrev pub ready_asks : Ready → Action
@@ -80,7 +82,7 @@ abbrev pub clear_from : Layout → ℕ → Clear
 clear_from layout line = record { layout = layout; line = line }
 
 abbrev pub clear_asks : Clear → Action
-clear_asks clear = Store (numbered_address clear.layout clear.line 0) 0
+clear_asks clear = Store (numbered_address clear.layout clear.line state_offset) empty_state
 
 abbrev pub clear_turned : Clear → ℕ → Turn Clear (Unit {0})
 clear_turned clear got = Done tt

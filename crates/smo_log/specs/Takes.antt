@@ -16,6 +16,8 @@ use Rattle.smo_log.specs.declared.take.Take.{Take}
 use Rattle.smo_log.specs.declared.take.TakeAt.{TakeAt}
 use Rattle.smo_log.specs.declared.take.TakeAt.TheVariants as at
 use Rattle.pm_words.specs.Fences.{fence_start, IsFence, fence_asks, fence_next, fence_left}
+use Rattle.pm_words.specs.Codes.{empty_state}
+use Rattle.call_stages.specs.data_node.specs.Lines.{state_offset}
 use Rattle.smo_log.specs.LogLines.{caller_of, numbered_address, fenced, empty_line}
 
 abbrev pub take_from : Layout → ℕ → Take
@@ -26,7 +28,7 @@ abbrev pub take_line : Take → ℕ
 take_line take = LOG_LINES * take.caller + take.index
 
 abbrev pub take_at_asks : Layout → ℕ → TakeAt → Action
-take_at_asks l line at.State = Load (numbered_address l line 0)
+take_at_asks l line at.State = Load (numbered_address l line state_offset)
 take_at_asks l line (at.Fence fence) = fence_asks (numbered_address l line fence.word) fence
 
 abbrev pub take_asks : Take → Action
@@ -38,7 +40,7 @@ takes_on take at = Go (record take { at = at })
 
 abbrev pub saw_state : Take → ℕ → Turn Take Taken
 saw_state take state =
-    if state == 0 then takes_on take (at.Fence fence_start)
+    if state == empty_state then takes_on take (at.Fence fence_start)
     else (if nat_lt (take.index + 1) LOG_LINES then Go (record take { index = take.index + 1 }) else Done Full)
 
 abbrev pub take_fenced : Take → Option Fence → Turn Take Taken
@@ -77,7 +79,7 @@ take_left take = (8 - take.index) + take_at_left take.at
 -- the line that it has at this point
 abbrev pub take_at_held : ℕ → TakeAt → Option HeldLine
 take_at_held line at.State = None
-take_at_held line (at.Fence fence) = Some (fenced false line ((0, 0) ∷ []) fence)
+take_at_held line (at.Fence fence) = Some (fenced false line ((state_offset, empty_state) ∷ []) fence)
 
 abbrev pub take_held : Take → Option HeldLine
 take_held take = take_at_held (take_line take) take.at
