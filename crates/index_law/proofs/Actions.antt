@@ -44,21 +44,21 @@ may_name l s a (loads_word {n = n} {offset = offset} has) = addresses_within l (
 may_name l s a (loads_status {n = n} here) = addresses_within l (Volatile n status_offset) (here, omega arith)
 may_name l s a (loads_prev {n = n} here) = addresses_within l (Volatile n prev_offset) (here, omega arith)
 may_name l s a (stores_status {n = n} holds here small) = (addresses_within l (Volatile n status_offset) (here, omega arith), status_outside l n here)
-may_name l s a (exchanges {n = n} here) = let has : HasWordAt l n 0 = (here, omega arith) in (addresses_within l (Cached (Node n version_offset)) has, node_outside l n 0 has)
-may_name l s a (exchanges_read {n = n} here small) = let has : HasWordAt l n 0 = (here, omega arith) in (addresses_within l (Cached (Node n version_offset)) has, node_outside l n 0 has)
+may_name l s a (exchanges {n = n} here) = let has : HasWordAt l n version_offset = (here, omega arith) in (addresses_within l (Cached (Node n version_offset)) has, node_outside l n version_offset has)
+may_name l s a (exchanges_read {n = n} here small) = let has : HasWordAt l n version_offset = (here, omega arith) in (addresses_within l (Cached (Node n version_offset)) has, node_outside l n version_offset has)
 may_name l s a (stores_word {n = n} {offset = offset} holds has positive small) = (addresses_within l (Cached (Node n offset)) has, node_outside l n offset has)
 may_name l s a (drains_word {n = n} {y = y} {offset = offset} holds has small) = (names_cached l (Node n offset) has, keeps_header l (Node n offset) y has (λ k lt e. cc))
 may_name l s a adds = (addresses_within l Clock tt, clock_outside l)
-may_name l s a (claims_node {m = m} here) = let has : HasWordAt l m 0 = (here, omega arith) in (addresses_within l (Cached (Node m version_offset)) has, node_outside l m 0 has)
+may_name l s a (claims_node {m = m} here) = let has : HasWordAt l m version_offset = (here, omega arith) in (addresses_within l (Cached (Node m version_offset)) has, node_outside l m version_offset has)
 may_name l s a (frees_fresh {fresh = fresh} here next) =
-    let has : HasWordAt l fresh.node 0 = (here, omega arith) in (addresses_within l (Cached (Node fresh.node version_offset)) has, node_outside l fresh.node 0 has)
+    let has : HasWordAt l fresh.node version_offset = (here, omega arith) in (addresses_within l (Cached (Node fresh.node version_offset)) has, node_outside l fresh.node version_offset has)
 may_name l s a (frees_left {left = left} here next) =
-    let has : HasWordAt l left.node 0 = (here, omega arith) in (addresses_within l (Cached (Node left.node version_offset)) has, node_outside l left.node 0 has)
+    let has : HasWordAt l left.node version_offset = (here, omega arith) in (addresses_within l (Cached (Node left.node version_offset)) has, node_outside l left.node version_offset has)
 may_name l s a (frees_met {right = right} here next) =
-    let has : HasWordAt l right.node 0 = (here, omega arith) in (addresses_within l (Cached (Node right.node version_offset)) has, node_outside l right.node 0 has)
+    let has : HasWordAt l right.node version_offset = (here, omega arith) in (addresses_within l (Cached (Node right.node version_offset)) has, node_outside l right.node version_offset has)
 may_name l s a (frees_right {right = right} here next) =
-    let has : HasWordAt l right.node 0 = (here, omega arith) in (addresses_within l (Cached (Node right.node version_offset)) has, node_outside l right.node 0 has)
-may_name l s a (frees {n = n} here next) = let has : HasWordAt l n 0 = (here, omega arith) in (addresses_within l (Cached (Node n version_offset)) has, node_outside l n 0 has)
+    let has : HasWordAt l right.node version_offset = (here, omega arith) in (addresses_within l (Cached (Node right.node version_offset)) has, node_outside l right.node version_offset has)
+may_name l s a (frees {n = n} here next) = let has : HasWordAt l n version_offset = (here, omega arith) in (addresses_within l (Cached (Node n version_offset)) has, node_outside l n version_offset has)
 
 -- the word that takes or gives back a lock has 64 bits
 can_change : (l : Layout) (g : ℕ) (f : Facts) (caller index since : ℕ) (s : Stage) (a : Action) (word : ℕ) → Allowed l s a → g < GENERATION_LIMIT

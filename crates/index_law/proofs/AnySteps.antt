@@ -14,6 +14,7 @@ use Rattle.pm_words.specs.Rows.{IsRow, CanAct, acted, got}
 use Rattle.pm_words.proofs.Apart.{addresses_within, addresses_apart, at-set_other}
 use Rattle.pm_words.proofs.Kept.{action_address-drain, acted_row, outside_header, names_cached, keeps_header}
 use Rattle.pm_words.specs.Offsets.{prev_offset, status_offset}
+use Rattle.data_node.specs.Lines.{state_offset}
 use Rattle.cat_history.specs.declared.op.Change.{Change}
 use Rattle.call_stages.specs.Stages.{Stage, HoldsNode, counted}
 use Rattle.call_stages.specs.Kinds.{HasWordAt, word_address, status_address, clock_address}
@@ -47,7 +48,7 @@ set_own (x ∷ xs) (suc i) a there = ap (λ (ys : _). x ∷ ys) (set_own xs i a 
 abbrev line_of : Location → Word
 line_of (Cached v) = v
 line_of (Durable v) = v
-line_of _ = Line 0 0 0
+line_of _ = Line 0 0 state_offset
 
 abbrev offset_in : Location → ℕ
 offset_in (Volatile n o) = o

@@ -5,7 +5,7 @@ use Rattle.std.specs.Prelude.{Some, None, IfSome}
 use Rattle.std.proofs.lemmas.Bool.{cases_lt, cases_eq, lt-ltb, le-ltb, ltb-true}
 use mathlib.Core.Option.{some, some-injective}
 use lib.ListN.{get_elem?}
-use Rattle.pm_words.specs.Codes.{live_status}
+use Rattle.pm_words.specs.Codes.{live_status, empty_state, free_status, gone_status}
 use Rattle.pm_words.specs.declared.layout.Layout.{Layout}
 use Rattle.pm_words.specs.Layouts.{IsLayout}
 use Rattle.pm_words.specs.Locations.{Location, Node, Line, Clock, Volatile, Cached, Durable, HasWord, HasLocation, at, address_of}
@@ -14,6 +14,7 @@ use Rattle.pm_words.proofs.Apart.{at-set_other}
 use Rattle.pm_words.proofs.Made.{fresh_at}
 use Rattle.data_node.specs.Spots.{Spot}
 use Rattle.data_node.specs.Lists.{next_offset}
+use Rattle.data_node.specs.Lines.{state_offset}
 use Rattle.pm_words.specs.Offsets.{prev_offset, stamp_offset, status_offset}
 use Rattle.call_stages.specs.Stages.{Stage, Idle, HoldsNode, Tells}
 use Rattle.call_stages.specs.Kinds.{HasWordAt}
@@ -165,7 +166,7 @@ no_line_held e is = cc
 
 -- an index of parties that have nothing, whose log lines need no party
 pub free_footed : (z : Whole) → AreFree z.world.parties z.lines z.debts → Lawful z.world → AreFit z.world.layout z.world.words
-    → ((c j : ℕ) → c < z.world.layout.callers → j < 8 → NeedsNoParty (line_in z.world.layout z.world.words c j 0))
+    → ((c j : ℕ) → c < z.world.layout.callers → j < 8 → NeedsNoParty (line_in z.world.layout z.world.words c j state_offset))
     → ((n : ℕ) → IsListed (facts z.world) n → (facts z.world).now n next_offset ≢ 0 → prev_in z.world.layout z.world.words ((facts z.world).now n next_offset) ≡ n)
     → AreInOrder z.world.layout.nodes (IsGone (facts z.world)) (prev_in z.world.layout z.world.words) → ((n : ℕ) → prev_in z.world.layout z.world.words n < z.world.layout.nodes) → IsFooted z
 free_footed z free lawful fit none follow order below = (
@@ -197,21 +198,21 @@ module _ (l : Layout) (layout : IsLayout l) where
   first_here = let least = layout.nodes in omega arith
 
   -- only node 0's status is stored
-  stays_zero : (p : Location) → HasLocation l p → p ≢ Volatile 0 0 → at l (marked_row l) p ≡ 0 → at l (fresh_row l) p ≡ 0
-  stays_zero p has other zero = at-set_other l (marked_row l) (Volatile 0 0) p live_status (first_here, omega arith) has other ∙ zero
+  stays_zero : (p : Location) → HasLocation l p → p ≢ Volatile 0 status_offset → at l (marked_row l) p ≡ 0 → at l (fresh_row l) p ≡ 0
+  stays_zero p has other zero = at-set_other l (marked_row l) (Volatile 0 status_offset) p live_status (first_here, omega arith) has other ∙ zero
 
   -- so the lines are EMPTY, both twins,
-  empty_line : (c j : ℕ) → line_in l (fresh_row l) c j 0 ≡ 0
+  empty_line : (c j : ℕ) → line_in l (fresh_row l) c j state_offset ≡ empty_state
   unfolding line_in
-  empty_line c j = guarded_twice _ _ (at l (fresh_row l) (Cached (Line c j 0))) (λ here low.
-      let has : HasWord l (Line c j 0) = (ltb-true c l.callers here, ltb-true j 8 low, omega arith) in
-      stays_zero (Cached (Line c j 0)) has (λ e. cc) ((marked-at l (Line c j 0) layout has).0 ∙ fresh_at l (Line c j 0) has))
+  empty_line c j = guarded_twice _ _ (at l (fresh_row l) (Cached (Line c j state_offset))) (λ here low.
+      let has : HasWord l (Line c j state_offset) = (ltb-true c l.callers here, ltb-true j 8 low, omega arith) in
+      stays_zero (Cached (Line c j state_offset)) has (λ e. cc) ((marked-at l (Line c j state_offset) layout has).0 ∙ fresh_at l (Line c j state_offset) has))
 
   empty_safe : (c j : ℕ) → safe_line l (fresh_row l) c j 0 ≡ 0
   unfolding safe_line
-  empty_safe c j = guarded_twice _ _ (at l (fresh_row l) (Durable (Line c j 0))) (λ here low.
-      let has : HasWord l (Line c j 0) = (ltb-true c l.callers here, ltb-true j 8 low, omega arith) in
-      stays_zero (Durable (Line c j 0)) has (λ e. cc) ((marked-at l (Line c j 0) layout has).1 ∙ fresh_at l (Line c j 0) has))
+  empty_safe c j = guarded_twice _ _ (at l (fresh_row l) (Durable (Line c j state_offset))) (λ here low.
+      let has : HasWord l (Line c j state_offset) = (ltb-true c l.callers here, ltb-true j 8 low, omega arith) in
+      stays_zero (Durable (Line c j state_offset)) has (λ e. cc) ((marked-at l (Line c j state_offset) layout has).1 ∙ fresh_at l (Line c j state_offset) has))
 
   -- the prevs 0,
   zero_prev : (n : ℕ) → prev_in l (fresh_row l) n ≡ 0
@@ -221,7 +222,7 @@ module _ (l : Layout) (layout : IsLayout l) where
       stays_zero (Volatile n prev_offset) has (λ e. let no : 1 ≡ 0 = ap offset_at e in omega arith) (marked-at_volatile l (Volatile n prev_offset) has (omega arith) (λ e. cc)))
 
   -- the other nodes FREE,
-  zero_status : (n : ℕ) → n ≢ 0 → status_in l (fresh_row l) n ≡ 0
+  zero_status : (n : ℕ) → n ≢ 0 → status_in l (fresh_row l) n ≡ free_status
   unfolding status_in
   zero_status n other = guarded _ (at l (fresh_row l) (Volatile n status_offset)) (λ here.
       let has : HasLocation l (Volatile n status_offset) = (ltb-true n l.nodes here, omega arith) in
@@ -230,8 +231,8 @@ module _ (l : Layout) (layout : IsLayout l) where
   -- and no node leads to another
   zero_next : (n : ℕ) → n < l.nodes → spot_in l (fresh_row l) n next_offset ≡ 0
   zero_next n here =
-      let has : HasWordAt l n 2 = (here, omega arith) in
-      spot_in-here l (fresh_row l) n 2 has (omega arith)
+      let has : HasWordAt l n next_offset = (here, omega arith) in
+      spot_in-here l (fresh_row l) n next_offset has (omega arith)
       ∙ stays_zero (Cached (Node n next_offset)) has (λ e. cc) ((marked-at l (Node n next_offset) layout has).0 ∙ fresh_at l (Node n next_offset) has)
 
 pub fresh_footed : FreshIsFooted
@@ -254,9 +255,9 @@ fresh_footed l parties lines debts layout free since =
     none_gone : (n : ℕ) → IsGone (facts (fresh_world l parties)) n → ⊥
     none_gone n gone = ⊎_elim
         (λ (first : n ≡ 0).
-        let lit : status_in l (fresh_row l) n ≡ 1 = (rest_law (fresh_world l parties) (fresh_law l parties layout free.idle since)).live.live n (inl first) in
-        let is : status_in l (fresh_row l) n ≡ 2 = gone in absurd (omega arith))
-        (λ (other : n ≢ 0). let zero = zero_status l layout n other in let is : status_in l (fresh_row l) n ≡ 2 = gone in absurd (omega arith))
+        let lit : status_in l (fresh_row l) n ≡ live_status = (rest_law (fresh_world l parties) (fresh_law l parties layout free.idle since)).live.live n (inl first) in
+        let is : status_in l (fresh_row l) n ≡ gone_status = gone in absurd (omega arith))
+        (λ (other : n ≢ 0). let zero = zero_status l layout n other in let is : status_in l (fresh_row l) n ≡ gone_status = gone in absurd (omega arith))
         (cases_eq n 0)
 
 -- an index with no call in flight, with other idle parties

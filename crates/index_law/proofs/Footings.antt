@@ -12,6 +12,7 @@ use Rattle.pm_words.specs.Locations.{Location, Line, Volatile, Cached, Durable, 
 use Rattle.pm_words.proofs.Apart.{at-set_other}
 use Rattle.pm_words.specs.Rows.{acted}
 use Rattle.pm_words.proofs.Kept.{action_address-drain}
+use Rattle.data_node.specs.Lines.{state_offset}
 use Rattle.call_stages.specs.Stages.{Stage, counted}
 use Rattle.call_stages.specs.Kinds.{Step}
 use Rattle.call_stages.specs.Lines.{HeldLine, line_address, Notes, passes_line, takes, looks_up, notes, keeps_safe}
@@ -46,7 +47,7 @@ foot_any l g c f t a x r (foot.on_permutation none on) = beside none (on_permuta
 other_stays : (l : Layout) (words : List ℕ) (line : Option HeldLine) (a : Action) (x : ℕ) (after : Option HeldLine) → IfSome line (λ e. (e.caller < l.callers) × (e.number < 8))
     → Notes l line a x after → (c j offset : ℕ) → IfSome line (λ e. (c ≢ e.caller) ⊎ (j ≢ e.number)) → line_in l (acted l words a) c j offset ≡ line_in l words c j offset
 other_stays l words line a x after here (passes_line {c = d} {j = k} {offset = o} caller low small) c j offset other = ap (λ v. line_in l v c j offset) (set-get_or words (line_address l d k o) 0)
-other_stays l words line a x after here (takes {c = d} {j = k} caller low empty_state) c j offset other = ap (λ v. line_in l v c j offset) (set-get_or words (line_address l d k 0) 0)
+other_stays l words line a x after here (takes {c = d} {j = k} caller low empty_state) c j offset other = ap (λ v. line_in l v c j offset) (set-get_or words (line_address l d k state_offset) 0)
 other_stays l words line a x after here (looks_up {offset = o} {e = e} small learnt blind) c j offset other = ap (λ v. line_in l v c j offset) (set-get_or words (line_address l e.caller e.number o) 0)
 other_stays l words line a x after here (notes {y = y} {offset = o} {e = e} small fits marks soils told keeps) c j offset other =
     line-alike l words (slice_set words (line_address l e.caller e.number o) y) c j offset (λ there.
@@ -79,7 +80,7 @@ cases_both c j e = ⊎_elim
     (cases_eq c e.caller)
 
 -- a line that is let go needs no party
-let_go : (l : Layout) (words : List ℕ) (next : Stage) (e : HeldLine) → SureLine l words e → IsKnownEmpty e ⊎ IsLeftToTurn next e → NeedsNoParty (line_in l words e.caller e.number 0)
+let_go : (l : Layout) (words : List ℕ) (next : Stage) (e : HeldLine) → SureLine l words e → IsKnownEmpty e ⊎ IsLeftToTurn next e → NeedsNoParty (line_in l words e.caller e.number state_offset)
 let_go l words next e sure (inl empty) = inl (empty (line_in l words e.caller e.number) sure.seen)
 let_go l words next e sure (inr left) = (sure.waits left.ready).state
 
@@ -101,22 +102,22 @@ module _ (z : Whole) (i : ℕ) (p : Party) (whole : IsWhole z) (tended : AreTend
 
   -- a step that leaves all lines
   tended_same : (next : Stage) (line after : Option HeldLine) (w : World) (debts : List Debt) → w.layout ≡ l → get_elem? z.lines i ≡ some line → KeepsOrLetsGo next line after
-      → ((c j : ℕ) → line_in l w.words c j 0 ≡ line_in l z.world.words c j 0)
+      → ((c j : ℕ) → line_in l w.words c j state_offset ≡ line_in l z.world.words c j state_offset)
       → AreTended (record { world = w; lines = slice_set z.lines i after; debts = debts })
   tended_same next line after w debts same at kept stays c j here low =
       ⊎_elim (λ none. inl (stands none)) (of kept) (tended c j (subst (λ (k : Layout). c < k.callers) same here) low)
     where
-      stands : NeedsNoParty (line_in l z.world.words c j 0) → NeedsNoParty (line_in w.layout w.words c j 0)
-      stands = subst NeedsNoParty (sym (ap (λ (k : Layout). line_in k w.words c j 0) same ∙ stays c j))
+      stands : NeedsNoParty (line_in l z.world.words c j state_offset) → NeedsNoParty (line_in w.layout w.words c j state_offset)
+      stands = subst NeedsNoParty (sym (ap (λ (k : Layout). line_in k w.words c j state_offset) same ∙ stays c j))
 
-      of : KeepsOrLetsGo next line after → IsInHand z c j → NeedsNoParty (line_in w.layout w.words c j 0) ⊎ IsInHand (record { world = w; lines = slice_set z.lines i after; debts = debts }) c j
+      of : KeepsOrLetsGo next line after → IsInHand z c j → NeedsNoParty (line_in w.layout w.words c j state_offset) ⊎ IsInHand (record { world = w; lines = slice_set z.lines i after; debts = debts }) c j
       of (inl keeps) hand = inr (still line after w debts at c j (λ e is caller number. (e, keeps ∙ is, caller, number)) hand)
       of (inr lets) hand = ⊎_elim
           (λ (own : hand.number ≡ i).
           let is : line ≡ Some hand.line = some-injective _ _ (sym at ∙ ap (get_elem? z.lines) (sym own) ∙ hand.there) in
           let left = subst (λ (o : Option HeldLine). IfSome o (λ e. IsKnownEmpty e ⊎ IsLeftToTurn next e)) is lets.1 in
           let none = let_go l z.world.words next hand.line (whole.joint.sure hand.number hand.line hand.there) left in
-          inl (stands (subst (λ (n : ℕ × ℕ). NeedsNoParty (line_in l z.world.words n.0 n.1 0)) (λ k. (hand.caller k, hand.index k)) none)))
+          inl (stands (subst (λ (n : ℕ × ℕ). NeedsNoParty (line_in l z.world.words n.0 n.1 state_offset)) (λ k. (hand.caller k, hand.index k)) none)))
           (λ (other : hand.number ≢ i). inr (record { number = hand.number; line = hand.line; there = set_else z.lines i hand.number after other ∙ hand.there; caller = hand.caller; index = hand.index }))
           (cases_eq hand.number i)
 

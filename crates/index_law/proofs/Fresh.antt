@@ -4,7 +4,7 @@ use Rattle.std.specs.Prelude.{if◌then◌else◌, Some, None}
 use Rattle.std.specs.FinMap.{empty, get-empty}
 use Rattle.cat_key.specs.Names.{name_cmp}
 use Rattle.std.proofs.lemmas.Bool.{cases_eq, eq-eqb, ne_eqb}
-use Rattle.pm_words.specs.Codes.{gone_status, live_status}
+use Rattle.pm_words.specs.Codes.{gone_status, live_status, free_status}
 use Rattle.pm_words.specs.declared.layout.Layout.{Layout}
 use Rattle.pm_words.specs.Layouts.{IsLayout}
 use Rattle.pm_words.specs.Images.{fresh_word}
@@ -17,7 +17,7 @@ use Rattle.pm_words.proofs.Made.{fresh_at}
 use Rattle.version_lock.specs.Versions.{generation_of, IsFree}
 use Rattle.data_node.proofs.SpotLemmas.{means_empty}
 use Rattle.call_stages.specs.Kinds.{HasWordAt, word_address, status_address}
-use Rattle.data_node.specs.Spots.{Finds}
+use Rattle.data_node.specs.Spots.{Finds, bitmap_offset}
 use Rattle.data_node.specs.Lists.{next_offset, anchor_in}
 use Rattle.index_law.specs.Facts.{Facts, facts_of, version_in, status_in, spot_in, list_in, durable_spot, range_of, IsListed}
 use Rattle.index_law.specs.Worlds.{Party, facts}
@@ -25,6 +25,7 @@ use Rattle.index_law.specs.Lawful.{IsList, AreLive, IsSettled, AreKnown}
 use Rattle.index_law.specs.Twins.{IsBlank, IsFront}
 use Rattle.data_node.proofs.ListLemmas.{chain_is}
 use Rattle.pm_words.specs.Offsets.{status_offset, version_offset}
+use Rattle.image_rules.specs.Rules.{generation_offset}
 use Rattle.index_law.proofs.Actions.{status_outside}
 use Rattle.index_law.proofs.Twins.{IsNearer, nearer, store_closer, closer_spot, closer_versions, closer_front, cached_front}
 use Rattle.index_law.specs.Laws.{marked_row, fresh_row, FreshIsAtRest, fresh_world}
@@ -36,7 +37,7 @@ fresh_zero : (l : Layout) (n offset : ℕ) → IsLayout l → HasWordAt l n offs
 fresh_zero l n offset layout has = (marked-at l (Node n offset) layout has).0 ∙ fresh_at l (Node n offset) has
 
 fresh_version : (l : Layout) (n : ℕ) → IsLayout l → n < l.nodes → version_in l (marked_row l) n ≡ 0
-fresh_version l n layout here = version_in-here l (marked_row l) n here ∙ fresh_zero l n 0 layout (here, omega arith)
+fresh_version l n layout here = version_in-here l (marked_row l) n here ∙ fresh_zero l n version_offset layout (here, omega arith)
 
 -- both twins of each word are the image's
 fresh_cached : (l : Layout) (w : Word) → IsLayout l → HasWord l w → at l (marked_row l) (Cached w) ≡ fresh_word l w
@@ -75,7 +76,7 @@ blank_zero l (Leaf k o) is = absurd is
 blank_zero l (Cell kind k o) is = absurd is
 
 -- each status is 0
-fresh_status : (l : Layout) (n : ℕ) → IsLayout l → n < l.nodes → status_in l (marked_row l) n ≡ 0
+fresh_status : (l : Layout) (n : ℕ) → IsLayout l → n < l.nodes → status_in l (marked_row l) n ≡ free_status
 fresh_status l n layout here = status_in-here l (marked_row l) n here ∙ marked-at_volatile l (Volatile n status_offset) (here, omega arith) (omega arith) (λ e. cc)
 
 module _ (l : Layout) (parties : List Party) (layout : IsLayout l) where
@@ -91,8 +92,8 @@ module _ (l : Layout) (parties : List Party) (layout : IsLayout l) where
 
   next_zero : spot_in l row 0 next_offset ≡ 0
   next_zero =
-      let has : HasWordAt l 0 2 = (some, omega arith) in
-      spot_in-here l row 0 2 has (omega arith) ∙ fresh_zero l 0 2 layout has
+      let has : HasWordAt l 0 next_offset = (some, omega arith) in
+      spot_in-here l row 0 next_offset has (omega arith) ∙ fresh_zero l 0 next_offset layout has
 
   anchor_zero : anchor_in (spot_in l row 0) ≡ 0
   unfolding anchor_in
@@ -117,13 +118,13 @@ module _ (l : Layout) (parties : List Party) (layout : IsLayout l) where
     history = [];
   })
 
-  bitmap_zero : spot_in l row 0 1 ≡ 0
+  bitmap_zero : spot_in l row 0 bitmap_offset ≡ 0
   bitmap_zero =
-      let has : HasWordAt l 0 1 = (some, omega arith) in
-      spot_in-here l row 0 1 has (omega arith) ∙ fresh_zero l 0 1 layout has
+      let has : HasWordAt l 0 bitmap_offset = (some, omega arith) in
+      spot_in-here l row 0 bitmap_offset has (omega arith) ∙ fresh_zero l 0 bitmap_offset layout has
 
   closer : IsNearer l row (fresh_world l parties).words
-  closer = nearer l row (fresh_world l parties).words (store_closer l row (Volatile 0 0) live_status (some, omega arith) (λ w alike. cc))
+  closer = nearer l row (fresh_world l parties).words (store_closer l row (Volatile 0 status_offset) live_status (some, omega arith) (λ w alike. cc))
 
   settled_lit : (n : ℕ) → IsListed lit n → IsSettled l lit n
   settled_lit n (inl e) = subst (IsSettled l lit) (sym e) (record {
@@ -146,8 +147,8 @@ module _ (l : Layout) (parties : List Party) (layout : IsLayout l) where
         (λ (other : n ≢ 0).
         subst (λ u. u ≤ gone_status) (sym (ap (λ (b : Bool). cond b live_status (status_in l row n)) (ne_eqb n 0 other) ∙ fresh_status l n layout here)) (omega arith))
         (cases_eq n 0);
-    leads = λ n here is. let has : HasWordAt l n 2 = (here, omega arith) in
-        let zero : spot_in l row n next_offset ≡ 0 = spot_in-here l row n 2 has (omega arith) ∙ fresh_zero l n 2 layout has in omega arith;
+    leads = λ n here is. let has : HasWordAt l n next_offset = (here, omega arith) in
+        let zero : spot_in l row n next_offset ≡ 0 = spot_in-here l row n next_offset has (omega arith) ∙ fresh_zero l n next_offset layout has in omega arith;
   }
 
   list_lit : IsList l lit
@@ -160,11 +161,11 @@ fresh_law l parties layout idle begun =
     let here : 0 < l.nodes = some l parties layout in
     let is = same_lit l parties layout in
     let whole = marked_row-row l layout in
-    let can : CanAct l row (Store (status_address l 0) live_status) = ((addresses_within l (Volatile 0 0) (here, omega arith), status_outside l 0 here), omega arith) in
+    let can : CanAct l row (Store (status_address l 0) live_status) = ((addresses_within l (Volatile 0 status_offset) (here, omega arith), status_outside l 0 here), omega arith) in
     let near = closer l parties layout in
     let known : AreKnown l 1 (facts_of l row empty []) = λ n below. subst (λ (v : ℕ). generation_of v ≤ 1) (sym (fresh_version l n layout below)) (omega arith) in
     let front : IsFront l 1 row Cached = record {
-      generation = fresh_cached l (Header 5) layout (omega arith);
+      generation = fresh_cached l (Header generation_offset) layout (omega arith);
       blank = λ v blank. let zero = blank_zero l v blank in fresh_cached l v layout zero.0 ∙ zero.1;
     } in
     record {
@@ -173,7 +174,7 @@ fresh_law l parties layout idle begun =
       live = subst (AreLive l 1) (sym is) (live_lit l parties layout);
       run = record { least = omega arith; fits = omega arith };
       row = acted_row l row (Store (status_address l 0) live_status) whole can;
-      clock = at-set_other l row (Volatile 0 0) Clock live_status (here, omega arith) tt (λ e. cc) ∙ marked-at_volatile l Clock tt (omega arith) (λ e. cc);
+      clock = at-set_other l row (Volatile 0 status_offset) Clock live_status (here, omega arith) tt (λ e. cc) ∙ marked-at_volatile l Clock tt (omega arith) (λ e. cc);
       versions = subst (AreKnown l 1) (sym is) known;
       free = λ n below. subst (λ (f : Facts). IsFree (f.version n) 1) (sym is) (subst (λ (v : ℕ). IsFree v 1) (sym (fresh_version l n layout below)) (inl (omega arith)));
       settled = subst (λ (f : Facts). (n : ℕ) → IsListed f n → IsSettled l f n) (sym is) (settled_lit l parties layout);
@@ -184,9 +185,9 @@ fresh_law l parties layout idle begun =
           ∙ sym (ap (λ (f : Facts). f.now n offset) is);
       durable_versions = closer_versions l row w.words empty [] near 1 known
           (λ n below. subst (λ (v : ℕ). generation_of v ≤ 1) (sym (fresh_durable l (Node n version_offset) layout (below, omega arith))) (omega arith));
-      front = cached_front l 1 row w.words (λ v has other. at-set_other l row (Volatile 0 0) (Cached v) live_status (here, omega arith) has (λ e. cc)) front;
+      front = cached_front l 1 row w.words (λ v has other. at-set_other l row (Volatile 0 status_offset) (Cached v) live_status (here, omega arith) has (λ e. cc)) front;
       durable_front = closer_front l 1 row w.words near front (record {
-        generation = fresh_durable l (Header 5) layout (omega arith);
+        generation = fresh_durable l (Header generation_offset) layout (omega arith);
         blank = λ v blank. let zero = blank_zero l v blank in fresh_durable l v layout zero.0 ∙ zero.1;
       });
       idle = idle;

@@ -14,7 +14,7 @@ use Rattle.pm_words.specs.Offsets.{version_offset}
 use Rattle.image_rules.specs.Nodes.{image_spot}
 use Rattle.image_rules.specs.Sound.{image_map}
 use Rattle.image_rules.specs.Laws.{KeepsRules}
-use Rattle.image_rules.specs.Rules.{IsSpare, line_spot}
+use Rattle.image_rules.specs.Rules.{IsSpare, line_spot, generation_offset}
 use Rattle.image_rules.proofs.TidyLemmas.{keeps_sound}
 use Rattle.image_rules.proofs.MapLemmas.{sound_has_map}
 use Rattle.index_law.specs.Twins.{IsBlank}
@@ -83,11 +83,11 @@ rules w lawful fit =
     let l = w.layout in
     let image = durable_row l w.words in
     let durable = durable_law w lawful in
-    let generation : word_at l image (Header 5) ≡ w.generation = durable_row-at l w.words (Header 5) ∙ lawful.durable_front.generation in
+    let generation : word_at l image (Header generation_offset) ≡ w.generation = durable_row-at l w.words (Header generation_offset) ∙ lawful.durable_front.generation in
     record {
       generation = subst IsGeneration (sym generation) lawful.run;
       spare = λ v spare. durable_row-at l w.words v ∙ lawful.durable_front.blank v (spare_blank v spare);
-      versions = λ n here. subst (λ (v : ℕ). generation_of v ≤ word_at l image (Header 5)) (sym (durable_row-at l w.words (Node n version_offset)))
+      versions = λ n here. subst (λ (v : ℕ). generation_of v ≤ word_at l image (Header generation_offset)) (sym (durable_row-at l w.words (Node n version_offset)))
           (let known = lawful.durable_versions n here in omega (arith, generation));
       list = in_image l w.words (λ now. MakeList l.nodes now (members_from now l.nodes 0)) durable.list;
       tidy = in_image l w.words (λ now. (n : ℕ) → IsIn (members_from now l.nodes 0) n → IsTidy l.slots (now n)) (λ n listed. (durable.means n listed).means.tidy);

@@ -10,6 +10,7 @@ use Rattle.pm_words.specs.declared.action.Action.TheVariants.{Load}
 use Rattle.pm_words.specs.Locations.{Line, Cached, Durable, HasWord, at}
 use Rattle.pm_words.specs.Rows.{acted}
 use Rattle.data_node.specs.Spots.{Spot}
+use Rattle.data_node.specs.Lines.{state_offset}
 use Rattle.call_stages.specs.Stages.{Tells}
 use Rattle.call_stages.specs.Lines.{HeldLine, line_address, passes_line, takes}
 use Rattle.index_law.specs.Worlds.{Party, facts, moved_on}
@@ -157,20 +158,20 @@ line_step z i p a x None after joint there at (passes_line {c = c} {j = j} {offs
 line_step z i p a x None after joint there at (takes {c = c} {j = j} here low empty_state) own told =
     let l = z.world.layout in
     let words = z.world.words in
-    let address = line_address l c j 0 in
+    let address = line_address l c j state_offset in
     let same : acted l words (Load address) ≡ words = set-get_or words address 0 in
-    let has : HasWord l (Line c j 0) = (here, low, omega arith) in
+    let has : HasWord l (Line c j state_offset) = (here, low, omega arith) in
     subst (λ v. IsJoint (record { world = record (z.world) { words = v }; lines = set z.lines i (Some (record { caller = c; number = j; seen = (0, x) ∷ []; dirty = (0, 8) ∷ []; hand = None; ready = false })) })) (sym same)
     (joined z i p joint there words joint.lawful joint.fit (Some (record { caller = c; number = j; seen = (0, x) ∷ []; dirty = (0, 8) ∷ []; hand = None; ready = false }))
     (record {
       here = (here, low);
-      seen = (line-here l words c j 0 has ∙ sym told, tt);
+      seen = (line-here l words c j state_offset has ∙ sym told, tt);
       clean = λ offset spared given. ⊎_elim
           (λ (below : offset < 8). absurd (spared (inl (omega arith, below))))
           (λ (past : 8 ≤ offset). unlined l words c j offset past)
           (cases_lt offset 8);
       hand = tt;
-      unready = λ is two. let state : line_in l words c j 0 ≡ x = line-here l words c j 0 has ∙ sym told in omega arith;
+      unready = λ is two. let state : line_in l words c j state_offset ≡ x = line-here l words c j state_offset has ∙ sym told in omega arith;
       waits = λ ready. absurd (let no : false ≡ true = ready in cc);
     }) own (λ d k o other. (refl, refl)))
 line_step z i p a x (Some e) after joint there at k own told =

@@ -12,7 +12,10 @@ use Rattle.pm_words.proofs.Apart.{at-set_same, at-set_other, addresses_within}
 use Rattle.pm_words.proofs.Kept.{action_address-drain, acted_row, outside_header, names_cached, keeps_header}
 use Rattle.data_node.specs.Spots.{Spot, updated}
 use Rattle.data_node.proofs.SpotLemmas.{updated-same, updated-other}
+use Rattle.data_node.specs.Lines.{state_offset}
 use Rattle.pm_words.specs.Offsets.{status_offset, version_offset}
+use Rattle.pm_words.specs.Codes.{ready_state}
+use Rattle.image_rules.specs.Rules.{generation_offset}
 use Rattle.call_stages.specs.Stages.{IsAmong, Held, just_held, Tells}
 use Rattle.call_stages.specs.Kinds.{Cleans, word_address, status_address, prev_address, clock_address}
 use Rattle.call_stages.specs.Lines.{HeldLine, line_address, IsEntry, IsFitLine, Marks, fills, opens, readies, TellsDurably, looks_up, notes, keeps_safe}
@@ -149,7 +152,7 @@ beside_law w words lawful row same closer clock cached =
       durable = subst (λ (f : Facts). AreDurable l g f words) (sym same) (closer_durable l w.words words w.base w.history closer g lawful.durable);
       durable_versions = closer_versions l w.words words w.base w.history closer g lawful.versions lawful.durable_versions;
       front = record {
-        generation = cached (Header 5) (omega arith) (λ aside. aside) ∙ lawful.front.generation;
+        generation = cached (Header generation_offset) (omega arith) (λ aside. aside) ∙ lawful.front.generation;
         blank = λ v blank. cached v (blank_word l v blank).0 (aside_blank l v blank) ∙ lawful.front.blank v blank;
       };
       durable_front = closer_front l g w.words words closer lawful.front lawful.durable_front;
@@ -278,7 +281,7 @@ entry_like l s t small same is = record {
 waiting_fit : (l : Layout) (seen : List (ℕ × ℕ)) (now safe mix : Spot) → IsWaiting l seen now safe → WaitsOrIsEmpty (mix 0) → ((offset : ℕ) → offset ≢ 0 → mix offset ≡ now offset) → IsFitLine l mix
 waiting_fit l seen now safe mix waits (inl none) same = inl none
 waiting_fit l seen now safe mix waits (inr ready) same =
-    inr (entry_like l (updated now 0 2) mix (omega arith) (λ offset other. same offset other ∙ sym (updated-other now 0 2 offset other)) waits.entry)
+    inr (entry_like l (updated now state_offset ready_state) mix (omega arith) (λ offset other. same offset other ∙ sym (updated-other now 0 2 offset other)) waits.entry)
 
 -- a store into a line is for one that isn't READY
 pub marks_unready : (e : HeldLine) (offset y : ℕ) (seen : List (ℕ × ℕ)) (ready : Bool) → Marks e offset y seen ready → e.ready ≡ false
@@ -304,7 +307,7 @@ marked_waits l e offset y seen ready (readies unready durable open_state blind) 
     let entry : IsEntry l now = ⊎_elim (λ none. absurd (let opened : now 0 ≡ 1 = open_state now told in omega arith)) (λ entry. entry) fit in
     record {
       state = inr (stored 0 ∙ updated-same now 0 2);
-      entry = entry_like l now (updated now' 0 2) (let at : updated now' 0 2 0 ≡ 2 = updated-same now' 0 2 in omega arith) (λ o other. updated-other now' 0 2 o other ∙ beside o other) entry;
+      entry = entry_like l now (updated now' state_offset ready_state) (let at : updated now' state_offset ready_state 0 ≡ 2 = updated-same now' 0 2 in omega arith) (λ o other. updated-other now' 0 2 o other ∙ beside o other) entry;
       durable = λ o other. stays o ∙ clean o (λ among. subst (λ (dirty : List (ℕ × ℕ)). IsAmong dirty o) durable among) (λ given. absurd (let no : true ≡ false = sym given.ready ∙ unready in cc)) ∙ sym (beside o other);
       blind = blind;
     }

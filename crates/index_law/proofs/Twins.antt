@@ -14,6 +14,7 @@ use Rattle.cat_history.specs.declared.op.Write.{Write}
 use Rattle.data_node.specs.Spots.{Spot}
 use Rattle.data_node.specs.Lists.{next_offset}
 use Rattle.pm_words.specs.Offsets.{version_offset}
+use Rattle.image_rules.specs.Rules.{generation_offset}
 use Rattle.call_stages.specs.Stages.{Held, Grip, Phase, Filling, Linked, Parted, Pace, Gathered, Joined, Gone, Stage, Idle, Saw, Wears, Reads, Holds, Eyes, Splits, Leaves, Meets, Joins}
 use Rattle.call_stages.specs.Kinds.{HasWordAt, word_address}
 use Rattle.index_law.specs.Facts.{Facts, facts_of, spot_in, durable_spot}
@@ -152,7 +153,7 @@ module _ (l : Layout) (words words' : List ℕ) (base : Map) (history : List Wri
 
   pub closer_versions : (g : ℕ) → AreKnown l g f → AreDurablyKnown l g words → AreDurablyKnown l g words'
   closer_versions g known durably n here =
-      let has : HasWordAt l n 0 = (here, omega arith) in
+      let has : HasWordAt l n version_offset = (here, omega arith) in
       ⊎_elim
       (λ (stays : at l words' (Durable (Node n version_offset)) ≡ at l words (Durable (Node n version_offset))). subst (λ (v : ℕ). generation_of v ≤ g) (sym stays) (durably n here))
       (λ (is : at l words' (Durable (Node n version_offset)) ≡ at l words (Cached (Node n version_offset))).
@@ -180,13 +181,13 @@ aside_blank l (Cell kind k o) is line = is
 -- and the words in front of the nodes stay
 pub closer_front : (l : Layout) (g : ℕ) (words words' : List ℕ) → IsNearer l words words' → IsFront l g words Cached → IsFront l g words Durable → IsFront l g words' Durable
 closer_front l g words words' closer cached durable = record {
-  generation = ⊎_elim (λ stays. stays ∙ durable.generation) (λ is. is ∙ cached.generation) (closer (Header 5) (omega arith) (λ line. line));
+  generation = ⊎_elim (λ stays. stays ∙ durable.generation) (λ is. is ∙ cached.generation) (closer (Header generation_offset) (omega arith) (λ line. line));
   blank = λ w blank. ⊎_elim (λ stays. stays ∙ durable.blank w blank) (λ is. is ∙ cached.blank w blank) (closer w (blank_word l w blank).0 (aside_blank l w blank));
 }
 
 pub cached_front : (l : Layout) (g : ℕ) (words words' : List ℕ) → ((w : Word) → HasWord l w → ((n offset : ℕ) → w ≡ Node n offset → ⊥) → at l words' (Cached w) ≡ at l words (Cached w))
     → IsFront l g words Cached → IsFront l g words' Cached
 cached_front l g words words' same front = record {
-  generation = same (Header 5) (omega arith) (λ n offset e. cc) ∙ front.generation;
+  generation = same (Header generation_offset) (omega arith) (λ n offset e. cc) ∙ front.generation;
   blank = λ w blank. same w (blank_word l w blank).0 (blank_word l w blank).1 ∙ front.blank w blank;
 }

@@ -15,6 +15,7 @@ use Rattle.cat_history.specs.Maps.{Map}
 use Rattle.cat_history.specs.declared.op.Write.{Write}
 use Rattle.data_node.specs.Spots.{Spot}
 use Rattle.data_node.specs.Lists.{ListNode, next_offset, IsIn}
+use Rattle.data_node.specs.Lines.{state_offset}
 use Rattle.pm_words.specs.Offsets.{prev_offset}
 use Rattle.call_stages.specs.Stages.{Stage}
 use Rattle.call_stages.specs.Lines.{HeldLine, line_address, Notes, passes_line, takes, looks_up, notes, keeps_safe}
@@ -45,7 +46,7 @@ module _ (l : Layout) (words : List ℕ) (base : Map) (history : List Write) whe
 
   line_leaves : (line : Option HeldLine) (a : Action) (x : ℕ) (after : Option HeldLine) → IfSome line (λ e. (e.caller < l.callers) × (e.number < 8)) → Notes l line a x after → Leaves (acted l words a)
   line_leaves line a x after here (passes_line {c = c} {j = j} {offset = offset} caller low small) = load_leaves (line_address l c j offset)
-  line_leaves line a x after here (takes {c = c} {j = j} caller low empty_state) = load_leaves (line_address l c j 0)
+  line_leaves line a x after here (takes {c = c} {j = j} caller low empty_state) = load_leaves (line_address l c j state_offset)
   line_leaves line a x after here (looks_up {offset = offset} {e = e} small learnt blind) = load_leaves (line_address l e.caller e.number offset)
   line_leaves line a x after here (notes {y = y} {offset = offset} {e = e} small fits marks soils told keeps) =
       let has : HasLocation l (Cached (Line e.caller e.number offset)) = (here.0, here.1, small) in (

@@ -5,6 +5,8 @@ use lib.ListN.{get_elem?}
 use Rattle.pm_words.specs.declared.layout.Layout.{Layout}
 use Rattle.pm_words.specs.declared.action.Action.{Action}
 use Rattle.pm_words.specs.Rows.{got}
+use Rattle.pm_words.specs.Codes.{empty_state, ready_state}
+use Rattle.data_node.specs.Lines.{state_offset}
 use Rattle.call_stages.specs.declared.once.Once.{Once}
 use Rattle.call_stages.specs.declared.once.Placed.{Placed}
 use Rattle.call_stages.specs.Lines.{HeldLine}
@@ -29,12 +31,12 @@ pub record IsInHand (z : Whole) (c j : ℕ) : Type 0 where
 
 -- A log line of this state needs no party: it is EMPTY, or READY and left to a turn.
 abbrev pub NeedsNoParty : ℕ → Type 0
-NeedsNoParty state = (state ≡ 0) ⊎ (state ≡ 2)
+NeedsNoParty state = (state ≡ empty_state) ⊎ (state ≡ ready_state)
 
 -- Each log line needs no party, or is in some party's hand.
 abbrev pub AreTended : Whole → Type 0
 AreTended z = (c j : ℕ) → c < z.world.layout.callers → j < 8 →
-    NeedsNoParty (line_in z.world.layout z.world.words c j 0) ⊎ IsInHand z c j
+    NeedsNoParty (line_in z.world.layout z.world.words c j state_offset) ⊎ IsInHand z c j
 
 -- What its parties have once one of them, which stands at i, made a step.
 abbrev pub stepped_whole : Whole → ℕ → Party → Action → Footing → Whole

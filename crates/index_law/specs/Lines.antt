@@ -6,7 +6,9 @@ use Rattle.pm_words.specs.declared.action.Action.{Action}
 use Rattle.pm_words.specs.Locations.{Line, Cached, Durable, at}
 use Rattle.pm_words.specs.Rows.{IsRow, acted, got, evicted}
 use Rattle.pm_words.specs.Locations.{image_words}
+use Rattle.pm_words.specs.Codes.{ready_state}
 use Rattle.data_node.specs.Spots.{Spot, updated}
+use Rattle.data_node.specs.Lines.{state_offset}
 use Rattle.call_stages.specs.Stages.{Stage, IsAmong, Tells}
 use Rattle.call_stages.specs.Lines.{HeldLine, IsEntry, IsFitLine, IsBlind, Notes}
 use Rattle.index_law.specs.Laws.{Allowed}
@@ -39,7 +41,7 @@ WaitsOrIsEmpty state = (state ≡ 0) ⊎ (state ≡ 2)
 -- What holds of a line that was made READY, by its words and their durable twins.
 pub record IsWaiting (l : Layout) (seen : List (ℕ × ℕ)) (now safe : Spot) : Type 0 where
   pub state : WaitsOrIsEmpty (now 0)
-  pub entry : IsEntry l (updated now 0 2)  -- it says which change it is of,
+  pub entry : IsEntry l (updated now state_offset ready_state)  -- it says which change it is of,
   pub durable : (offset : ℕ) → offset ≢ 0 → safe offset ≡ now offset  -- durably,
   pub blind : IsBlind seen  -- and its party relies on no state
 
@@ -51,7 +53,7 @@ pub record SureLine (l : Layout) (words : List ℕ) (e : HeldLine) : Type 0 wher
       safe_line l words e.caller e.number offset ≡ line_in l words e.caller e.number offset
   pub hand : IfSome e.hand (λ hand. (line_in l words e.caller e.number hand.0 ≡ hand.1) ⊎
       (IsGiven e hand.0 × (hand.1 ≡ 2)))
-  pub unready : e.ready ≡ false → line_in l words e.caller e.number 0 ≢ 2
+  pub unready : e.ready ≡ false → line_in l words e.caller e.number state_offset ≢ ready_state
   pub waits : e.ready ≡ true →
       IsWaiting l e.seen (line_in l words e.caller e.number) (safe_line l words e.caller e.number)
 

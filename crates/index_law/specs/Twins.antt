@@ -5,7 +5,7 @@ use Rattle.pm_words.specs.Locations.{Word, Header, Location, at}
 use Rattle.version_lock.specs.Versions.{generation_of, IsFree}
 use Rattle.data_node.specs.Spots.{Spot, Means, bitmap_offset}
 use Rattle.data_node.specs.Lists.{next_offset}
-use Rattle.image_rules.specs.Rules.{IsSpare}
+use Rattle.image_rules.specs.Rules.{IsSpare, generation_offset}
 use Rattle.call_stages.specs.Stages.{Held, Grip, Phase, Filling, Linked, Parted, Pace, Gathered, Joined, Gone, Stage}
 use Rattle.call_stages.specs.Stages.{Idle, Saw, Wears, Reads, Holds, Eyes, Splits, Leaves, Meets, Joins, IsAmong}
 use Rattle.call_stages.specs.Stages.{pended}
@@ -100,5 +100,5 @@ IsBlank w = IsSpare w
 
 -- One twin of the words in front of the nodes, but for those that the layout tells. It reads these words.
 pub record IsFront (l : Layout) (g : ℕ) (words : List ℕ) (twin : Word → Location) : Type 0 where
-  pub generation : at l words (twin (Header 5)) ≡ g
+  pub generation : at l words (twin (Header generation_offset)) ≡ g
   pub blank : (w : Word) → IsBlank w → at l words (twin w) ≡ 0

@@ -1,6 +1,7 @@
 -- What keeps a layer covered, change by change.
 use Rattle.std.proofs.Common.{◌≡◌, ◌≢◌, ℕ, ◌≤◌, ◌==◌, ◌⊎◌, ◌↔◌, true, false, cond, Option, Some, None, inl, inr, refl, sym, subst, ap, ◌∙◌, arith}
 use Rattle.std.proofs.lemmas.Bool.{cases_eq, eqb-true, eqb-false}
+use Rattle.pm_words.specs.Codes.{empty_state}
 use Rattle.updater_law.specs.Covers.{set_at, Lines, IsOpenFor, IsCover, HasCover, LinesEvict}
 use Rattle.updater_law.specs.Covered.{IsCovered, ListHas, AreApart, IsTarget}
 use Rattle.updater_law.proofs.Columns.{here, other}
@@ -115,7 +116,7 @@ cover_evicts now safe lines key line evicts cover = record {
 }
 
 -- a field of a line that is empty: it covers nothing before or after
-pub cover_noted : (now : Lines) (anchors : ℕ → ℕ) (safe : Lines) (key line j : ℕ) → now.state j ≡ 0 → ((i : ℕ) → i ≢ j → anchors i ≡ now.anchor i) → IsCover now safe key line → IsCover (record now { anchor = anchors }) safe key line
+pub cover_noted : (now : Lines) (anchors : ℕ → ℕ) (safe : Lines) (key line j : ℕ) → now.state j ≡ empty_state → ((i : ℕ) → i ≢ j → anchors i ≡ now.anchor i) → IsCover now safe key line → IsCover (record now { anchor = anchors }) safe key line
 cover_noted now anchors safe key line j empty same cover = record {
   state = cover.state;
   anchor = same line (λ e. cover.state (ap now.state e ∙ empty)) ∙ cover.anchor;

@@ -1,6 +1,7 @@
 -- Evictions, crashes, the stamps of nodes that are made free, and a fresh index.
 use Rattle.std.proofs.Common.{◌≡◌, ◌≢◌, ℕ, ◌==◌, true, false, cond, Option, Some, None, inl, inr, refl, sym, subst, ap, ◌∙◌, arith}
 use Rattle.std.proofs.lemmas.Bool.{cases_eq, eqb-true, eq-eqb}
+use Rattle.pm_words.specs.Codes.{gone_status, free_status}
 use Rattle.updater_law.specs.Covers.{IsOpenFor, HasCover}
 use Rattle.updater_law.specs.Facts.{TurnTerms, TurnFacts, IsListed}
 use Rattle.updater_law.specs.TurnStages.{TurnStage, Resting, Between, Sees, SeesKind, SeesNode, Lands, Changes, Stamps, Clears, Sweeps, Gone, HasStamp, IsUnworn, Frees, Counts}
@@ -107,7 +108,7 @@ freed_are_released c f f' s t n (counts m all taken) is none = absurd (is none)
 freed_are_released c f f' s t n (leaves_lock m all done) is none = absurd (is none)
 freed_are_released c f f' s t n (frees m) is none = elim (cases_eq n m) [
   | inl same ↦ ap Frees (sym same)
-  | inr ne ↦ absurd (is (sym (other f.status m n 0 ne) ∙ none))
+  | inr ne ↦ absurd (is (sym (other f.status m n free_status ne) ∙ none))
 ]
 
 pub stamp_was_released : StampWasReleased
@@ -123,7 +124,7 @@ fresh_leads key node leads = elim (key == 0) as (λ b. (key == 0) ≡ b → cond
 one_not : (a b x : ℕ) → x ≡ a → x ≡ b → a ≢ b → ⊥
 one_not a b x e f ne = ne (sym e ∙ f)
 
-fresh_none_gone : (n : ℕ) → fresh_facts.status n ≡ 2 → ⊥
+fresh_none_gone : (n : ℕ) → fresh_facts.status n ≡ gone_status → ⊥
 fresh_none_gone n = elim (n == 0) as (λ b. cond {A = ℕ} b 1 0 ≡ 2 → ⊥) [ true ↦ λ e. one_not 1 2 1 refl e (omega arith) | false ↦ λ e. one_not 0 2 0 refl e (omega arith) ]
 
 pub fresh_is_lawful : FreshIsLawful

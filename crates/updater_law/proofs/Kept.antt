@@ -1,5 +1,6 @@
 -- What the turn relies on stays while others step.
 use Rattle.std.proofs.Common.{◌≡◌, ◌≢◌, ℕ, ◌≤◌, ◌⊎◌, true, false, Option, inl, inr, sym, subst, ap, ◌∙◌, arith}
+use Rattle.pm_words.specs.Codes.{free_status, gone_status, merge_kind, open_state, ready_state}
 use Rattle.updater_law.specs.Covers.{IsCover}
 use Rattle.updater_law.specs.Covered.{ListHas}
 use Rattle.updater_law.specs.Facts.{TurnTerms, TurnFacts, IsListed}
@@ -8,27 +9,27 @@ use Rattle.updater_law.specs.Lawful.{IsAtHand, IsDecided, IsFreeing, IsReleased,
 
 -- of the lines
 pub record KeptLines (f f' : TurnFacts) : Type 0 where
-  pub state : (j : ℕ) → f.line.state j ≡ 2 → f'.line.state j ≡ 2
-  pub kind : (j : ℕ) → f.line.state j ≡ 2 → f'.line.kind j ≡ f.line.kind j
-  pub node : (j : ℕ) → f.line.state j ≡ 2 → f'.line.node j ≡ f.line.node j
-  pub anchor : (j : ℕ) → f.line.state j ≡ 2 → f'.line.anchor j ≡ f.line.anchor j
+  pub state : (j : ℕ) → f.line.state j ≡ ready_state → f'.line.state j ≡ ready_state
+  pub kind : (j : ℕ) → f.line.state j ≡ ready_state → f'.line.kind j ≡ f.line.kind j
+  pub node : (j : ℕ) → f.line.state j ≡ ready_state → f'.line.node j ≡ f.line.node j
+  pub anchor : (j : ℕ) → f.line.state j ≡ ready_state → f'.line.anchor j ≡ f.line.anchor j
   pub covers : (key line : ℕ) → IsCover f.line f.safe_line key line → IsCover f'.line f'.safe_line key line
   -- a line that is ready now was so, or its node is held if it is of a merge
-  pub readies : (j : ℕ) → f'.line.state j ≡ 2 → f'.line.kind j ≡ 2 → (f.line.state j ≡ 2) ⊎ (f.held (f'.line.node j) ≡ true)
+  pub readies : (j : ℕ) → f'.line.state j ≡ ready_state → f'.line.kind j ≡ merge_kind → (f.line.state j ≡ ready_state) ⊎ (f.held (f'.line.node j) ≡ true)
 
 -- of the nodes
 pub record KeptNodes (f f' : TurnFacts) : Type 0 where
-  pub status : (n : ℕ) → f.status n ≢ 0 → f'.status n ≢ 0
-  pub gone : (n : ℕ) → f.status n ≡ 2 → f'.status n ≡ 2
+  pub status : (n : ℕ) → f.status n ≢ free_status → f'.status n ≢ free_status
+  pub gone : (n : ℕ) → f.status n ≡ gone_status → f'.status n ≡ gone_status
   pub stamp : (n : ℕ) → f'.stamp n ≡ f.stamp n
   pub worn : (n : ℕ) → f.held n ≡ false → f'.worn n ≡ f.worn n
-  pub anchor : (n : ℕ) → f.status n ≢ 0 → f'.anchor n ≡ f.anchor n
-  pub free : (n : ℕ) → f.status n ≡ 2 → f.held n ≡ false → f'.held n ≡ false
+  pub anchor : (n : ℕ) → f.status n ≢ free_status → f'.anchor n ≡ f.anchor n
+  pub free : (n : ℕ) → f.status n ≡ gone_status → f.held n ≡ false → f'.held n ≡ false
 
 -- what the list has at a key stays so, or a line that is open covers the key
 pub record Overtakes (f : TurnFacts) (key : ℕ) : Type 0 where
   pub line : ℕ
-  pub state : f.line.state line ≡ 1
+  pub state : f.line.state line ≡ open_state
   pub covers : IsCover f.line f.safe_line key line
 
 abbrev pub KeptList : TurnFacts → TurnFacts → Type 0
@@ -49,7 +50,7 @@ module _ (c : TurnTerms) (f f' : TurnFacts) (kept : Kept f f') where
     anchor = kept.lines.anchor e.line is.state ∙ is.anchor;
   }
 
-  decided_kept : (e : ReadyLine) (found : Option ℕ) → (e.kind ≡ 2 → f.status e.node ≡ 2) → IsDecided c f e found → IsDecided c f' e found
+  decided_kept : (e : ReadyLine) (found : Option ℕ) → (e.kind ≡ merge_kind → f.status e.node ≡ gone_status) → IsDecided c f e found → IsDecided c f' e found
   decided_kept e found gone is = record {
     at_hand = at_hand_kept e is.at_hand;
     stands = elim is.stands [
@@ -57,7 +58,7 @@ module _ (c : TurnTerms) (f f' : TurnFacts) (kept : Kept f f') where
         | inl still ↦ inl still
         | inr over ↦ inr (record {
           line = over.line;
-          apart = λ same. let ready : f.line.state over.line ≡ 2 = ap f.line.state same ∙ is.at_hand.state in let open_state : f.line.state over.line ≡ 1 = over.state in omega arith;
+          apart = λ same. let ready : f.line.state over.line ≡ ready_state = ap f.line.state same ∙ is.at_hand.state in let is_open : f.line.state over.line ≡ open_state = over.state in omega arith;
           covers = kept.lines.covers e.anchor over.line over.covers;
         })
       ]
@@ -95,11 +96,11 @@ module _ (c : TurnTerms) (f f' : TurnFacts) (kept : Kept f f') where
     release = subst (λ s. s ≤ c.release) (sym (kept.nodes.stamp n)) is.release;
   }
 
-  decided_still : (e : ReadyLine) → (e.kind ≡ 2 → f.status e.node ≡ 2) → IsDecided c f e (f.layer e.anchor) → IsDecided c f' e (f'.layer e.anchor)
+  decided_still : (e : ReadyLine) → (e.kind ≡ merge_kind → f.status e.node ≡ gone_status) → IsDecided c f e (f.layer e.anchor) → IsDecided c f' e (f'.layer e.anchor)
   decided_still e gone is = subst (λ found. IsDecided c f' e found) (sym (layer_kept e.anchor)) (decided_kept e (f.layer e.anchor) gone is)
 
   -- the merged node of the line at hand is gone, and nobody holds a node with a stamp
-  pub sure_kept : (s : TurnStage) → ((e : ReadyLine) → IsAtHand f e → e.kind ≡ 2 → f.status e.node ≡ 2) → ((n : ℕ) → f.stamp n ≢ 0 → f.held n ≡ false) → SureTurn c f s → SureTurn c f' s
+  pub sure_kept : (s : TurnStage) → ((e : ReadyLine) → IsAtHand f e → e.kind ≡ merge_kind → f.status e.node ≡ gone_status) → ((n : ℕ) → f.stamp n ≢ 0 → f.held n ≡ false) → SureTurn c f s → SureTurn c f' s
   sure_kept Resting merged free sure = tt
   sure_kept (Between j) merged free sure = tt
   sure_kept (Sees j) merged free sure = kept.lines.state j sure

@@ -1,6 +1,7 @@
 -- A turn with nothing else in flight.
 use Rattle.std.proofs.Common.{◌≡◌, ◌≢◌, ℕ, suc, ◌<◌, ◌⊎◌, true, false, inl, inr, refl, sym, subst, ap, ◌∙◌, arith}
 use Rattle.std.proofs.lemmas.Bool.{cases_eq, cases_lt}
+use Rattle.pm_words.specs.Codes.{empty_state, free_status, gone_status, ready_state}
 use Rattle.updater_law.specs.Covers.{set_at}
 use Rattle.updater_law.specs.Facts.{TurnTerms, TurnFacts}
 use Rattle.updater_law.specs.TurnStages.{TurnStage, Resting, Between, Sees, SeesKind, SeesNode, Lands, Changes, Stamps, Clears, Sweeps, Gone, HasStamp, IsUnworn, Frees, Counts}
@@ -13,7 +14,7 @@ use Rattle.updater_law.proofs.TurnLaw.{turn_keeps}
 -- What the turn has done at each stage.
 
 abbrev AreEmptyTo : TurnFacts → ℕ → Type 0
-AreEmptyTo f j = (i : ℕ) → i < j → f.line.state i ≡ 0
+AreEmptyTo f j = (i : ℕ) → i < j → f.line.state i ≡ empty_state
 
 abbrev IsDone : TurnTerms → TurnFacts → TurnStage → Type 0
 IsDone c f Resting = Unit {0}
@@ -33,18 +34,18 @@ IsDone c f (Frees n) = AreEmpty f × AreFreedTo c f n
 IsDone c f (Counts n none) = AreEmpty f × AreFreedTo c f c.nodes
 
 -- with a line emptied
-emptied : (f : TurnFacts) (j i : ℕ) → f.line.state i ≡ 0 → set_at f.line.state j 0 i ≡ 0
-emptied f j i empty = elim (cases_eq i j) [ inl e ↦ here f.line.state j i 0 e | inr ne ↦ other f.line.state j i 0 ne ∙ empty ]
+emptied : (f : TurnFacts) (j i : ℕ) → f.line.state i ≡ empty_state → set_at f.line.state j empty_state i ≡ empty_state
+emptied f j i empty = elim (cases_eq i j) [ inl e ↦ here f.line.state j i empty_state e | inr ne ↦ other f.line.state j i empty_state ne ∙ empty ]
 
-emptied_to : (f : TurnFacts) (j : ℕ) → AreEmptyTo f j → (i : ℕ) → i < suc j → set_at f.line.state j 0 i ≡ 0
-emptied_to f j empty i lt = elim (cases_eq i j) [ inl e ↦ here f.line.state j i 0 e | inr ne ↦ other f.line.state j i 0 ne ∙ empty i (omega (arith, ne)) ]
+emptied_to : (f : TurnFacts) (j : ℕ) → AreEmptyTo f j → (i : ℕ) → i < suc j → set_at f.line.state j empty_state i ≡ empty_state
+emptied_to f j empty i lt = elim (cases_eq i j) [ inl e ↦ here f.line.state j i empty_state e | inr ne ↦ other f.line.state j i empty_state ne ∙ empty i (omega (arith, ne)) ]
 
-alone_emptied : (c : TurnTerms) (f : TurnFacts) (j : ℕ) → IsAlone c f → IsAlone c (record f { line = record (f.line) { state = set_at f.line.state j 0 } })
+alone_emptied : (c : TurnTerms) (f : TurnFacts) (j : ℕ) → IsAlone c f → IsAlone c (record f { line = record (f.line) { state = set_at f.line.state j empty_state } })
 alone_emptied c f j is = record {
   free = is.free;
   lines = λ i. elim (cases_eq i j) [
-    | inl e ↦ inl (here f.line.state j i 0 e)
-    | inr ne ↦ elim (is.lines i) [ inl empty ↦ inl (other f.line.state j i 0 ne ∙ empty) | inr ready ↦ inr (other f.line.state j i 0 ne ∙ ready) ]
+    | inl e ↦ inl (here f.line.state j i empty_state e)
+    | inr ne ↦ elim (is.lines i) [ inl empty ↦ inl (other f.line.state j i empty_state ne ∙ empty) | inr ready ↦ inr (other f.line.state j i empty_state ne ∙ ready) ]
   ];
   beyond = λ i past. emptied f j i (is.beyond i past);
 }
@@ -81,14 +82,14 @@ alone_after c (leaves_lock m all done) is = is
 -- a merged node without a stamp has a line that is ready, or is held
 has_stamp : (c : TurnTerms) (f : TurnFacts) (n : ℕ) → TurnLawful c f (Gone n) → IsAlone c f → AreEmpty f → f.stamp n ≢ 0
 has_stamp c f n law alone empty bare = elim (law.owned n law.sure bare) [
-  | inl ready ↦ let none : f.line.state ready.line ≡ 0 = empty ready.line in let two : f.line.state ready.line ≡ 2 = ready.state in omega arith
+  | inl ready ↦ let none : f.line.state ready.line ≡ empty_state = empty ready.line in let two : f.line.state ready.line ≡ ready_state = ready.state in omega arith
   | inr (inl held) ↦ let no_way : false ≡ true = sym (alone.free n) ∙ held in cc
   | inr (inr mine) ↦ mine
 ]
 
-freed_more : (c : TurnTerms) (f : TurnFacts) (n : ℕ) → AreFreedTo c f n → (f.status n ≡ 2 → (f.worn n ≡ true) ⊎ (c.release < f.stamp n)) → AreFreedTo c f (suc n)
+freed_more : (c : TurnTerms) (f : TurnFacts) (n : ℕ) → AreFreedTo c f n → (f.status n ≡ gone_status → (f.worn n ≡ true) ⊎ (c.release < f.stamp n)) → AreFreedTo c f (suc n)
 freed_more c f n freed this m lt = elim (cases_eq m n) [
-  | inl e ↦ subst (λ k. f.status k ≡ 2 → (f.worn k ≡ true) ⊎ (c.release < f.stamp k)) (sym e) this
+  | inl e ↦ subst (λ k. f.status k ≡ gone_status → (f.worn k ≡ true) ⊎ (c.release < f.stamp k)) (sym e) this
   | inr ne ↦ freed m (omega (arith, ne))
 ]
 
@@ -131,8 +132,8 @@ done_after c {f = f} (unstamps n) stays law alone done = (
 done_after c {f = f} (frees n) stays law alone done = (
   done.0,
   λ m lt gone. elim (cases_eq m n) [
-    | inl e ↦ absurd (let none : set_at f.status n 0 m ≡ 0 = here f.status n m 0 e in omega arith)
-    | inr ne ↦ done.1 m (omega (arith, ne)) (sym (other f.status n m 0 ne) ∙ gone)
+    | inl e ↦ absurd (let none : set_at f.status n free_status m ≡ free_status = here f.status n m free_status e in omega arith)
+    | inr ne ↦ done.1 m (omega (arith, ne)) (sym (other f.status n m free_status ne) ∙ gone)
   ],
 )
 done_after c (starts_count n past) stays law alone done = (done.0, λ m lt. done.1 m (omega arith))

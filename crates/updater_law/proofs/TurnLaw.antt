@@ -1,6 +1,7 @@
 -- A step of the turn keeps the law.
 use Rattle.std.proofs.Common.{◌≡◌, ◌≢◌, ℕ, suc, ◌<◌, ◌==◌, ◌⊎◌, true, false, cond, Option, Some, None, inl, inr, refl, sym, subst, ap, ◌∙◌, arith}
 use Rattle.std.proofs.lemmas.Bool.{cases_eq, eqb-true}
+use Rattle.pm_words.specs.Codes.{empty_state, free_status, gone_status, live_status, merge_kind, ready_state}
 use Rattle.layer_map.specs.Layers.{AreSame}
 use Rattle.updater_law.specs.Covers.{set_at, Lines, IsCover, HasCover}
 use Rattle.updater_law.specs.Covered.{IsCovered, IsTarget}
@@ -35,7 +36,7 @@ module _ (c : TurnTerms) (f : TurnFacts) (s : TurnStage) (law : TurnLawful c f s
   }
 
   live_bare : (n : ℕ) → IsListed f n → f.stamp n ≡ 0
-  live_bare n listed = elim (cases_eq (f.stamp n) 0) [ inl none ↦ none | inr some_stamp ↦ absurd (let one : f.status n ≡ 1 = law.live n listed in let two : f.status n ≡ 2 = (law.marked n some_stamp).0 in omega arith) ]
+  live_bare n listed = elim (cases_eq (f.stamp n) 0) [ inl none ↦ none | inr some_stamp ↦ absurd (let one : f.status n ≡ live_status = law.live n listed in let two : f.status n ≡ gone_status = (law.marked n some_stamp).0 in omega arith) ]
 
   -- the line at hand covers its anchor
   at_hand_covers : (e : ReadyLine) → IsAtHand f e → IsCover f.line f.safe_line e.anchor e.line
@@ -46,7 +47,7 @@ module _ (c : TurnTerms) (f : TurnFacts) (s : TurnStage) (law : TurnLawful c f s
     safe_anchor = ready.safe_anchor ∙ is.anchor;
   }
 
-  merge_at_hand : (e : ReadyLine) → IsAtHand f e → e.kind ≡ 2 → IsReadyMerge f s e.line
+  merge_at_hand : (e : ReadyLine) → IsAtHand f e → e.kind ≡ merge_kind → IsReadyMerge f s e.line
   merge_at_hand e is kind = law.merges e.line is.state (is.kind ∙ kind)
 
   -- with the target's version loaded twice, what the list has at the anchor is known
@@ -61,11 +62,11 @@ module _ (c : TurnTerms) (f : TurnFacts) (s : TurnStage) (law : TurnLawful c f s
           subst (λ k. IsFit c f e k) one (record {
             within = within;
             anchor = eqb-true _ _ yes_here;
-            status = λ none. let live : f.status m ≡ 1 = law.live m target.here in omega arith;
+            status = λ none. let live : f.status m ≡ live_status = law.live m target.here in omega arith;
             stamp = live_bare m target.here;
             other = λ kind same_node.
-                let two : f.status (f.line.node e.line) ≡ 2 = (merge_at_hand e is kind).gone in
-                let live : f.status m ≡ 1 = law.live m target.here in
+                let two : f.status (f.line.node e.line) ≡ gone_status = (merge_at_hand e is kind).gone in
+                let live : f.status m ≡ live_status = law.live m target.here in
                 let at_node : f.status m ≡ f.status (f.line.node e.line) = ap f.status (same_node ∙ sym is.node) in omega arith;
           })
       | false ↦ λ no_here got. absurd (let p : None ≡ Some n = got in cc)
@@ -90,7 +91,7 @@ module _ (c : TurnTerms) (f : TurnFacts) (s : TurnStage) (law : TurnLawful c f s
       | inr apart ↦ inl (sym (same k apart) ∙ leads)
     ]
 
-    led_anchor : (k node : ℕ) → layer k ≡ Some node → (f.anchor node ≡ k) × (f.status node ≢ 0) × (f.stamp node ≡ 0)
+    led_anchor : (k node : ℕ) → layer k ≡ Some node → (f.anchor node ≡ k) × (f.status node ≢ free_status) × (f.stamp node ≡ 0)
     led_anchor k node leads = elim (leads_where k node leads) [
       | inl was ↦ let led = law.led k node was in (led.anchor, led.status, led.stamp)
       | inr new ↦ let fit = is.fits node new.1 in (fit.anchor ∙ sym new.0, fit.status, fit.stamp)
@@ -131,7 +132,7 @@ layer_keeps c f e found layer safe t law same here_or durable free sure = record
 -- the stamp of a merged node
 stamps_keep : (c : TurnTerms) (f : TurnFacts) (e : ReadyLine) → TurnLawful c f (Stamps e) → TurnLawful c (record f { stamp = set_at f.stamp e.node c.stamp }) (Clears e.line)
 stamps_keep c f e law =
-    let kind : e.kind ≡ 2 = law.sure.1 in
+    let kind : e.kind ≡ merge_kind = law.sure.1 in
     let is = law.sure.0 in
     let merge = law.merges e.line is.at_hand.state (is.at_hand.kind ∙ kind) in
     let node_anchor : f.anchor e.node ≡ e.anchor = ap f.anchor (sym is.at_hand.node) ∙ merge.anchor ∙ is.at_hand.anchor in
@@ -185,13 +186,13 @@ stamps_keep c f e law =
 
 -- the line is emptied
 empties_keep : (c : TurnTerms) (f : TurnFacts) (s : TurnStage) (e : ReadyLine) (found : Option ℕ) → TurnLawful c f s → IsDecided c f e found → f.layer e.anchor ≡ found → AreSame f.safe_layer f.layer
-    → ((j : ℕ) → j ≢ e.line → IsStamped s j → ⊥) → ((n : ℕ) → IsBeingFreed s n → ⊥) → (e.kind ≡ 2 → f.stamp e.node ≢ 0)
-    → TurnLawful c (record f { line = record (f.line) { state = set_at f.line.state e.line 0 } }) (Between (suc e.line))
+    → ((j : ℕ) → j ≢ e.line → IsStamped s j → ⊥) → ((n : ℕ) → IsBeingFreed s n → ⊥) → (e.kind ≡ merge_kind → f.stamp e.node ≢ 0)
+    → TurnLawful c (record f { line = record (f.line) { state = set_at f.line.state e.line empty_state } }) (Between (suc e.line))
 empties_keep c f s e found law is has durable not_stamped not_freed stamped =
     let key : ℕ = e.anchor in
-    let line : Lines = record (f.line) { state = set_at f.line.state e.line 0 } in
-    let apart : (j : ℕ) → set_at f.line.state e.line 0 j ≡ 2 → j ≢ e.line = λ j ready same. let none : set_at f.line.state e.line 0 j ≡ 0 = here f.line.state e.line j 0 same in omega arith in
-    let was : (j : ℕ) → set_at f.line.state e.line 0 j ≡ 2 → f.line.state j ≡ 2 = λ j ready. sym (other f.line.state e.line j 0 (apart j ready)) ∙ ready in
+    let line : Lines = record (f.line) { state = set_at f.line.state e.line empty_state } in
+    let apart : (j : ℕ) → set_at f.line.state e.line empty_state j ≡ ready_state → j ≢ e.line = λ j ready same. let none : set_at f.line.state e.line empty_state j ≡ empty_state = here f.line.state e.line j empty_state same in omega arith in
+    let was : (j : ℕ) → set_at f.line.state e.line empty_state j ≡ ready_state → f.line.state j ≡ ready_state = λ j ready. sym (other f.line.state e.line j empty_state (apart j ready)) ∙ ready in
     record {
       stamped_by = law.stamped_by;
       durable = durable;
@@ -199,11 +200,11 @@ empties_keep c f s e found law is has durable not_stamped not_freed stamped =
       covered = covered_empties (IsListed f) f.anchor f.layer (HasCover f.line f.safe_line) (HasCover line f.safe_line) key found law.apart has
           (elim is.stands [
             | inl stands ↦ inl stands
-            | inr over ↦ inr (record { line = over.line; covers = cover_apart f.line f.safe_line key over.line e.line 0 over.apart over.covers })
+            | inr over ↦ inr (record { line = over.line; covers = cover_apart f.line f.safe_line key over.line e.line empty_state over.apart over.covers })
           ])
           (λ k ne cover. record {
             line = cover.line;
-            covers = cover_apart f.line f.safe_line k cover.line e.line 0 (λ same. ne (sym cover.covers.anchor ∙ ap f.line.anchor same ∙ is.at_hand.anchor)) cover.covers;
+            covers = cover_apart f.line f.safe_line k cover.line e.line empty_state (λ same. ne (sym cover.covers.anchor ∙ ap f.line.anchor same ∙ is.at_hand.anchor)) cover.covers;
           })
           law.covered;
       apart = law.apart;
@@ -212,10 +213,10 @@ empties_keep c f s e found law is has durable not_stamped not_freed stamped =
       owned = λ n gone bare. elim (law.owned n gone bare) [
         | inl ready ↦ elim (cases_eq ready.line e.line) [
           | inl mine ↦ absurd (
-              let kind : e.kind ≡ 2 = sym is.at_hand.kind ∙ ap f.line.kind (sym mine) ∙ ready.kind in
+              let kind : e.kind ≡ merge_kind = sym is.at_hand.kind ∙ ap f.line.kind (sym mine) ∙ ready.kind in
               let node : e.node ≡ n = sym is.at_hand.node ∙ ap f.line.node (sym mine) ∙ ready.node in
               stamped kind (ap f.stamp node ∙ bare))
-          | inr ne ↦ inl (record { line = ready.line; state = other f.line.state e.line ready.line 0 ne ∙ ready.state; kind = ready.kind; node = ready.node })
+          | inr ne ↦ inl (record { line = ready.line; state = other f.line.state e.line ready.line empty_state ne ∙ ready.state; kind = ready.kind; node = ready.node })
         ]
         | inr (inl held) ↦ inr (inl held)
         | inr (inr mine) ↦ absurd (not_freed n mine)
@@ -271,33 +272,33 @@ unstamps_keep c f n law =
     }
 
 -- and the node is free
-frees_keep : (c : TurnTerms) (f : TurnFacts) (n : ℕ) → TurnLawful c f (Frees n) → TurnLawful c (record f { status = set_at f.status n 0 }) (Sweeps (suc n))
+frees_keep : (c : TurnTerms) (f : TurnFacts) (n : ℕ) → TurnLawful c f (Frees n) → TurnLawful c (record f { status = set_at f.status n free_status }) (Sweeps (suc n))
 frees_keep c f n law =
     let is = law.sure in
     record {
       stamped_by = law.stamped_by;
       durable = law.durable;
       led = λ k node leads. let led = law.led k node leads in
-          record { anchor = led.anchor; status = λ none. led.status (sym (other f.status n node 0 led.not_freed) ∙ none); stamp = led.stamp; not_freed = tt };
+          record { anchor = led.anchor; status = λ none. led.status (sym (other f.status n node free_status led.not_freed) ∙ none); stamp = led.stamp; not_freed = tt };
       covered = law.covered;
       apart = law.apart;
       live = λ m listed.
-          let live : f.status m ≡ 1 = law.live m listed in
-          let ne : m ≢ n = λ same. let two : f.status m ≡ 2 = ap f.status same ∙ is.gone in omega arith in
-          other f.status n m 0 ne ∙ live;
+          let live : f.status m ≡ live_status = law.live m listed in
+          let ne : m ≢ n = λ same. let two : f.status m ≡ gone_status = ap f.status same ∙ is.gone in omega arith in
+          other f.status n m free_status ne ∙ live;
       marked = λ m some_stamp.
           let old = law.marked m some_stamp in
-          (other f.status n m 0 (λ same. some_stamp (ap f.stamp same ∙ is.bare)) ∙ old.0, old.1);
+          (other f.status n m free_status (λ same. some_stamp (ap f.stamp same ∙ is.bare)) ∙ old.0, old.1);
       owned = λ m gone none.
-          let ne : m ≢ n = λ same. let zero_status : set_at f.status n 0 m ≡ 0 = here f.status n m 0 same in omega arith in
-          elim (law.owned m (sym (other f.status n m 0 ne) ∙ gone) none) [
+          let ne : m ≢ n = λ same. let zero_status : set_at f.status n free_status m ≡ free_status = here f.status n m free_status same in omega arith in
+          elim (law.owned m (sym (other f.status n m free_status ne) ∙ gone) none) [
             | inl ready ↦ inl (record { line = ready.line; state = ready.state; kind = ready.kind; node = ready.node })
             | inr (inl held) ↦ inr (inl held)
             | inr (inr mine) ↦ absurd (ne mine)
           ];
       ready = λ j ready. let r = law.ready j ready in record { safe_state = r.safe_state; safe_anchor = r.safe_anchor; busy = r.busy };
       merges = λ j ready kind. let m = law.merges j ready kind in record {
-        gone = other f.status n (f.line.node j) 0 (is.alone j ready kind) ∙ m.gone;
+        gone = other f.status n (f.line.node j) free_status (is.alone j ready kind) ∙ m.gone;
         anchor = m.anchor;
         stamp = elim m.stamp [ inl none ↦ inl none | inr mine ↦ absurd mine ];
         alone = m.alone;
@@ -350,5 +351,5 @@ turn_keeps c f f' s t law (frees n) = frees_keep c f n law
 turn_keeps c f f' s t law (starts_count n done) = restage c f (Sweeps n) law (Counts 0 true) law.durable (λ all m lt. absurd (omega arith)) (λ n. tt) (λ j mine. mine) (λ n mine. mine)
 turn_keeps c f f' s t law (counts_free n none free) = restage c f (Counts n none) law (Counts (suc n) false) law.durable (λ all m lt. absurd (let no_way : false ≡ true = all in cc)) (λ n. tt) (λ j mine. mine) (λ n mine. mine)
 turn_keeps c f f' s t law (counts n none taken) = restage c f (Counts n none) law (Counts (suc n) none) law.durable
-    (λ all m lt. elim (cases_eq m n) [ inl same ↦ subst (λ k. f.status k ≢ 0) (sym same) taken | inr ne ↦ law.sure all m (omega (arith, ne)) ]) (λ n. tt) (λ j mine. mine) (λ n mine. mine)
+    (λ all m lt. elim (cases_eq m n) [ inl same ↦ subst (λ k. f.status k ≢ free_status) (sym same) taken | inr ne ↦ law.sure all m (omega (arith, ne)) ]) (λ n. tt) (λ j mine. mine) (λ n mine. mine)
 turn_keeps c f f' s t law (leaves_lock n none done) = restage c f (Counts n none) law Resting law.durable tt (λ n. tt) (λ j mine. mine) (λ n mine. mine)

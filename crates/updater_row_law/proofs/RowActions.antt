@@ -8,6 +8,7 @@ use Rattle.pm_words.specs.Rows.{IsRow, CanAct, IsOutsideHeader}
 use Rattle.pm_words.proofs.Apart.{addresses_within}
 use Rattle.pm_words.proofs.Kept.{outside_header}
 use Rattle.pm_words.specs.Offsets.{stamp_offset, status_offset, version_offset}
+use Rattle.call_stages.specs.data_node.specs.Lines.{state_offset}
 use Rattle.search_layer.proofs.StepLaw.{step_can_act}
 use Rattle.updater_row_law.specs.Columns.{RowTerms, Ghosts, line_count, line_word}
 use Rattle.updater_row_law.specs.RowStages.{aim_of, RowStage}
@@ -28,8 +29,8 @@ module _ (l : Layout) (words : List ℕ) where
 
   stores_state : (j : ℕ) → j < line_count l → CanAct l words (Store (line_at l j 0) 0)
   stores_state j here =
-      let has : HasLocation l (Cached (line_word 0 j)) = (omega arith, omega arith, omega arith) in
-      ((addresses_within l (Cached (line_word 0 j)) has, outside_header l (Cached (line_word 0 j)) has (λ k lt. (λ e. cc, λ e. cc))), omega arith)
+      let has : HasLocation l (Cached (line_word state_offset j)) = (omega arith, omega arith, omega arith) in
+      ((addresses_within l (Cached (line_word state_offset j)) has, outside_header l (Cached (line_word state_offset j)) has (λ k lt. (λ e. cc, λ e. cc))), omega arith)
 
 lock_outside : (l : Layout) → IsOutsideHeader l (lock_at l)
 lock_outside l = outside_header l Updater tt (λ k lt. (λ e. cc, λ e. cc))

@@ -6,6 +6,7 @@ use Rattle.pm_words.specs.declared.layout.Layout.{Layout}
 use Rattle.pm_words.specs.Locations.{Word, Location, Node, Cached, Durable, Volatile, HasWord, word_number, address_of, row_words, image_words, cached_address, durable_address, at}
 use Rattle.pm_words.specs.Rows.{evicted}
 use Rattle.pm_words.proofs.Apart.{words_within}
+use Rattle.pm_words.specs.Offsets.{version_offset}
 use Rattle.version_lock.specs.Versions.{is_free_word, is_worn_word}
 use Rattle.layer_map.specs.Layers.{Layer, AreSame}
 use Rattle.layer_map.specs.Keys.{key_of, key_number}
@@ -28,6 +29,7 @@ use Rattle.updater_row_law.specs.Columns.{RowTerms, Ghosts, line_count, line_wor
 use Rattle.updater_row_law.specs.RowStages.{RowLine, RowTarget, aim_of, RowStage, Resting, Between, Reads, Lands, HasTarget, Changes, Stamps, Clears, Sweeps, Gone, HasStamp, IsUnworn, Frees, Counts, reading_stage, turn_stage}
 use Rattle.updater_row_law.specs.RowLaw.{LayerRests, HasLoaded, IsTargetFor, SureRow, RowLawful, EvictionKeepsTurn}
 use Rattle.updater_row_law.proofs.RowColumns.{column-here, column-alike, column-same, column_fits}
+use Rattle.call_stages.specs.data_node.specs.Lists.{anchor_offset}
 use Rattle.updater_row_law.proofs.RowChanges.{mix_but}
 
 module _ (l : Layout) (words : List ℕ) (word : ℕ) (whole : length words ≡ row_words l) (within : word < image_words l) where
@@ -94,11 +96,11 @@ module _ (r : RowTerms) (ghosts : Ghosts) (words : List ℕ) (word : ℕ) (whole
     anchor = λ j same.
         let fit : (w : Word → Location) (o : ℕ) → line_field l words w o j < 2 ^ 64 = λ w o. column_fits l words (line_count l) (λ i. w (line_word o i)) j fits in
         let told = words_told
-        (line_field l words Durable 3 j) (line_field l words Durable 4 j) (line_field l words Durable 5 j)
-        (line_field l words Cached 3 j) (line_field l words Cached 4 j) (line_field l words Cached 5 j)
+        (line_field l words Durable anchor_offset j) (line_field l words Durable (anchor_offset + 1) j) (line_field l words Durable (anchor_offset + 2) j)
+        (line_field l words Cached anchor_offset j) (line_field l words Cached (anchor_offset + 1) j) (line_field l words Cached (anchor_offset + 2) j)
         (fit (λ w. Durable w) 4) (fit (λ w. Durable w) 5) (fit (λ w. Cached w) 4) (fit (λ w. Cached w) 5) same in
-        ap₂ (λ a b. key_of a b (line_field l after Durable 5 j)) (anchor_either 3 j (omega arith) told.first) (anchor_either 4 j (omega arith) told.second)
-        ∙ ap (λ c. key_of (line_field l words Cached 3 j) (line_field l words Cached 4 j) c) (anchor_either 5 j (omega arith) told.third);
+        ap₂ (λ a b. key_of a b (line_field l after Durable (anchor_offset + 2) j)) (anchor_either 3 j (omega arith) told.first) (anchor_either 4 j (omega arith) told.second)
+        ∙ ap (λ c. key_of (line_field l words Cached anchor_offset j) (line_field l words Cached (anchor_offset + 1) j) c) (anchor_either 5 j (omega arith) told.third);
   }
 
   anchor_path : (facts_in r ghosts after).anchor ≡ f.anchor
@@ -165,7 +167,7 @@ module _ (r : RowTerms) (ghosts : Ghosts) (words : List ℕ) (word : ℕ) (whole
 
   target_after : (key : List ℕ) (target : RowTarget) → IsTargetFor r ghosts words key target → IsTargetFor r ghosts after key target
   target_after key target is =
-      let version : node_field l after 0 target.node ≡ node_field l words 0 target.node = ap (λ (g : ℕ → ℕ). g target.node) (node_same l words word whole within 0 (omega arith)) in
+      let version : node_field l after version_offset target.node ≡ node_field l words version_offset target.node = ap (λ (g : ℕ → ℕ). g target.node) (node_same l words word whole within 0 (omega arith)) in
       record {
         stands = λ stands. subst (λ (a : ℕ → ℕ). IsTarget (IsListed f) a (key_number key) target.node) (sym anchor_path) (is.stands (sym version ∙ stands));
         low = λ stands k lt. ap (λ (g : ℕ → ℕ). g target.node) (node_same l words word whole within (3 + k) (omega arith)) ∙ is.low (sym version ∙ stands) k lt;

@@ -4,6 +4,8 @@ use Rattle.pm_words.specs.declared.layout.Layout.{Layout}
 use Rattle.pm_words.specs.Locations.{Location, Node, Line, Cached, Durable, Volatile, Updater, HasLocation, address_of, row_words}
 use Rattle.pm_words.proofs.Apart.{at-set_other}
 use Rattle.pm_words.specs.Offsets.{stamp_offset, status_offset}
+use Rattle.pm_words.specs.Codes.{empty_state}
+use Rattle.call_stages.specs.data_node.specs.Lines.{state_offset}
 use Rattle.version_lock.specs.Versions.{is_free_word, is_worn_word}
 use Rattle.layer_map.specs.Keys.{key_of}
 use Rattle.search_layer.specs.Rows.{layer_words, KeepsOthers, HasSameLayer}
@@ -22,8 +24,8 @@ pub record SameRest (l : Layout) (words words' : List ℕ) : Type 0 where
   pub safe : (o : ℕ) → o < 8 → line_field l words' Durable o ≡ line_field l words Durable o
 
 -- the facts, but for what these words say
-pub facts_path : (r : RowTerms) (ghosts : Ghosts) (words words' : List ℕ) (status stamp state : ℕ → ℕ) → SameRest r.layout words words' → volatile_field r.layout words' 0 ≡ status → volatile_field r.layout words' 2 ≡ stamp
-    → line_field r.layout words' Cached 0 ≡ state
+pub facts_path : (r : RowTerms) (ghosts : Ghosts) (words words' : List ℕ) (status stamp state : ℕ → ℕ) → SameRest r.layout words words' → volatile_field r.layout words' status_offset ≡ status → volatile_field r.layout words' stamp_offset ≡ stamp
+    → line_field r.layout words' Cached state_offset ≡ state
     → facts_in r ghosts words' ≡ record (facts_in r ghosts words) {
       status = status;
       stamp = stamp;
@@ -85,7 +87,7 @@ pub layer_facts : (r : RowTerms) (ghosts : Ghosts) (words words' : List ℕ) →
     }
 layer_facts r ghosts words words' same =
     let l : Layout = r.layout in
-    facts_path r ghosts words words' (volatile_field l words 0) (volatile_field l words 2) (line_field l words Cached 0) (rest_stays l words words' same)
+    facts_path r ghosts words words' (volatile_field l words status_offset) (volatile_field l words stamp_offset) (line_field l words Cached state_offset) (rest_stays l words words' same)
     (volatile_stays l words words' same 0 (omega arith)) (volatile_stays l words words' same 2 (omega arith)) (line_stays l words words' same 0 (omega arith))
 
 -- the node and the offset that a location of a volatile word names
@@ -118,8 +120,8 @@ module _ (l : Layout) (words : List ℕ) (p : Location) (y : ℕ) (has : HasLoca
   pub volatile_kept : (o : ℕ) → o < 16 → ((n : ℕ) → Volatile n o ≢ p) → volatile_field l written o ≡ volatile_field l words o
   volatile_kept o small apart = column-same l words written l.nodes (λ n. Volatile n o) (λ n lt. at-set_other l words p (Volatile n o) y has (lt, small) (apart n))
 
-  pub state_kept : ((j : ℕ) → Cached (line_word 0 j) ≢ p) → line_field l written Cached 0 ≡ line_field l words Cached 0
-  state_kept apart = column-same l words written (line_count l) (λ j. Cached (line_word 0 j)) (λ j lt. at-set_other l words p (Cached (line_word 0 j)) y has (omega arith, omega arith, omega arith) (apart j))
+  pub state_kept : ((j : ℕ) → Cached (line_word state_offset j) ≢ p) → line_field l written Cached state_offset ≡ line_field l words Cached state_offset
+  state_kept apart = column-same l words written (line_count l) (λ j. Cached (line_word state_offset j)) (λ j lt. at-set_other l words p (Cached (line_word state_offset j)) y has (omega arith, omega arith, omega arith) (apart j))
 
   pub rest_kept : ((n o : ℕ) → Cached (Node n o) ≢ p) → ((j o : ℕ) → 0 < o → Cached (line_word o j) ≢ p) → ((j o : ℕ) → Durable (line_word o j) ≢ p) → SameRest l words written
   rest_kept no_node no_line no_safe = record {
@@ -135,7 +137,7 @@ pub record Beside (r : RowTerms) (ghosts : Ghosts) (words words' : List ℕ) (af
 
 -- the layers are those of before
 beside : (r : RowTerms) (ghosts : Ghosts) (words words' : List ℕ) (status stamp state : ℕ → ℕ) → HasSameLayer r.layout words words'
-    → SameRest r.layout words words' → volatile_field r.layout words' 0 ≡ status → volatile_field r.layout words' 2 ≡ stamp → line_field r.layout words' Cached 0 ≡ state
+    → SameRest r.layout words words' → volatile_field r.layout words' status_offset ≡ status → volatile_field r.layout words' stamp_offset ≡ stamp → line_field r.layout words' Cached state_offset ≡ state
     → Beside r ghosts words words' (record (facts_in r ghosts words) { status = status; stamp = stamp; line = record ((facts_in r ghosts words).line) { state = state } })
 beside r ghosts words words' status stamp state same rest is_status is_stamp is_state =
     let f : TurnFacts = facts_in r ghosts words in
@@ -184,13 +186,13 @@ module _ (r : RowTerms) (ghosts : Ghosts) (words : List ℕ) where
       (volatile_kept l words p y has 2 (omega arith) (λ m e. let no_way = ap volatile_at e in omega arith))
       (state_kept l words p y has (λ j e. cc))
 
-  pub line_emptied : (j : ℕ) → length words ≡ row_words l → j < line_count l → Beside r ghosts words (stored (Cached (line_word 0 j)) 0) (emptied f j)
+  pub line_emptied : (j : ℕ) → length words ≡ row_words l → j < line_count l → Beside r ghosts words (stored (Cached (line_word state_offset j)) 0) (emptied f j)
   line_emptied j whole lt =
-      let p : Location = Cached (line_word 0 j) in
+      let p : Location = Cached (line_word state_offset j) in
       let has : HasLocation l p = (omega arith, omega arith, omega arith) in
-      beside r ghosts words (stored p 0) f.status f.stamp (set_at f.line.state j 0)
+      beside r ghosts words (stored p 0) f.status f.stamp (set_at f.line.state j empty_state)
       (layer_words_stay l words p 0 has refl)
       (rest_kept l words p 0 has (λ m o e. cc) (λ i o some e. let same : o ≡ 0 = ap offset_at e in omega arith) (λ i o e. cc))
       (volatile_kept l words p 0 has 0 (omega arith) (λ m e. cc)) (volatile_kept l words p 0 has 2 (omega arith) (λ m e. cc))
-      (column-set l words p 0 has (line_count l) (λ i. Cached (line_word 0 i)) j whole lt refl (λ i lt'. (omega arith, omega arith, omega arith))
+      (column-set l words p 0 has (line_count l) (λ i. Cached (line_word state_offset i)) j whole lt refl (λ i lt'. (omega arith, omega arith, omega arith))
       (λ i lt' e. let a : i / 8 ≡ j / 8 = ap caller_at e in let b : i % 8 ≡ j % 8 = ap index_at e in omega arith))

@@ -4,13 +4,15 @@ use Rattle.std.specs.Prelude.{nat_lt}
 use Rattle.std.proofs.Math.ListN.{length-set}
 use Rattle.std.proofs.lemmas.Bool.{cases_eq, eq-eqb, ne_eqb, eqb-true, eqb-false, ltb-false, and_right}
 use Rattle.std.proofs.lemmas.List.{set-get_or, get_or-set_same, get_or-set_other}
-use Rattle.pm_words.specs.Codes.{merge_kind}
+use Rattle.pm_words.specs.Codes.{merge_kind, free_status}
 use Rattle.pm_words.specs.declared.layout.Layout.{Layout}
 use Rattle.pm_words.specs.declared.action.Action.{Action}
 use Rattle.pm_words.specs.declared.action.Action.TheVariants.{Load}
 use Rattle.pm_words.specs.Locations.{Location, Node, Cached, Durable, Volatile, Updater, address_of}
 use Rattle.pm_words.specs.Rows.{IsRow, acted, got}
 use Rattle.pm_words.specs.Offsets.{stamp_offset, status_offset, version_offset}
+use Rattle.call_stages.specs.data_node.specs.Lists.{anchor_offset}
+use Rattle.call_stages.specs.data_node.specs.Lines.{left_offset, state_offset, kind_offset, line_node_offset}
 use Rattle.version_lock.specs.Versions.{is_free_word, is_worn_word}
 use Rattle.layer_map.specs.Layers.{Layer, AreSame, node_of}
 use Rattle.layer_map.specs.Keys.{IsKey, key_of, key_number}
@@ -89,7 +91,7 @@ loaded_at r words j offset x seen is told k lt = elim (cases_eq k offset) [
 ]
 
 -- the first word of the anchor isn't 0, once it is read
-name_stays : (r : RowTerms) (words : List ℕ) (j offset x : ℕ) (seen : List ℕ) → HasLoaded r words j offset seen → 3 < suc offset → (offset ≡ 3 → x ≢ 0) → slice_index (slice_set seen offset x) 3 ≢ 0
+name_stays : (r : RowTerms) (words : List ℕ) (j offset x : ℕ) (seen : List ℕ) → HasLoaded r words j offset seen → 3 < suc offset → (offset ≡ 3 → x ≢ 0) → slice_index (slice_set seen offset x) anchor_offset ≢ 0
 name_stays r words j offset x seen is past named = elim (cases_eq offset 3) [
   | inl third ↦ λ none.
       let fits : offset < length seen = (let most = is.most in let size = is.size in omega arith) in
@@ -133,7 +135,7 @@ module _ (r : RowTerms) (ghosts : Ghosts) (words : List ℕ) where
   volatile_told : (n o x : ℕ) → n < l.nodes → x ≡ got l words (Load (volatile_at l n o)) → volatile_field l words o n ≡ x
   volatile_told n o x lt told = column-here l words l.nodes (λ m. Volatile m o) n lt ∙ sym told
 
-  version_told : (n x : ℕ) → n < l.nodes → x ≡ got l words (Load (version_at l n)) → node_field l words 0 n ≡ x
+  version_told : (n x : ℕ) → n < l.nodes → x ≡ got l words (Load (version_at l n)) → node_field l words version_offset n ≡ x
   version_told n x lt told = column-here l words l.nodes (λ m. Cached (Node m version_offset)) n lt ∙ sym told
 
 -- behind a line, and behind a node
@@ -179,47 +181,47 @@ read_more r ghosts words j zero x seen some small told named is = absurd (omega 
 read_more r ghosts words j (suc zero) x seen some small told named is =
     let more = loaded_more r words j 1 x seen is.sure.0 small told named in
     look r ghosts words (Reads j 1 seen) (Reads j 2 (slice_set seen 1 x)) is (more, is.sure.1)
-    (subst (λ k. TurnStep (terms_of r) (facts_in r ghosts words) (turns.Sees j) (facts_in r ghosts words) (turns.SeesKind j k)) (more.same 1 (omega arith)) (steps.sees_kind j))
+    (subst (λ k. TurnStep (terms_of r) (facts_in r ghosts words) (turns.Sees j) (facts_in r ghosts words) (turns.SeesKind j k)) (more.same kind_offset (omega arith)) (steps.sees_kind j))
 read_more r ghosts words j (suc (suc zero)) x seen some small told named is =
     let more = loaded_more r words j 2 x seen is.sure.0 small told named in
-    let kind : slice_index seen 1 ≡ slice_index (slice_set seen 2 x) 1 = sym (is.sure.0.same 1 (omega arith)) ∙ more.same 1 (omega arith) in
+    let kind : slice_index seen kind_offset ≡ slice_index (slice_set seen 2 x) kind_offset = sym (is.sure.0.same kind_offset (omega arith)) ∙ more.same kind_offset (omega arith) in
     look r ghosts words (Reads j 2 seen) (Reads j 3 (slice_set seen 2 x)) is (more, is.sure.1)
-    (subst (λ k. TurnStep (terms_of r) (facts_in r ghosts words) (turns.SeesKind j (slice_index seen 1)) (facts_in r ghosts words) (turns.SeesNode j k (slice_index (slice_set seen 2 x) 2))) kind
-    (subst (λ k. TurnStep (terms_of r) (facts_in r ghosts words) (turns.SeesKind j (slice_index seen 1)) (facts_in r ghosts words) (turns.SeesNode j (slice_index seen 1) k)) (more.same 2 (omega arith))
-    (steps.sees_node j (slice_index seen 1))))
+    (subst (λ k. TurnStep (terms_of r) (facts_in r ghosts words) (turns.SeesKind j (slice_index seen kind_offset)) (facts_in r ghosts words) (turns.SeesNode j k (slice_index (slice_set seen 2 x) line_node_offset))) kind
+    (subst (λ k. TurnStep (terms_of r) (facts_in r ghosts words) (turns.SeesKind j (slice_index seen kind_offset)) (facts_in r ghosts words) (turns.SeesNode j (slice_index seen kind_offset) k)) (more.same line_node_offset (omega arith))
+    (steps.sees_node j (slice_index seen kind_offset))))
 read_more r ghosts words j (suc (suc (suc k))) x seen some small told named is =
     let offset : ℕ = suc (suc (suc k)) in
     let more = loaded_more r words j offset x seen is.sure.0 small told named in
-    let kind : slice_index seen 1 ≡ slice_index (slice_set seen offset x) 1 = sym (is.sure.0.same 1 (omega arith)) ∙ more.same 1 (omega arith) in
-    let node : slice_index seen 2 ≡ slice_index (slice_set seen offset x) 2 = sym (is.sure.0.same 2 (omega arith)) ∙ more.same 2 (omega arith) in
+    let kind : slice_index seen kind_offset ≡ slice_index (slice_set seen offset x) kind_offset = sym (is.sure.0.same kind_offset (omega arith)) ∙ more.same kind_offset (omega arith) in
+    let node : slice_index seen line_node_offset ≡ slice_index (slice_set seen offset x) line_node_offset = sym (is.sure.0.same line_node_offset (omega arith)) ∙ more.same line_node_offset (omega arith) in
     still r ghosts words (Reads j offset seen) (Reads j (suc offset) (slice_set seen offset x)) is (more, is.sure.1)
-    (ap (λ a. turns.SeesNode j a (slice_index seen 2)) kind ∙ ap (λ a. turns.SeesNode j (slice_index (slice_set seen offset x) 1) a) node)
+    (ap (λ a. turns.SeesNode j a (slice_index seen line_node_offset)) kind ∙ ap (λ a. turns.SeesNode j (slice_index (slice_set seen offset x) kind_offset) a) node)
 
 first_zero : (a b d : ℕ) → key_of a b d ≡ 0 → a ≡ 0
 first_zero a b d none = omega arith
 
 -- the line is read
-all_read : (r : RowTerms) (ghosts : Ghosts) (words : List ℕ) (row : IsRow r.layout words) (j x : ℕ) (seen : List ℕ) → line_field r.layout words Cached 6 j ≡ x
+all_read : (r : RowTerms) (ghosts : Ghosts) (words : List ℕ) (row : IsRow r.layout words) (j x : ℕ) (seen : List ℕ) → line_field r.layout words Cached left_offset j ≡ x
     → RowLawful r ghosts words (Reads j 6 seen) → RowLawful r ghosts words (Lands (line_read j (slice_set seen 6 x)))
 all_read r ghosts words row j x seen told is =
     let after : List ℕ = slice_set seen 6 x in
     let same : (k : ℕ) → k < 7 → line_field r.layout words Cached k j ≡ slice_index after k = λ k lt. loaded_at r words j 6 x seen is.sure.0 told k lt in
     let f : TurnFacts = facts_in r ghosts words in
-    let kind : slice_index seen 1 ≡ slice_index after 1 = sym (is.sure.0.same 1 (omega arith)) ∙ same 1 (omega arith) in
-    let node : slice_index seen 2 ≡ slice_index after 2 = sym (is.sure.0.same 2 (omega arith)) ∙ same 2 (omega arith) in
+    let kind : slice_index seen kind_offset ≡ slice_index after kind_offset = sym (is.sure.0.same kind_offset (omega arith)) ∙ same kind_offset (omega arith) in
+    let node : slice_index seen line_node_offset ≡ slice_index after line_node_offset = sym (is.sure.0.same line_node_offset (omega arith)) ∙ same line_node_offset (omega arith) in
     let anchor : f.line.anchor j ≡ key_number (line_read j after).anchor =
-    ap (λ a. key_of a (line_field r.layout words Cached 4 j) (line_field r.layout words Cached 5 j)) (same 3 (omega arith))
-    ∙ ap (λ a. key_of (slice_index after 3) a (line_field r.layout words Cached 5 j)) (same 4 (omega arith))
-    ∙ ap (λ a. key_of (slice_index after 3) (slice_index after 4) a) (same 5 (omega arith)) in
-    let named : slice_index after 3 ≢ 0 = name_stays r words j 6 x seen is.sure.0 (omega arith) (λ e. absurd (omega arith)) in
-    let anchor_some : key_number (line_read j after).anchor ≢ 0 = λ none. named (first_zero (slice_index after 3) (slice_index after 4) (slice_index after 5) none) in
-    let stage : turns.Lands (record { line = j; kind = slice_index seen 1; node = slice_index seen 2; anchor = f.line.anchor j }) ≡ turns.Lands (entry_of (line_read j after)) =
+    ap (λ a. key_of a (line_field r.layout words Cached (anchor_offset + 1) j) (line_field r.layout words Cached (anchor_offset + 2) j)) (same anchor_offset (omega arith))
+    ∙ ap (λ a. key_of (slice_index after anchor_offset) a (line_field r.layout words Cached (anchor_offset + 2) j)) (same (anchor_offset + 1) (omega arith))
+    ∙ ap (λ a. key_of (slice_index after anchor_offset) (slice_index after (anchor_offset + 1)) a) (same (anchor_offset + 2) (omega arith)) in
+    let named : slice_index after anchor_offset ≢ 0 = name_stays r words j 6 x seen is.sure.0 (omega arith) (λ e. absurd (omega arith)) in
+    let anchor_some : key_number (line_read j after).anchor ≢ 0 = λ none. named (first_zero (slice_index after anchor_offset) (slice_index after (anchor_offset + 1)) (slice_index after (anchor_offset + 2)) none) in
+    let stage : turns.Lands (record { line = j; kind = slice_index seen kind_offset; node = slice_index seen line_node_offset; anchor = f.line.anchor j }) ≡ turns.Lands (entry_of (line_read j after)) =
     λ i. turns.Lands (record { line = j; kind = kind i; node = node i; anchor = anchor i }) in
     look r ghosts words (Reads j 6 seen) (Lands (line_read j after)) is (record { key = key_read r words j after row same; some = anchor_some }, is.sure.1)
-    (subst (λ (s : TurnStage). TurnStep (terms_of r) f (turns.SeesNode j (slice_index seen 1) (slice_index seen 2)) f s) stage (steps.sees_anchor j (slice_index seen 1) (slice_index seen 2)))
+    (subst (λ (s : TurnStage). TurnStep (terms_of r) f (turns.SeesNode j (slice_index seen kind_offset) (slice_index seen line_node_offset)) f s) stage (steps.sees_anchor j (slice_index seen kind_offset) (slice_index seen line_node_offset)))
 
 -- at the second load of the version, what the list has at the anchor is known
-known : (r : RowTerms) (ghosts : Ghosts) (words : List ℕ) (row : IsRow r.layout words) (e : RowLine) (target : RowTarget) → RowLawful r ghosts words (HasTarget e target) → node_field r.layout words 0 target.node ≡ target.version
+known : (r : RowTerms) (ghosts : Ghosts) (words : List ℕ) (row : IsRow r.layout words) (e : RowLine) (target : RowTarget) → RowLawful r ghosts words (HasTarget e target) → node_field r.layout words version_offset target.node ≡ target.version
     → RowLawful r ghosts words (Changes e (word_at e.anchor target) (start_stage r.layout (aim_of e (word_at e.anchor target))))
 known r ghosts words row e target is version =
     let l : Layout = r.layout in
@@ -230,8 +232,8 @@ known r ghosts words row e target is version =
     let even = is.sure.3 in
     let low = promise.low version in
     let anchor : f.anchor target.node ≡ key_number target.low =
-    ap (λ a. key_of a (node_field l words 4 target.node) (node_field l words 5 target.node)) (low 0 (omega arith))
-    ∙ ap (λ a. key_of (slice_index target.low 0) a (node_field l words 5 target.node)) (low 1 (omega arith))
+    ap (λ a. key_of a (node_field l words (anchor_offset + 1) target.node) (node_field l words (anchor_offset + 2) target.node)) (low 0 (omega arith))
+    ∙ ap (λ a. key_of (slice_index target.low 0) a (node_field l words (anchor_offset + 2) target.node)) (low 1 (omega arith))
     ∙ ap (λ a. key_of (slice_index target.low 0) (slice_index target.low 1) a) (low 2 (omega arith)) in
     let low_fits : (k : ℕ) → k < 3 → slice_index target.low k < 2 ^ 64 = λ k lt. subst (λ x. x < 2 ^ 64) (low k lt) (column_fits l words l.nodes (λ m. Cached (Node m (3 + k))) target.node row.fits) in
     let tests : are_same target.low e.anchor ≡ (f.anchor target.node == key_number e.anchor) =
@@ -316,7 +318,7 @@ module _ (r : RowTerms) (ghosts : Ghosts) (words : List ℕ) (row : IsRow r.layo
       ] refl
 
 -- a status that is loaded once more
-counted : (r : RowTerms) (ghosts : Ghosts) (words : List ℕ) (n : ℕ) (none : Bool) (x : ℕ) → volatile_field r.layout words 0 n ≡ x → RowLawful r ghosts words (Counts n none)
+counted : (r : RowTerms) (ghosts : Ghosts) (words : List ℕ) (n : ℕ) (none : Bool) (x : ℕ) → volatile_field r.layout words status_offset n ≡ x → RowLawful r ghosts words (Counts n none)
     → RowLawful r ghosts words (Counts (suc n) (none && not (x == 0)))
 counted r ghosts words n none x status is =
     elim (x == 0) as (λ b. (x == 0) ≡ b → RowLawful r ghosts words (Counts (suc n) (none && not b))) [
@@ -348,8 +350,8 @@ module _ (r : RowTerms) (ghosts : Ghosts) (words : List ℕ) (row : IsRow r.layo
   stamp_keeps e lt is = by_store r ghosts words (put_at (Volatile e.node stamp_offset) r.stamp) (record g { stamp = set_at g.stamp e.node r.stamp }) (stamp_stored r ghosts words e.node r.stamp row.whole lt) (Stamps e) (Clears e.line) is is.sure (λ even. even)
       (turn_keeps k g (record g { stamp = set_at g.stamp e.node r.stamp }) (turns.Stamps (entry_of e)) (turns.Clears e.line) is.law (steps.stamps (entry_of e)))
 
-  empty_keeps : (j : ℕ) → j < line_count r.layout → RowLawful r ghosts words (Clears j) → RowLawful r ghosts (put_at (Cached (line_word 0 j)) 0) (Between (suc j))
-  empty_keeps j lt is = by_store r ghosts words (put_at (Cached (line_word 0 j)) 0) (emptied g j) (line_emptied r ghosts words j row.whole lt) (Clears j) (Between (suc j)) is is.sure (λ even. even)
+  empty_keeps : (j : ℕ) → j < line_count r.layout → RowLawful r ghosts words (Clears j) → RowLawful r ghosts (put_at (Cached (line_word state_offset j)) 0) (Between (suc j))
+  empty_keeps j lt is = by_store r ghosts words (put_at (Cached (line_word state_offset j)) 0) (emptied g j) (line_emptied r ghosts words j row.whole lt) (Clears j) (Between (suc j)) is is.sure (λ even. even)
       (turn_keeps k g (emptied g j) (turns.Clears j) (turns.Between (suc j)) is.law (steps.empties j))
 
   unstamp_keeps : (n : ℕ) → n < r.layout.nodes → RowLawful r ghosts words (IsUnworn n) → RowLawful r ghosts (put_at (Volatile n stamp_offset) 0) (Frees n)
@@ -357,8 +359,8 @@ module _ (r : RowTerms) (ghosts : Ghosts) (words : List ℕ) (row : IsRow r.layo
       (turn_keeps k g (record g { stamp = set_at g.stamp n 0 }) (turns.IsUnworn n) (turns.Frees n) is.law (steps.unstamps n))
 
   free_keeps : (n : ℕ) → n < r.layout.nodes → RowLawful r ghosts words (Frees n) → RowLawful r ghosts (put_at (Volatile n status_offset) 0) (Sweeps (suc n))
-  free_keeps n lt is = by_store r ghosts words (put_at (Volatile n status_offset) 0) (record g { status = set_at g.status n 0 }) (status_stored r ghosts words n 0 row.whole lt) (Frees n) (Sweeps (suc n)) is is.sure (λ even. even)
-      (turn_keeps k g (record g { status = set_at g.status n 0 }) (turns.Frees n) (turns.Sweeps (suc n)) is.law (steps.frees n))
+  free_keeps n lt is = by_store r ghosts words (put_at (Volatile n status_offset) 0) (record g { status = set_at g.status n free_status }) (status_stored r ghosts words n 0 row.whole lt) (Frees n) (Sweeps (suc n)) is is.sure (λ even. even)
+      (turn_keeps k g (record g { status = set_at g.status n free_status }) (turns.Frees n) (turns.Sweeps (suc n)) is.law (steps.frees n))
 
 kind_keeps : (r : RowTerms) (ghosts : Ghosts) (words : List ℕ) (row : IsRow r.layout words) {s : RowStage} {a : Action} {x : ℕ} {t : RowStage} → RowStep r s a x t → x ≡ got r.layout words a → RowLawful r ghosts words s
     → ((e : RowLine) (target : RowTarget) → t ≡ HasTarget e target → IsTargetFor r ghosts words e.anchor target) → RowLawful r ghosts (acted r.layout words a) t

@@ -1,7 +1,10 @@
 -- What a turn and the cover of the layer rest on, read off a row of words.
-use Rattle.std.specs.Prelude.{ℕ, ◌*◌, ◌/◌, ◌%◌, not, nat_lt, Bool, if◌then◌else◌, List}
+use Rattle.std.specs.Prelude.{ℕ, ◌+◌, ◌*◌, ◌/◌, ◌%◌, not, nat_lt, Bool, if◌then◌else◌, List}
 use Rattle.pm_words.specs.declared.layout.Layout.{Layout}
 use Rattle.pm_words.specs.Locations.{Word, Location, Node, Line, Cached, Durable, Volatile, at}
+use Rattle.pm_words.specs.Offsets.{stamp_offset, status_offset, version_offset}
+use Rattle.call_stages.specs.data_node.specs.Lists.{anchor_offset}
+use Rattle.call_stages.specs.data_node.specs.Lines.{kind_offset, line_node_offset, state_offset}
 use Rattle.version_lock.specs.Versions.{is_free_word, is_worn_word}
 use Rattle.layer_map.specs.Keys.{key_of}
 use Rattle.search_layer.specs.Rows.{layer_words}
@@ -44,11 +47,11 @@ volatile_field l words offset = column l words l.nodes (λ n. Volatile n offset)
 
 abbrev pub lines_in : Layout → List ℕ → (Word → Location) → Lines
 lines_in l words twin = record {
-  state = line_field l words twin 0;
-  kind = line_field l words twin 1;
-  node = line_field l words twin 2;
-  anchor =
-      λ j. key_of (line_field l words twin 3 j) (line_field l words twin 4 j) (line_field l words twin 5 j);
+  state = line_field l words twin state_offset;
+  kind = line_field l words twin kind_offset;
+  node = line_field l words twin line_node_offset;
+  anchor = λ j. key_of (line_field l words twin anchor_offset j)
+      (line_field l words twin (anchor_offset + 1) j) (line_field l words twin (anchor_offset + 2) j);
 }
 
 abbrev pub terms_of : RowTerms → TurnTerms
@@ -62,13 +65,13 @@ terms_of r = record {
 abbrev pub facts_in : RowTerms → Ghosts → List ℕ → TurnFacts
 facts_in r ghosts words = record {
   listed = ghosts.listed;
-  anchor =
-      λ n. key_of (node_field r.layout words 3 n) (node_field r.layout words 4 n) (node_field r.layout words 5 n);
-  status = volatile_field r.layout words 0;
-  stamp = volatile_field r.layout words 2;
-  held = λ n. not (is_free_word (node_field r.layout words 0 n) r.generation);
+  anchor = λ n. key_of (node_field r.layout words anchor_offset n)
+      (node_field r.layout words (anchor_offset + 1) n) (node_field r.layout words (anchor_offset + 2) n);
+  status = volatile_field r.layout words status_offset;
+  stamp = volatile_field r.layout words stamp_offset;
+  held = λ n. not (is_free_word (node_field r.layout words version_offset n) r.generation);
   holder = ghosts.holder;
-  worn = λ n. is_worn_word (node_field r.layout words 0 n) r.generation;
+  worn = λ n. is_worn_word (node_field r.layout words version_offset n) r.generation;
   line = lines_in r.layout words Cached;
   safe_line = lines_in r.layout words Durable;
   layer = kept r.layout (layer_words r.layout words Cached);

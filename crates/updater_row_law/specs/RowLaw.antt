@@ -3,6 +3,8 @@ use Rattle.std.specs.Prelude.{◌≡◌, ◌≢◌, ℕ, ◌+◌, ◌^◌, ◌<�
 use Rattle.pm_words.specs.declared.action.Action.{Action}
 use Rattle.pm_words.specs.Locations.{Cached, Durable, image_words}
 use Rattle.pm_words.specs.Rows.{IsRow, CanAct, acted, got, evicted}
+use Rattle.pm_words.specs.Offsets.{version_offset}
+use Rattle.call_stages.specs.data_node.specs.Lists.{anchor_offset}
 use Rattle.version_lock.specs.Versions.{is_free_word}
 use Rattle.layer_map.specs.Layers.{Layer, HasFew}
 use Rattle.layer_map.specs.Keys.{IsKey, key_number}
@@ -28,7 +30,7 @@ pub record HasLoaded (r : RowTerms) (words : List ℕ) (j offset : ℕ) (seen : 
   pub size : length seen ≡ 7
   pub most : offset < 7
   pub same : (k : ℕ) → k < offset → line_field r.layout words Cached k j ≡ slice_index seen k
-  pub named : 3 < offset → slice_index seen 3 ≢ 0
+  pub named : anchor_offset < offset → slice_index seen anchor_offset ≢ 0
 
 -- an anchor of a line is a key, but not the zero key
 pub record IsAnchor (words : List ℕ) : Type 0 where
@@ -39,9 +41,9 @@ pub record IsAnchor (words : List ℕ) : Type 0 where
 -- words of its anchor.
 pub record IsTargetFor (r : RowTerms) (ghosts : Ghosts) (words : List ℕ) (key : List ℕ) (target : RowTarget) : Type 0
   where
-    pub stands : node_field r.layout words 0 target.node ≡ target.version →
+    pub stands : node_field r.layout words version_offset target.node ≡ target.version →
         IsTarget (IsListed (facts_in r ghosts words)) (facts_in r ghosts words).anchor (key_number key) target.node
-    pub low : node_field r.layout words 0 target.node ≡ target.version → (k : ℕ) → k < 3 →
+    pub low : node_field r.layout words version_offset target.node ≡ target.version → (k : ℕ) → k < 3 →
         node_field r.layout words (3 + k) target.node ≡ slice_index target.low k
 
 -- the target is a node, and its version word says that nobody holds it

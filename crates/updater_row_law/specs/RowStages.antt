@@ -2,6 +2,8 @@
 use Rattle.std.specs.Prelude.{ℕ, zero, suc, ◌+◌, ◌==◌, ◌&&◌, nat_lt, Bool, true, if◌then◌else◌, List, [], ◌∷◌}
 use Rattle.std.specs.Prelude.{slice_index}
 use Rattle.pm_words.specs.Codes.{merge_kind}
+use Rattle.call_stages.specs.data_node.specs.Lists.{anchor_words}
+use Rattle.call_stages.specs.data_node.specs.Lines.{kind_offset, line_node_offset}
 use Rattle.layer_map.specs.Keys.{key_number}
 use Rattle.layer_map.specs.Layers.{node_of}
 use Rattle.search_layer.specs.tree_update.specs.Stages.{Aim}
@@ -21,9 +23,9 @@ pub record RowLine : Type 0 where
 abbrev pub line_read : ℕ → List ℕ → RowLine
 line_read j seen = record {
   line = j;
-  kind = slice_index seen 1;
-  node = slice_index seen 2;
-  anchor = slice_index seen 3 ∷ slice_index seen 4 ∷ slice_index seen 5 ∷ [];
+  kind = slice_index seen kind_offset;
+  node = slice_index seen line_node_offset;
+  anchor = anchor_words (slice_index seen);
 }
 
 abbrev pub entry_of : RowLine → ReadyLine
@@ -89,8 +91,9 @@ after_change e = if e.kind == merge_kind then Stamps e else Clears e.line
 abbrev pub reading_stage : ℕ → ℕ → List ℕ → TurnStage
 reading_stage j zero seen = turns.Sees j
 reading_stage j (suc zero) seen = turns.Sees j
-reading_stage j (suc (suc zero)) seen = turns.SeesKind j (slice_index seen 1)
-reading_stage j (suc (suc (suc more))) seen = turns.SeesNode j (slice_index seen 1) (slice_index seen 2)
+reading_stage j (suc (suc zero)) seen = turns.SeesKind j (slice_index seen kind_offset)
+reading_stage j (suc (suc (suc more))) seen =
+    turns.SeesNode j (slice_index seen kind_offset) (slice_index seen line_node_offset)
 
 abbrev pub turn_stage : RowStage → TurnStage
 turn_stage Resting = turns.Resting
