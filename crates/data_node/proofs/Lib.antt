@@ -8,5 +8,6 @@ pub mod NameCounts
 pub mod RangeNames
 pub mod ListLemmas
 pub mod KeyLemmas
+pub mod LineLemmas
 pub mod PositionLemmas
 pub mod LiveCounts

@@ -4,8 +4,8 @@ use Rattle.cat_key.specs.Names.{IsName, words_of}
 use Rattle.data_node.specs.Spots.{Spot}
 use Rattle.data_node.specs.Lists.{anchor_words}
 
--- The offsets of its words: of its state, of the kind of its change, of the new or the merged node, and of the left
--- one. The words of the anchor stand where a node has its own.
+-- The offsets of its words: of its state, of the kind of its change, of the new or the merged node, of the left one,
+-- and of the word that has no use. The words of the anchor stand where a node has its own.
 abbrev pub state_offset : ℕ
 state_offset = 0
 
@@ -18,6 +18,9 @@ line_node_offset = 2
 abbrev pub left_offset : ℕ
 left_offset = 6
 
+abbrev pub spare_offset : ℕ
+spare_offset = 7
+
 -- A line that isn't EMPTY: a split or a merge of two nodes, with the anchor of the new or the merged one. Its state and
 -- its kind are told by codes of the words.
 pub record IsEntry (nodes : ℕ) (s : Spot) : Type 0 where
@@ -28,7 +31,7 @@ pub record IsEntry (nodes : ℕ) (s : Spot) : Type 0 where
   pub is_name : IsName name
   pub anchor : anchor_words s ≡ words_of name
   pub left : s left_offset < nodes
-  pub zero : s 7 ≡ 0
+  pub zero : s spare_offset ≡ 0
 
 -- A line is EMPTY, or holds such a change.
 abbrev pub IsFitLine : ℕ → Spot → Type 0

@@ -1,5 +1,5 @@
 -- An image is sound exactly where its header is in order, its nodes make a list, and each listed node is tidy.
-use Rattle.std.proofs.Common.{◌≡◌, ◌≢◌, ℕ, zero, suc, ◌*◌, ◌/◌, ◌%◌, ◌<◌, ◌≤◌, ◌^◌, ◌⊎◌, List, [], ◌∷◌, slice_index, inl, inr, refl, sym, ap, subst, ◌∙◌, arith}
+use Rattle.std.proofs.Common.{◌≡◌, ◌≢◌, ℕ, zero, suc, ◌*◌, ◌/◌, ◌%◌, ◌<◌, ◌≤◌, ◌^◌, ◌⊎◌, List, slice_index, inl, inr, refl, sym, ap, subst, ◌∙◌, arith}
 use Rattle.std.proofs.lemmas.Bool.{cases_lt, cases_eq}
 use Rattle.version_lock.specs.declared.TheConstants.{GENERATION_LIMIT}
 use Rattle.version_lock.specs.Versions.{generation_of}
@@ -9,7 +9,7 @@ use Rattle.pm_words.specs.declared.layout.Layout.{Layout}
 use Rattle.pm_words.specs.Locations.{Word, Header, Node, Line, word_at}
 use Rattle.data_node.specs.Spots.{Spot, bitmap_offset, print_offset, slot_offset, IsLiveIn, name_words, print_in_spot, IsTidy}
 use Rattle.std.specs.List.{AllByRecursion}
-use Rattle.data_node.specs.Lines.{IsEntry, IsFitLine, state_offset, kind_offset, line_node_offset, left_offset}
+use Rattle.data_node.specs.Lines.{IsEntry, IsFitLine, state_offset, kind_offset, line_node_offset, left_offset, spare_offset}
 use Rattle.data_node.specs.Lists.{ListNode, next_offset, anchor_offset, anchor_in, key_of, anchor_words, members_from, IsChain, Rise, MakeList}
 use Rattle.data_node.proofs.ListLemmas.{all_member}
 use Rattle.data_node.proofs.KeyLemmas.{anchor_named, named_anchor}
@@ -246,7 +246,7 @@ line_or_not nodes s = elim (cases_eq (s state_offset) empty_state) [
               | inr nameless ↦ inr (λ is. nameless (is.name, is.is_name, sym is.anchor))
               | inl named ↦ elim (cases_lt (s left_offset) nodes) [
                 | inr past ↦ inr (λ is. let left = is.left in omega arith)
-                | inl left ↦ elim (cases_eq (s 7) 0) [
+                | inl left ↦ elim (cases_eq (s spare_offset) 0) [
                   | inr used ↦ inr (λ is. used is.zero)
                   | inl clear ↦ inl (record { state = state; kind = kind; node = (least, within); name = named.0; is_name = named.1; anchor = sym named.2; left = left; zero = clear })
                 ]

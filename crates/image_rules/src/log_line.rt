@@ -1,9 +1,10 @@
 //! The rule on lines of the log.
 
-ghost use Rattle.std.specs.Prelude.{◌≡◌, ◌*◌, ◌/◌, ◌%◌, ◌<◌, ◌↔◌, [], ◌∷◌, IsTrue};
+ghost use Rattle.std.specs.Prelude.{◌≡◌, ◌+◌, ◌*◌, ◌/◌, ◌%◌, ◌<◌, ◌↔◌, [], ◌∷◌, IsTrue};
 ghost use Rattle.pm_words.specs.Locations.{Line, word_number};
 ghost use Rattle.cat_key.specs.Names.{AreNameWords};
 ghost use Rattle.data_node.specs.Lines.{IsEntry, IsFitLine};
+ghost use Rattle.data_node.specs.Lists.{anchor_offset};
 ghost use Rattle.image_rules.specs.Lowest.{IsLowest, IsNumberOf};
 ghost use Rattle.image_rules.specs.Rules.{line_spot, IsUnfit, BreaksLines};
 
@@ -31,8 +32,9 @@ fn number_of(image: &Image, line: u64, offset: u64) -> u64
 /// Whether a name stands in a line as an anchor.
 fn has_anchor(image: &Image, line: u64) -> bool
     requires { line < 8 * image.now.layout.callers }
-    ensures { IsTrue result ↔ AreNameWords (line_spot image.now.layout image.now.words line 3
-        ∷ line_spot image.now.layout image.now.words line 4 ∷ line_spot image.now.layout image.now.words line 5 ∷ []) }
+    ensures { IsTrue result ↔ AreNameWords (line_spot image.now.layout image.now.words line anchor_offset
+        ∷ line_spot image.now.layout image.now.words line (anchor_offset + 1)
+        ∷ line_spot image.now.layout image.now.words line (anchor_offset + 2) ∷ []) }
 {
     Name::of_words(line_anchor(image, line)).is_some()
 }

@@ -1,9 +1,9 @@
 //! The words of an image's nodes and of its log lines, for all who read images.
 
-ghost use Rattle.std.specs.Prelude.{◌≡◌, ◌*◌, ◌<◌, ◌≤◌, ◌↔◌, [], ◌∷◌, IsTrue};
+ghost use Rattle.std.specs.Prelude.{◌≡◌, ◌+◌, ◌*◌, ◌<◌, ◌≤◌, ◌↔◌, [], ◌∷◌, IsTrue};
 ghost use Rattle.pm_words.specs.Layouts.{IsLayout};
 ghost use Rattle.pm_words.specs.Locations.{node_words};
-ghost use Rattle.data_node.specs.Lists.{anchor_words};
+ghost use Rattle.data_node.specs.Lists.{anchor_words, anchor_offset};
 ghost use Rattle.data_node.specs.Spots.{bitmap_offset, slot_offset, IsLiveIn, name_words, value_in};
 ghost use Rattle.image_rules.specs.Nodes.{image_spot, next_in};
 ghost use Rattle.image_rules.specs.Rules.{line_spot};
@@ -125,8 +125,9 @@ pub fn line_word(image: &Image, line: u64, offset: u64) -> u64
 /// The words of the anchor that a log line tells.
 pub fn line_anchor(image: &Image, line: u64) -> [u64; WORDS]
     requires { line < 8 * image.now.layout.callers }
-    ensures { result ≡ line_spot image.now.layout image.now.words line 3
-        ∷ line_spot image.now.layout image.now.words line 4 ∷ line_spot image.now.layout image.now.words line 5 ∷ [] }
+    ensures { result ≡ line_spot image.now.layout image.now.words line anchor_offset
+        ∷ line_spot image.now.layout image.now.words line (anchor_offset + 1)
+        ∷ line_spot image.now.layout image.now.words line (anchor_offset + 2) ∷ [] }
 {
     [
         line_word(image, line, line::ANCHOR),

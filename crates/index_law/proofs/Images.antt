@@ -1,5 +1,5 @@
 -- The image that a crash leaves of a lawful index.
-use Rattle.std.proofs.Common.{◌≡◌, ℕ, ◌*◌, ◌/◌, ◌%◌, ◌<◌, ◌≤◌, ◌⊎◌, inl, inr, cond, List, [], ◌∷◌, refl, ap, ◌∙◌, sym, subst, arith}
+use Rattle.std.proofs.Common.{◌≡◌, ℕ, ◌*◌, ◌/◌, ◌%◌, ◌<◌, ◌≤◌, inl, cond, List, refl, ap, ◌∙◌, sym, subst, arith}
 use Rattle.std.proofs.lemmas.Bool.{lt-ltb}
 use Rattle.pm_words.specs.declared.layout.Layout.{Layout}
 use Rattle.pm_words.specs.Locations.{Word, Header, Root, Node, Line, Leaf, Cell, word_at}
@@ -10,6 +10,7 @@ use Rattle.data_node.specs.Spots.{Spot, IsTidy, Means}
 use Rattle.data_node.specs.Lines.{IsFitLine}
 use Rattle.data_node.specs.Lists.{members_from, range_in, IsIn, MakeList}
 use Rattle.data_node.specs.Weights.{list_weight}
+use Rattle.data_node.proofs.LineLemmas.{fit_alike}
 use Rattle.pm_words.specs.Offsets.{version_offset}
 use Rattle.image_rules.specs.Nodes.{image_spot}
 use Rattle.image_rules.specs.Sound.{image_map}
@@ -52,22 +53,7 @@ line_is l words line offset here within =
 lines_fit : (l : Layout) (words : List ℕ) → AreFit l words → (line : ℕ) → line < 8 * l.callers → IsFitLine l.nodes (line_spot l (durable_row l words) line)
 lines_fit l words fit line here =
     let s : Spot = safe_line l words (line / 8) (line % 8) in
-    same_fit l.nodes s (line_spot l (durable_row l words) line) (λ offset within. line_is l words line offset here within) (fit (line / 8) (line % 8) s (λ offset. inl refl))
-  where
-    same_fit : (nodes : ℕ) (s t : Spot) → ((offset : ℕ) → offset < 8 → s offset ≡ t offset) → IsFitLine nodes s → IsFitLine nodes t
-    same_fit nodes s t same (inl empty) = inl (sym (same 0 (omega arith)) ∙ empty)
-    same_fit nodes s t same (inr is) =
-        let at = λ (offset : ℕ) (within : offset < 8). same offset within in
-        inr (record {
-          state = subst (λ (v : ℕ). v ≤ 2) (same 0 (omega arith)) is.state;
-          kind = subst (λ (v : ℕ). (v ≡ 1) ⊎ (v ≡ 2)) (same 1 (omega arith)) is.kind;
-          node = subst (λ (v : ℕ). (1 ≤ v) × (v < nodes)) (same 2 (omega arith)) is.node;
-          name = is.name;
-          is_name = is.is_name;
-          anchor = sym (λ k. same 3 (omega arith) k ∷ same 4 (omega arith) k ∷ same 5 (omega arith) k ∷ []) ∙ is.anchor;
-          left = subst (λ (v : ℕ). v < nodes) (same 6 (omega arith)) is.left;
-          zero = sym (same 7 (omega arith)) ∙ is.zero;
-        })
+    fit_alike l.nodes s (line_spot l (durable_row l words) line) (λ offset within. sym (line_is l words line offset here within)) (fit (line / 8) (line % 8) s (λ offset. inl refl))
 
 -- words that have no use are blank
 spare_blank : (w : Word) → IsSpare w → IsBlank w

@@ -1,5 +1,5 @@
 -- Log lines stand beside the nodes: what a step on the one does not touch of the other, and that lines stay in order.
-use Rattle.std.proofs.Common.{◌≡◌, ◌≢◌, ℕ, ◌^◌, ◌<◌, ◌⊎◌, inl, inr, ⊎_elim, ◌≤◌, Bool, true, false, cond, ◌&&◌, List, [], ◌∷◌, slice_set, refl, sym, ap, ◌∙◌, subst, arith}
+use Rattle.std.proofs.Common.{◌≡◌, ◌≢◌, ℕ, ◌^◌, ◌<◌, ◌⊎◌, inl, inr, ⊎_elim, Bool, true, false, cond, ◌&&◌, List, [], slice_set, refl, sym, ap, ◌∙◌, subst, arith}
 use Rattle.std.specs.Prelude.{nat_lt, Option, Some, None, IfSome}
 use Rattle.std.specs.FinMap.{empty}
 use Rattle.std.proofs.lemmas.Bool.{cases_eq, lt-ltb, ltb-true}
@@ -13,8 +13,9 @@ use Rattle.pm_words.proofs.Kept.{action_address-drain, acted_row, outside_header
 use Rattle.data_node.specs.Spots.{Spot, updated}
 use Rattle.data_node.proofs.SpotLemmas.{updated-same, updated-other}
 use Rattle.data_node.specs.Lines.{state_offset}
+use Rattle.data_node.proofs.LineLemmas.{entry_alike}
 use Rattle.pm_words.specs.Offsets.{status_offset, version_offset}
-use Rattle.pm_words.specs.Codes.{ready_state}
+use Rattle.pm_words.specs.Codes.{ready_state, empty_state, open_state}
 use Rattle.image_rules.specs.Rules.{generation_offset}
 use Rattle.call_stages.specs.Stages.{IsAmong, Held, just_held, Tells}
 use Rattle.call_stages.specs.Kinds.{Cleans, word_address, status_address, prev_address, clock_address}
@@ -258,56 +259,43 @@ drain_copies l words c j offset y is = λ k. slice_set words (action_address-dra
 
 -- the word in hand is the line's, or it is the state of a line that waits
 pub hand_word : (l : Layout) (words : List ℕ) (e : HeldLine) (offset y : ℕ) → HasWord l (Line e.caller e.number offset) → e.hand ≡ Some (offset, y) → SureLine l words e
-    → (y ≡ at l words (Cached (Line e.caller e.number offset))) ⊎ (IsGiven e offset × (y ≡ 2))
+    → (y ≡ at l words (Cached (Line e.caller e.number offset))) ⊎ (IsGiven e offset × (y ≡ ready_state))
 hand_word l words e offset y has is sure = ⊎_elim
     (λ same. inl (sym same ∙ line-here l words e.caller e.number offset has))
     (λ given. inr given)
-    (subst (λ (h : Option (ℕ × ℕ)). IfSome h (λ k. (line_in l words e.caller e.number k.0 ≡ k.1) ⊎ (IsGiven e k.0 × (k.1 ≡ 2)))) is sure.hand)
-
--- a line that says the same but for its state
-pub entry_like : (l : Layout) (s t : Spot) → t 0 ≤ 2 → ((offset : ℕ) → offset ≢ 0 → t offset ≡ s offset) → IsEntry l s → IsEntry l t
-entry_like l s t small same is = record {
-  state = small;
-  kind = ⊎_elim (λ one. inl (same 1 (λ z. omega arith) ∙ one)) (λ two. inr (same 1 (λ z. omega arith) ∙ two)) is.kind;
-  node = let at = same 2 (λ z. omega arith) in let low = is.node.0 in let high = is.node.1 in (omega arith, omega arith);
-  name = is.name;
-  is_name = is.is_name;
-  anchor = (λ k. same 3 (λ z. omega arith) k ∷ same 4 (λ z. omega arith) k ∷ same 5 (λ z. omega arith) k ∷ []) ∙ is.anchor;
-  left = let at = same 6 (λ z. omega arith) in let high = is.left in omega arith;
-  zero = same 7 (λ z. omega arith) ∙ is.zero;
-}
+    (subst (λ (h : Option (ℕ × ℕ)). IfSome h (λ k. (line_in l words e.caller e.number k.0 ≡ k.1) ⊎ (IsGiven e k.0 × (k.1 ≡ ready_state)))) is sure.hand)
 
 -- a mix of the rows of a line that waits is in order, whichever state it has
-waiting_fit : (l : Layout) (seen : List (ℕ × ℕ)) (now safe mix : Spot) → IsWaiting l seen now safe → WaitsOrIsEmpty (mix 0) → ((offset : ℕ) → offset ≢ 0 → mix offset ≡ now offset) → IsFitLine l mix
+waiting_fit : (l : Layout) (seen : List (ℕ × ℕ)) (now safe mix : Spot) → IsWaiting l seen now safe → WaitsOrIsEmpty (mix state_offset) → ((offset : ℕ) → offset ≢ state_offset → mix offset ≡ now offset) → IsFitLine l mix
 waiting_fit l seen now safe mix waits (inl none) same = inl none
 waiting_fit l seen now safe mix waits (inr ready) same =
-    inr (entry_like l (updated now state_offset ready_state) mix (omega arith) (λ offset other. same offset other ∙ sym (updated-other now 0 2 offset other)) waits.entry)
+    inr (entry_alike l.nodes (updated now state_offset ready_state) mix (omega arith) (λ offset other within. same offset other ∙ sym (updated-other now state_offset ready_state offset other)) waits.entry)
 
 -- a store into a line is for one that isn't READY
 pub marks_unready : (e : HeldLine) (offset y : ℕ) (seen : List (ℕ × ℕ)) (ready : Bool) → Marks e offset y seen ready → e.ready ≡ false
-marks_unready e offset y seen ready (fills other unready empty_state) = unready
-marks_unready e offset y seen ready (opens unready empty_state) = unready
-marks_unready e offset y seen ready (readies unready durable open_state blind) = unready
+marks_unready e offset y seen ready (fills other unready is_empty) = unready
+marks_unready e offset y seen ready (opens unready is_empty) = unready
+marks_unready e offset y seen ready (readies unready durable is_open blind) = unready
 
 -- one that wasn't made READY isn't
 marked_unready : (e : HeldLine) (offset y : ℕ) (seen : List (ℕ × ℕ)) (ready : Bool) → Marks e offset y seen ready → (now : Spot) → Tells e.seen now → ready ≡ false → updated now offset y 0 ≢ 2
-marked_unready e offset y seen ready (fills other unready empty_state) now told is two =
-    let same = updated-other now offset y 0 (λ zero. other (sym zero)) in let none : now 0 ≡ 0 = empty_state now told in omega arith
-marked_unready e offset y seen ready (opens unready empty_state) now told is two = let one = updated-same now 0 1 in omega arith
-marked_unready e offset y seen ready (readies unready durable open_state blind) now told is two = absurd (let no : true ≡ false = is in cc)
+marked_unready e offset y seen ready (fills other unready is_empty) now told is two =
+    let same = updated-other now offset y state_offset (λ zero. other (sym zero)) in let none : now state_offset ≡ empty_state = is_empty now told in omega arith
+marked_unready e offset y seen ready (opens unready is_empty) now told is two = let one = updated-same now state_offset open_state in omega arith
+marked_unready e offset y seen ready (readies unready durable is_open blind) now told is two = absurd (let no : true ≡ false = is in cc)
 
 -- a line that was made READY waits
 marked_waits : (l : Layout) (e : HeldLine) (offset y : ℕ) (seen : List (ℕ × ℕ)) (ready : Bool) → Marks e offset y seen ready → (now safe now' safe' : Spot) → Tells e.seen now
     → ((o : ℕ) → (IsAmong e.dirty o → ⊥) → (IsGiven e o → ⊥) → safe o ≡ now o) → IsFitLine l now → ((o : ℕ) → now' o ≡ updated now offset y o) → ((o : ℕ) → safe' o ≡ safe o) → ready ≡ true
     → IsWaiting l seen now' safe'
-marked_waits l e offset y seen ready (fills other unready empty_state) now safe now' safe' told clean fit stored stays is = absurd (cc)
-marked_waits l e offset y seen ready (opens unready empty_state) now safe now' safe' told clean fit stored stays is = absurd (cc)
-marked_waits l e offset y seen ready (readies unready durable open_state blind) now safe now' safe' told clean fit stored stays is =
-    let beside : (o : ℕ) → o ≢ 0 → now' o ≡ now o = λ o other. stored o ∙ updated-other now 0 2 o other in
-    let entry : IsEntry l now = ⊎_elim (λ none. absurd (let opened : now 0 ≡ 1 = open_state now told in omega arith)) (λ entry. entry) fit in
+marked_waits l e offset y seen ready (fills other unready is_empty) now safe now' safe' told clean fit stored stays is = absurd (cc)
+marked_waits l e offset y seen ready (opens unready is_empty) now safe now' safe' told clean fit stored stays is = absurd (cc)
+marked_waits l e offset y seen ready (readies unready durable is_open blind) now safe now' safe' told clean fit stored stays is =
+    let beside : (o : ℕ) → o ≢ 0 → now' o ≡ now o = λ o other. stored o ∙ updated-other now state_offset ready_state o other in
+    let entry : IsEntry l now = ⊎_elim (λ none. absurd (let opened : now state_offset ≡ open_state = is_open now told in omega arith)) (λ entry. entry) fit in
     record {
-      state = inr (stored 0 ∙ updated-same now 0 2);
-      entry = entry_like l now (updated now' state_offset ready_state) (let at : updated now' state_offset ready_state 0 ≡ 2 = updated-same now' 0 2 in omega arith) (λ o other. updated-other now' 0 2 o other ∙ beside o other) entry;
+      state = inr (stored state_offset ∙ updated-same now state_offset ready_state);
+      entry = entry_alike l.nodes now (updated now' state_offset ready_state) (let at : updated now' state_offset ready_state state_offset ≡ ready_state = updated-same now' state_offset ready_state in omega arith) (λ o other within. updated-other now' state_offset ready_state o other ∙ beside o other) entry;
       durable = λ o other. stays o ∙ clean o (λ among. subst (λ (dirty : List (ℕ × ℕ)). IsAmong dirty o) durable among) (λ given. absurd (let no : true ≡ false = sym given.ready ∙ unready in cc)) ∙ sym (beside o other);
       blind = blind;
     }

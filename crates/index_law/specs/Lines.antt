@@ -6,7 +6,7 @@ use Rattle.pm_words.specs.declared.action.Action.{Action}
 use Rattle.pm_words.specs.Locations.{Line, Cached, Durable, at}
 use Rattle.pm_words.specs.Rows.{IsRow, acted, got, evicted}
 use Rattle.pm_words.specs.Locations.{image_words}
-use Rattle.pm_words.specs.Codes.{ready_state}
+use Rattle.pm_words.specs.Codes.{ready_state, empty_state}
 use Rattle.data_node.specs.Spots.{Spot, updated}
 use Rattle.data_node.specs.Lines.{state_offset}
 use Rattle.call_stages.specs.Stages.{Stage, IsAmong, Tells}
@@ -32,17 +32,17 @@ AreFit l words = (c j : ℕ) (mix : Spot) → IsMix (safe_line l words c j) (lin
 -- This is the word of the line that is its party's no more: the state, once it was made READY.
 pub record IsGiven (e : HeldLine) (offset : ℕ) : Type 0 where
   pub ready : e.ready ≡ true
-  pub state : offset ≡ 0
+  pub state : offset ≡ state_offset
 
 -- The state is READY, or a turn has emptied the line.
 abbrev pub WaitsOrIsEmpty : ℕ → Type 0
-WaitsOrIsEmpty state = (state ≡ 0) ⊎ (state ≡ 2)
+WaitsOrIsEmpty state = (state ≡ empty_state) ⊎ (state ≡ ready_state)
 
 -- What holds of a line that was made READY, by its words and their durable twins.
 pub record IsWaiting (l : Layout) (seen : List (ℕ × ℕ)) (now safe : Spot) : Type 0 where
-  pub state : WaitsOrIsEmpty (now 0)
+  pub state : WaitsOrIsEmpty (now state_offset)
   pub entry : IsEntry l (updated now state_offset ready_state)  -- it says which change it is of,
-  pub durable : (offset : ℕ) → offset ≢ 0 → safe offset ≡ now offset  -- durably,
+  pub durable : (offset : ℕ) → offset ≢ state_offset → safe offset ≡ now offset  -- durably,
   pub blind : IsBlind seen  -- and its party relies on no state
 
 -- What a call knows of its line.
@@ -52,7 +52,7 @@ pub record SureLine (l : Layout) (words : List ℕ) (e : HeldLine) : Type 0 wher
   pub clean : (offset : ℕ) → (IsAmong e.dirty offset → ⊥) → (IsGiven e offset → ⊥) →
       safe_line l words e.caller e.number offset ≡ line_in l words e.caller e.number offset
   pub hand : IfSome e.hand (λ hand. (line_in l words e.caller e.number hand.0 ≡ hand.1) ⊎
-      (IsGiven e hand.0 × (hand.1 ≡ 2)))
+      (IsGiven e hand.0 × (hand.1 ≡ ready_state)))
   pub unready : e.ready ≡ false → line_in l words e.caller e.number state_offset ≢ ready_state
   pub waits : e.ready ≡ true →
       IsWaiting l e.seen (line_in l words e.caller e.number) (safe_line l words e.caller e.number)

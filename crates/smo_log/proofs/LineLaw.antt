@@ -17,6 +17,7 @@ use Rattle.call_stages.specs.data_node.specs.Spots.{Spot, updated}
 use Rattle.call_stages.specs.data_node.proofs.SpotLemmas.{updated-same, updated-other}
 use Rattle.call_stages.specs.data_node.specs.Lines.{state_offset, kind_offset, line_node_offset, left_offset}
 use Rattle.call_stages.specs.data_node.specs.Lists.{anchor_offset}
+use Rattle.call_stages.specs.data_node.proofs.LineLemmas.{entry_alike}
 use Rattle.call_stages.specs.Stages.{IsAmong, Tells}
 use Rattle.call_stages.specs.Kinds.{Soils}
 use Rattle.call_stages.specs.Lines.{HeldLine, IsEntry, IsFitLine, TellsDurably, IsBlind, fills, opens, readies, Notes}
@@ -273,17 +274,9 @@ blind_fields entry s state told = fields_stay entry 7 state_offset state s (λ k
 module _ (ready : Ready) (entry : Entry) (sound : IsReady ready) where
   ready_stays : (s : Spot) → IsEntry ready.layout s → IsEntry ready.layout (updated s state_offset ready_state)
   ready_stays s is =
-      let stays : (k : ℕ) → k ≢ 0 → updated s state_offset ready_state k ≡ s k = λ k other. updated-other s state_offset ready_state k other in
-      record {
-        state = let at : updated s state_offset ready_state state_offset ≡ ready_state = updated-same s state_offset ready_state in omega arith;
-        kind = ⊎_elim (λ one. inl (stays kind_offset (λ z. omega arith) ∙ one)) (λ two. inr (stays kind_offset (λ z. omega arith) ∙ two)) is.kind;
-        node = let same = stays line_node_offset (λ z. omega arith) in let low = is.node.0 in let high = is.node.1 in (omega arith, omega arith);
-        name = is.name;
-        is_name = is.is_name;
-        anchor = (λ k. stays anchor_offset (λ z. omega arith) k ∷ stays (anchor_offset + 1) (λ z. omega arith) k ∷ stays (anchor_offset + 2) (λ z. omega arith) k ∷ []) ∙ is.anchor;
-        left = let same = stays left_offset (λ z. omega arith) in let high = is.left in omega arith;
-        zero = stays 7 (λ z. omega arith) ∙ is.zero;
-      }
+      entry_alike ready.layout.nodes s (updated s state_offset ready_state)
+      (let at : updated s state_offset ready_state state_offset ≡ ready_state = updated-same s state_offset ready_state in omega arith)
+      (λ offset other within. updated-other s state_offset ready_state offset other) is
 
   ready_leads : (at : ReadyAt) (x : ℕ) → IsReadyAt at → x < 2 ^ 64
       → ReadyNotes ready.layout ready.line entry (ready_at_held ready.line entry at) (ready_at_asks ready.layout ready.line at) x (ready_at_turned ready at x)
