@@ -14,7 +14,9 @@ use Rattle.pm_words.proofs.Apart.{at-set_other}
 use Rattle.pm_words.proofs.Kept.{action_address-drain}
 use Rattle.data_node.specs.Spots.{Spot}
 use Rattle.data_node.specs.Lists.{next_offset, anchor_in, key_of}
+use Rattle.data_node.specs.Lines.{kind_offset, line_node_offset, state_offset}
 use Rattle.pm_words.specs.Offsets.{stamp_offset}
+use Rattle.pm_words.specs.Codes.{merge_kind, ready_state}
 use Rattle.call_stages.specs.Stages.{Stage, Held, Grip, Gone, Gathered, Joined, Joins, Idle, Saw, Wears, Reads, Holds}
 use Rattle.call_stages.specs.Stages.{Eyes, Splits, Leaves, Meets, HoldsNode, Tells}
 use Rattle.call_stages.specs.Kinds.{prev_address}
@@ -52,7 +54,7 @@ use Rattle.updater_row_law.specs.search_layer.proofs.RowLemmas.{layer_words_stay
 -- turns it is a step of another party, or none.
 pub record Besides (w : World) (holder : ℕ → ℕ) (words : List ℕ) : Type 0 where
   pub layer : HasSameLayer w.layout w.words words
-  pub lines : (j : ℕ) → line_field w.layout w.words Cached 0 j ≡ 2 → (o : ℕ) → o < 8 → line_field w.layout words Cached o j ≡ line_field w.layout w.words Cached o j
+  pub lines : (j : ℕ) → line_field w.layout w.words Cached state_offset j ≡ ready_state → (o : ℕ) → o < 8 → line_field w.layout words Cached o j ≡ line_field w.layout w.words Cached o j
   pub lock : at w.layout words Updater ≡ at w.layout w.words Updater
   pub moved : Moved (now_known w.layout w.generation (facts w) (rest_in w.layout w.words) holder) (known w.layout w.generation (facts w) holder (rest_in w.layout words))
 
@@ -97,7 +99,7 @@ module _ (z : Layered) (i : ℕ) (p : Party) (is : IsLayered z) (there : get_ele
       let sure = is.whole.joint.sure i e at_line in
       let knows = subst (λ (s : Stage). Sure l g f p.caller p.index p.since s) stage (law.sure i p there) in
       let now = line_in l words e.caller e.number in
-      let node : F.line.node (line_number e) ≡ right.node = line_tie l words e sure.here 2 (omega arith) ∙ of_merge.node now sure.seen in
+      let node : F.line.node (line_number e) ≡ right.node = line_tie l words e sure.here line_node_offset (omega arith) ∙ of_merge.node now sure.seen in
       let named = named_words l words law.row.fits right.node knows.at.anchor knows.at.named knows.at.anchored in
       let anchor : F.line.anchor (line_number e) ≡ anchor_in (f.now right.node) = anchor_line_tie l words e sure.here ∙ of_merge.anchor now (f.now right.node) sure.seen knows.other.seen named in
       let held : F.held right.node ≡ true = held_is l g f (rest_in l words) is.holder right.node right.lock knows.other.stands knows.other.lock in
@@ -136,18 +138,18 @@ module _ (z : Layered) (i : ℕ) (p : Party) (is : IsLayered z) (there : get_ele
 
   -- a line becomes READY by the store of that state
   pub marks_ready : (e : HeldLine) (offset y : ℕ) (seen : List (ℕ × ℕ)) (ready : Bool) → Marks e offset y seen ready → (offset ≡ 0) × (y ≡ 2) × (ready ≡ true) ⊎ ((ready ≡ false) × ((offset ≡ 0 → y ≢ 2)))
-  marks_ready e offset y seen ready (fills some_offset unready empty_state) = inr (refl, λ zero_offset two. some_offset zero_offset)
-  marks_ready e offset y seen ready (opens unready empty_state) = inr (refl, λ zero_offset two. omega arith)
-  marks_ready e offset y seen ready (readies unready durable open_state blind) = inl (refl, refl, refl)
+  marks_ready e offset y seen ready (fills some_offset unready is_empty) = inr (refl, λ zero_offset two. some_offset zero_offset)
+  marks_ready e offset y seen ready (opens unready is_empty) = inr (refl, λ zero_offset two. omega arith)
+  marks_ready e offset y seen ready (readies unready durable is_open blind) = inl (refl, refl, refl)
 
   module _ (e : HeldLine) (at_line : get_elem? z.whole.lines i ≡ some (Some e)) (offset y : ℕ) (small : offset < 8) where
     sure : SureLine l words e
     sure = is.whole.joint.sure i e at_line
 
-    pub own_ready : (seen : List (ℕ × ℕ)) (ready : Bool) (after : HeldLine) → Marks e offset y seen ready → after.ready ≡ ready → Waits p.stage (Some e) (Some after) → ready ≡ true → F.line.kind (line_number e) ≡ 2
+    pub own_ready : (seen : List (ℕ × ℕ)) (ready : Bool) (after : HeldLine) → Marks e offset y seen ready → after.ready ≡ ready → Waits p.stage (Some e) (Some after) → ready ≡ true → F.line.kind (line_number e) ≡ merge_kind
         → (h : Held) × (left : Grip) × (right : Grip) × (p.stage ≡ Joins h left right Gone) × IsOfMerge e right
     own_ready seen ready after marks same waits is_ready kind = ⊎_elim
-        (λ (split : (s : Spot) → Tells e.seen s → s 1 ≢ 2). absurd (split (line_in l words e.caller e.number) sure.seen (sym (line_tie l words e sure.here 1 (omega arith)) ∙ kind)))
+        (λ (split : (s : Spot) → Tells e.seen s → s kind_offset ≢ merge_kind). absurd (split (line_in l words e.caller e.number) sure.seen (sym (line_tie l words e sure.here kind_offset (omega arith)) ∙ kind)))
         (λ (retired : IsRetired p.stage e). retired_is p.stage e retired)
         (waits (marks_unready e offset y seen ready marks) (same ∙ is_ready)).1
 
@@ -155,7 +157,7 @@ module _ (z : Layered) (i : ℕ) (p : Party) (is : IsLayered z) (there : get_ele
     marks_beside seen ready after marks same waits = record {
       layer = layer_same l words law.row e sure offset y small;
       lines = λ j two o within. field_other l words law.row e sure offset y small o j within
-          (λ own. sure.unready (marks_unready e offset y seen ready marks) (sym (line_tie l words e sure.here 0 (omega arith)) ∙ ap (line_field l words Cached 0) (sym own) ∙ two));
+          (λ own. sure.unready (marks_unready e offset y seen ready marks) (sym (line_tie l words e sure.here state_offset (omega arith)) ∙ ap (line_field l words Cached state_offset) (sym own) ∙ two));
       lock = at-set_other l words (Cached (Line e.caller e.number offset)) Updater y (sure.here.0, sure.here.1, small) tt (λ d. cc);
       moved = marks_moved l words law.row e sure offset y small seen ready marks g f is.holder
           (λ is_ready kind. let merge = own_ready seen ready after marks same waits is_ready kind in ripe merge.0 merge.1 merge.2 e merge.3 at_line (marks_unready e offset y seen ready marks) merge.4);
@@ -180,7 +182,7 @@ module _ (z : Layered) (i : ℕ) (p : Party) (is : IsLayered z) (there : get_ele
   -- each step on the line
   pub line_beside : (line after : Option HeldLine) (a : Action) (x : ℕ) → get_elem? z.whole.lines i ≡ some line → Notes l line a x after → Waits p.stage line after → Besides w is.holder (acted l words a)
   line_beside line after a x at (passes_line {c = c} {j = j} {offset = o} caller low within) waits = same_besides w is.holder (acted l words a) (set-get_or words (line_address l c j o) 0)
-  line_beside line after a x at (takes {c = c} {j = j} caller low empty_state) waits = same_besides w is.holder (acted l words a) (set-get_or words (line_address l c j 0) 0)
+  line_beside line after a x at (takes {c = c} {j = j} caller low is_empty) waits = same_besides w is.holder (acted l words a) (set-get_or words (line_address l c j state_offset) 0)
   line_beside line after a x at (looks_up {offset = o} {e = e} within learnt blind) waits = same_besides w is.holder (acted l words a) (set-get_or words (line_address l e.caller e.number o) 0)
   line_beside line after a x at (notes {y = y} {offset = o} {e = e} {seen = seen} {dirty = dirty} {ready = ready} within fits marks soils told keeps) waits =
       marks_beside e at o y within seen ready (record e { seen = seen; dirty = dirty; hand = None; ready = ready }) marks refl waits

@@ -1,5 +1,5 @@
 -- The drains of a call's log line, for the law of turns.
-use Rattle.std.proofs.Common.{◌≡◌, ◌≢◌, ℕ, ◌<◌, ◌^◌, inl, inr, ⊎_elim, ◌⊎◌, List, slice_set, refl, sym, ap, ◌∙◌}
+use Rattle.std.proofs.Common.{◌≡◌, ◌≢◌, ℕ, ◌+◌, ◌<◌, ◌^◌, inl, inr, ⊎_elim, ◌⊎◌, List, slice_set, refl, sym, ap, ◌∙◌}
 use Rattle.std.proofs.Common.{subst, arith}
 use Rattle.std.proofs.lemmas.Bool.{cases_eq}
 use Rattle.pm_words.specs.declared.layout.Layout.{Layout}
@@ -7,6 +7,8 @@ use Rattle.pm_words.specs.Locations.{Word, Location, Line, Cached, Durable, Vola
 use Rattle.pm_words.specs.Rows.{IsRow}
 use Rattle.pm_words.proofs.Apart.{at-set_other}
 use Rattle.pm_words.specs.Offsets.{stamp_offset}
+use Rattle.data_node.specs.Lists.{anchor_offset}
+use Rattle.data_node.specs.Lines.{state_offset}
 use Rattle.call_stages.specs.Lines.{HeldLine}
 use Rattle.index_law.specs.Facts.{Facts}
 use Rattle.index_law.specs.Lines.{SureLine}
@@ -52,7 +54,7 @@ module _ (l : Layout) (words : List ℕ) (row : IsRow l words) (e : HeldLine) (s
   line_same : (o : ℕ) → o < 8 → line_field l drained Cached o ≡ line_field l words Cached o
   line_same o within = column-same l words drained (line_count l) (λ j. Cached (line_word o j)) (λ j there. at-set_other l words p (Cached (line_word o j)) y has (omega arith, omega arith, within) (λ same. cc))
 
-  stamp_same : volatile_field l drained 2 ≡ volatile_field l words 2
+  stamp_same : volatile_field l drained stamp_offset ≡ volatile_field l words stamp_offset
   stamp_same = column-same l words drained l.nodes (λ n. Volatile n stamp_offset) (λ n there. at-set_other l words p (Volatile n stamp_offset) y has (there, omega arith) (λ same. cc))
 
   pub layer_stay : HasSameLayer l words drained
@@ -88,7 +90,7 @@ module _ (l : Layout) (words : List ℕ) (row : IsRow l words) (e : HeldLine) (s
       state = λ j now safe none. ⊎_elim
           (λ (own : j ≡ mine). ⊎_elim
           (λ (at : 0 ≡ offset).
-          let stored : line_field l drained Durable 0 j ≡ y = (λ k. line_field l drained Durable (at k) (own k)) ∙ field_here in
+          let stored : line_field l drained Durable state_offset j ≡ y = (λ k. line_field l drained Durable (at k) (own k)) ∙ field_here in
           ⊎_elim (λ cached. now ((λ k. line_field l words Cached (at k) (own k)) ∙ sym cached ∙ sym stored ∙ none)) (λ given. let two = given.1 in absurd (omega arith)) what)
           (λ (apart : 0 ≢ offset). safe (sym (field_else 0 j (omega arith) (inr apart)) ∙ none))
           (cases_eq 0 offset))
@@ -97,8 +99,8 @@ module _ (l : Layout) (words : List ℕ) (row : IsRow l words) (e : HeldLine) (s
       anchor = λ j same.
           let fit : (w : Word → Location) (o : ℕ) → line_field l words w o j < 2 ^ 64 = λ w o. column_fits l words (line_count l) (λ i. w (line_word o i)) j row.fits in
           let told = words_told
-          (line_field l words Durable 3 j) (line_field l words Durable 4 j) (line_field l words Durable 5 j)
-          (line_field l words Cached 3 j) (line_field l words Cached 4 j) (line_field l words Cached 5 j)
+          (line_field l words Durable anchor_offset j) (line_field l words Durable (anchor_offset + 1) j) (line_field l words Durable (anchor_offset + 2) j)
+          (line_field l words Cached anchor_offset j) (line_field l words Cached (anchor_offset + 1) j) (line_field l words Cached (anchor_offset + 2) j)
           (fit (λ w. Durable w) 4) (fit (λ w. Durable w) 5) (fit (λ w. Cached w) 4) (fit (λ w. Cached w) 5) same in
           let first = both_stay 3 j (omega arith) (omega arith) told.first in
           let second = both_stay 4 j (omega arith) (omega arith) told.second in

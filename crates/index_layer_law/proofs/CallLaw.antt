@@ -11,7 +11,9 @@ use Rattle.pm_words.specs.Locations.{Line, Cached, Durable, HasLocation, address
 use Rattle.pm_words.specs.Rows.{IsRow, acted}
 use Rattle.pm_words.proofs.Apart.{at-set_other}
 use Rattle.pm_words.proofs.Kept.{action_address-drain}
+use Rattle.pm_words.specs.Codes.{free_status, ready_state}
 use Rattle.data_node.specs.Lists.{anchor_in}
+use Rattle.data_node.specs.Lines.{kind_offset, line_node_offset, state_offset}
 use Rattle.call_stages.specs.Stages.{Stage, Held, Grip, Gone, Joins, HoldsNode, IsSwitched, counted}
 use Rattle.call_stages.specs.Kinds.{Step}
 use Rattle.call_stages.specs.Lines.{HeldLine, line_address, Marks, Notes, passes_line, takes, looks_up, notes, keeps_safe}
@@ -79,7 +81,7 @@ module _ (z : Layered) (i : ℕ) (p : Party) (is : IsLayered z) (there : get_ele
   shown' key target shown = subst (λ φ. IsShown l w.generation φ key target) (sym same_facts) shown
 
   -- switches that may not be durable yet
-  covers_after : (own : Option HeldLine) (n : ℕ) → (facts w).status n ≢ 0 → CoversNode w own n → CoversNode w' own n
+  covers_after : (own : Option HeldLine) (n : ℕ) → (facts w).status n ≢ free_status → CoversNode w own n → CoversNode w' own n
   covers_after own n busy = unready_by (IsCover (lines_in l w.words Cached) (lines_in l w.words Durable) (anchor_in ((facts w).now n)))
       (IsCover (lines_in l words' Cached) (lines_in l words' Durable) (anchor_in ((facts w').now n))) own
       (λ e is_own unready cover.
@@ -153,14 +155,14 @@ module _ (z : Layered) (i : ℕ) (p : Party) (is : IsLayered z) (there : get_ele
   unready : e.ready ≡ false
   unready = marks_unready e offset y seen ready marks
 
-  not_ready_before : line_field z.whole.world.layout z.whole.world.words Cached 0 (line_number e) ≢ 2
-  not_ready_before two = own_sure.unready unready (sym (line_tie z.whole.world.layout z.whole.world.words e own_sure.here 0 (omega arith)) ∙ two)
+  not_ready_before : line_field z.whole.world.layout z.whole.world.words Cached state_offset (line_number e) ≢ ready_state
+  not_ready_before two = own_sure.unready unready (sym (line_tie z.whole.world.layout z.whole.world.words e own_sure.here state_offset (omega arith)) ∙ two)
 
-  state_here : offset ≡ 0 → line_field z.whole.world.layout put Cached 0 (line_number e) ≡ y
-  state_here first = ap (λ (n : Lines). n.state (line_number e)) (state_lines z.whole.world.layout z.whole.world.words row e own_sure offset y small first) ∙ columns.here (line_field z.whole.world.layout z.whole.world.words Cached 0) (line_number e) (line_number e) y refl
+  state_here : offset ≡ 0 → line_field z.whole.world.layout put Cached state_offset (line_number e) ≡ y
+  state_here first = ap (λ (n : Lines). n.state (line_number e)) (state_lines z.whole.world.layout z.whole.world.words row e own_sure offset y small first) ∙ columns.here (line_field z.whole.world.layout z.whole.world.words Cached state_offset) (line_number e) (line_number e) y refl
 
   -- where the line is READY then, it was made so
-  made_ready : line_field z.whole.world.layout put Cached 0 (line_number e) ≡ 2 → (offset ≡ 0) × (y ≡ 2) × (ready ≡ true)
+  made_ready : line_field z.whole.world.layout put Cached state_offset (line_number e) ≡ ready_state → (offset ≡ 0) × (y ≡ 2) × (ready ≡ true)
   made_ready two = ⊎_elim (λ made. made)
       (λ not_made. absurd (⊎_elim
       (λ (first : offset ≡ 0). not_made.1 first (sym (state_here first) ∙ two))
@@ -176,7 +178,7 @@ module _ (z : Layered) (i : ℕ) (p : Party) (is : IsLayered z) (there : get_ele
   own_retiring w' u h left right same_layout lines stage = record {
     alone = λ n two says. ⊎_elim
         (λ (own : n ≡ line_number e).
-        let made = made_ready (subst (λ m. line_field z.whole.world.layout put Cached 0 m ≡ 2) own (sym (ap (λ (k : Lines). k.state n) lines) ∙ two)) in
+        let made = made_ready (subst (λ m. line_field z.whole.world.layout put Cached state_offset m ≡ ready_state) own (sym (ap (λ (k : Lines). k.state n) lines) ∙ two)) in
         (is_ready ∙ made.2, own ∙ sym number))
         (λ (apart : n ≢ line_number e). absurd (
         let was = is.retiring i p (Some e) u h left right there at_line stage in
@@ -185,7 +187,7 @@ module _ (z : Layered) (i : ℕ) (p : Party) (is : IsLayered z) (there : get_ele
         let no : true ≡ false = sym mine.0 ∙ unready in cc))
         (cases_eq n (line_number e));
     waits = λ now_ready says. ⊎_elim
-        (λ made. ap (λ (k : Lines). k.state (line_number after)) lines ∙ ap (line_field z.whole.world.layout put Cached 0) number ∙ state_here made.0 ∙ made.1)
+        (λ made. ap (λ (k : Lines). k.state (line_number after)) lines ∙ ap (line_field z.whole.world.layout put Cached state_offset) number ∙ state_here made.0 ∙ made.1)
         (λ not_made. absurd (let no : true ≡ false = sym now_ready ∙ is_ready ∙ not_made.0 in cc))
         (marks_ready z i p is there e offset y seen ready marks);
   }
@@ -197,14 +199,14 @@ module _ (z : Layered) (i : ℕ) (p : Party) (is : IsLayered z) (there : get_ele
       record {
         alone = λ n two says. ⊎_elim
             (λ (mine : n ≡ line_number e). absurd (
-            let made = made_ready (subst (λ m. line_field z.whole.world.layout put Cached 0 m ≡ 2) mine (sym (ap (λ (k : Lines). k.state n) lines) ∙ two)) in
+            let made = made_ready (subst (λ m. line_field z.whole.world.layout put Cached state_offset m ≡ ready_state) mine (sym (ap (λ (k : Lines). k.state n) lines) ∙ two)) in
             let beyond : (o : ℕ) → 0 < o → o < 8 → line_field z.whole.world.layout z.whole.world.words Cached o n ≡ line_field z.whole.world.layout put Cached o n =
             λ o positive within. ap (λ (s : ℕ → ℕ). s n) (sym (field_else z.whole.world.layout z.whole.world.words row e own_sure offset y small o within (λ same. let first = made.0 in omega arith))) in
             let kind = beyond 1 (omega arith) (omega arith) ∙ sym (ap (λ (k : Lines). k.kind n) lines) ∙ says.0 in
             let node = beyond 2 (omega arith) (omega arith) ∙ sym (ap (λ (k : Lines). k.node n) lines) ∙ says.1 in
-            let merge = own_ready z i p is there e at_line offset y small seen ready after marks is_ready waits made.2 (sym (ap (line_field z.whole.world.layout z.whole.world.words Cached 1) mine) ∙ kind) in
-            let its_node = line_tie z.whole.world.layout z.whole.world.words e own_sure.here 2 (omega arith) ∙ merge.4.node (line_in z.whole.world.layout z.whole.world.words e.caller e.number) own_sure.seen in
-            let one : merge.2.node ≡ right.node = sym its_node ∙ sym (ap (line_field z.whole.world.layout z.whole.world.words Cached 2) mine) ∙ node in
+            let merge = own_ready z i p is there e at_line offset y small seen ready after marks is_ready waits made.2 (sym (ap (line_field z.whole.world.layout z.whole.world.words Cached kind_offset) mine) ∙ kind) in
+            let its_node = line_tie z.whole.world.layout z.whole.world.words e own_sure.here line_node_offset (omega arith) ∙ merge.4.node (line_in z.whole.world.layout z.whole.world.words e.caller e.number) own_sure.seen in
+            let one : merge.2.node ≡ right.node = sym its_node ∙ sym (ap (line_field z.whole.world.layout z.whole.world.words Cached line_node_offset) mine) ∙ node in
             differ (is.whole.joint.lawful.alone j i right.node q p at_q there (subst (λ (s : Stage). HoldsNode s right.node) (sym stage) (inr refl)) (subst (λ (s : Stage). HoldsNode s right.node) (sym merge.3) (inr one)))))
             (λ (apart : n ≢ line_number e). was.alone n (sym (else_was 0 n (omega arith) apart) ∙ sym (ap (λ (k : Lines). k.state n) lines) ∙ two)
             (sym (else_was 1 n (omega arith) apart) ∙ sym (ap (λ (k : Lines). k.kind n) lines) ∙ says.0, sym (else_was 2 n (omega arith) apart) ∙ sym (ap (λ (k : Lines). k.node n) lines) ∙ says.1))
@@ -223,8 +225,8 @@ module _ (z : Layered) (i : ℕ) (p : Party) (is : IsLayered z) (there : get_ele
           let callers : d.caller ≡ e.caller = omega arith in
           differ (is.whole.joint.callers j i theirs.party mine.party theirs.there mine.there (sym theirs.own ∙ callers ∙ mine.own))
 
-      still : (held : Option HeldLine) → get_elem? z.whole.lines j ≡ some held → IfSome held (λ d. d.ready ≡ true → SaysMerge (turn_facts z.whole.world is.holder u) (line_number d) right.node → (lines_in z.whole.world.layout z.whole.world.words Cached).state (line_number d) ≡ 2)
-          → IfSome held (λ d. d.ready ≡ true → SaysMerge (turn_facts w' is.holder u) (line_number d) right.node → (turn_facts w' is.holder u).line.state (line_number d) ≡ 2)
+      still : (held : Option HeldLine) → get_elem? z.whole.lines j ≡ some held → IfSome held (λ d. d.ready ≡ true → SaysMerge (turn_facts z.whole.world is.holder u) (line_number d) right.node → (lines_in z.whole.world.layout z.whole.world.words Cached).state (line_number d) ≡ ready_state)
+          → IfSome held (λ d. d.ready ≡ true → SaysMerge (turn_facts w' is.holder u) (line_number d) right.node → (turn_facts w' is.holder u).line.state (line_number d) ≡ ready_state)
       still None at_d was = tt
       still (Some d) at_d was = λ d_ready says.
           let apart = apart_line d at_d in
@@ -253,7 +255,7 @@ line_retiring z i p is there a x line after debt none is_beside whole besides he
 line_retiring z i p is there a x line after debt none is_beside whole besides here_line (takes {c = c} {j = k} caller low empty_state) waits j q own u h left right at_q at_own stage =
     let l = z.whole.world.layout in
     same_retiring z i p is there a line after debt none is_beside whole besides
-    (λ n small. ap (λ (v : List ℕ). line_field l v Cached n) (set-get_or z.whole.world.words (line_address l c k 0) 0)) here_line
+    (λ n small. ap (λ (v : List ℕ). line_field l v Cached n) (set-get_or z.whole.world.words (line_address l c k state_offset) 0)) here_line
     (λ other f was. record { alone = λ n two says. absurd (was.alone n two says); waits = λ ready. absurd (let no : false ≡ true = ready in cc) }) j q own u h left right at_q at_own stage
 line_retiring z i p is there a x line after debt none is_beside whole besides here_line (looks_up {x = y} {offset = o} {e = e} {seen = seen} within learnt blind) waits j q own u h left right at_q at_own stage =
     let l = z.whole.world.layout in

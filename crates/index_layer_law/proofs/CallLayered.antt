@@ -7,9 +7,11 @@ use Rattle.pm_words.specs.declared.layout.Layout.{Layout}
 use Rattle.pm_words.specs.declared.action.Action.{Action}
 use Rattle.pm_words.specs.Locations.{Updater, Cached, Durable, at}
 use Rattle.pm_words.specs.Rows.{acted, got}
+use Rattle.pm_words.specs.Codes.{free_status, live_status, merge_kind, ready_state, empty_state}
 use Rattle.data_node.specs.Spots.{Spot, updated}
 use Rattle.data_node.specs.Lists.{anchor_in}
 use Rattle.data_node.proofs.SpotLemmas.{updated-same}
+use Rattle.data_node.specs.Lines.{kind_offset, line_node_offset, state_offset}
 use Rattle.call_stages.specs.declared.once.Once.{Once}
 use Rattle.call_stages.specs.declared.once.Placed.{Placed}
 use Rattle.call_stages.specs.Stages.{Stage, Held, Grip, Gone, Joins, HoldsNode, IsSwitched, Tells}
@@ -113,10 +115,10 @@ module _ (z : Layered) (i : ℕ) (p : Party) (is : IsLayered z) (there : get_ele
       of (Some e) there_e = is.whole.joint.sure i e there_e
 
   -- what the party's line says, by what it knows of that
-  says : (e : HeldLine) (right : Grip) → SureLine l words e → IsOfMerge e right → ((lines_in l words Cached).kind (line_number e) ≡ 2) × ((lines_in l words Cached).node (line_number e) ≡ right.node)
+  says : (e : HeldLine) (right : Grip) → SureLine l words e → IsOfMerge e right → ((lines_in l words Cached).kind (line_number e) ≡ merge_kind) × ((lines_in l words Cached).node (line_number e) ≡ right.node)
   says e right sure of_merge = (
-    line_tie l words e sure.here 1 (omega arith) ∙ of_merge.kind (line_in l words e.caller e.number) sure.seen,
-    line_tie l words e sure.here 2 (omega arith) ∙ of_merge.node (line_in l words e.caller e.number) sure.seen,
+    line_tie l words e sure.here kind_offset (omega arith) ∙ of_merge.kind (line_in l words e.caller e.number) sure.seen,
+    line_tie l words e sure.here line_node_offset (omega arith) ∙ of_merge.node (line_in l words e.caller e.number) sure.seen,
   )
 
   gives_ready : GivesReady l g words w.base w.history law.row p.caller p.index p.since i is.holder p.stage t
@@ -156,10 +158,10 @@ module _ (z : Layered) (i : ℕ) (p : Party) (is : IsLayered z) (there : get_ele
 
   -- merges that are to give their right nodes back
   blind_empty : (e : HeldLine) → SureLine l words e → e.ready ≡ true → ((s : Spot) → Tells e.seen s → s 0 ≡ 0) → ⊥
-  blind_empty e sure is_ready empty_state =
+  blind_empty e sure is_ready is_empty =
       let now = line_in l words e.caller e.number in
-      let none : updated now 0 2 0 ≡ 0 = empty_state (updated now 0 2) ((sure.waits is_ready).blind now 2 sure.seen) in
-      let two : updated now 0 2 0 ≡ 2 = updated-same now 0 2 in
+      let none : updated now state_offset ready_state state_offset ≡ empty_state = is_empty (updated now state_offset ready_state) ((sure.waits is_ready).blind now ready_state sure.seen) in
+      let two : updated now state_offset ready_state state_offset ≡ ready_state = updated-same now state_offset ready_state in
       absurd (omega arith)
 
   own_retiring : (u : Turning) (h : Held) (left right : Grip) → t ≡ Joins h left right Gone → IsRetiring (turn_facts w is.holder u) after right
@@ -168,8 +170,8 @@ module _ (z : Layered) (i : ℕ) (p : Party) (is : IsLayered z) (there : get_ele
       was_one : (other : Grip) → other.node ≡ right.node → IsRetiring (turn_facts w is.holder u) line other → IsRetiring (turn_facts w is.holder u) line right
       was_one other same was = record { alone = λ j two said. was.alone j two (said.0, said.1 ∙ sym same); waits = keep line was.waits }
         where
-          keep : (own : Option HeldLine) → IfSome own (λ e. e.ready ≡ true → SaysMerge (turn_facts w is.holder u) (line_number e) other.node → (lines_in l words Cached).state (line_number e) ≡ 2)
-              → IfSome own (λ e. e.ready ≡ true → SaysMerge (turn_facts w is.holder u) (line_number e) right.node → (lines_in l words Cached).state (line_number e) ≡ 2)
+          keep : (own : Option HeldLine) → IfSome own (λ e. e.ready ≡ true → SaysMerge (turn_facts w is.holder u) (line_number e) other.node → (lines_in l words Cached).state (line_number e) ≡ ready_state)
+              → IfSome own (λ e. e.ready ≡ true → SaysMerge (turn_facts w is.holder u) (line_number e) right.node → (lines_in l words Cached).state (line_number e) ≡ ready_state)
           keep None waits = tt
           keep (Some e) waits = λ is_ready said. waits is_ready (said.0, said.1 ∙ sym same)
 
@@ -184,7 +186,7 @@ module _ (z : Layered) (i : ℕ) (p : Party) (is : IsLayered z) (there : get_ele
       of_line (inr gone) was = subst (λ own. IsRetiring (turn_facts w is.holder u) own right) (sym gone.0) (let_go line sure_line gone.1 was)
 
       -- a node that becomes GONE was LIVE
-      fresh : (own : Option HeldLine) → HasLine own (λ e. e.ready ≡ false) → (other : Grip) → other.node ≡ right.node → f.status other.node ≡ 1 → IsRetiring (turn_facts w is.holder u) own right
+      fresh : (own : Option HeldLine) → HasLine own (λ e. e.ready ≡ false) → (other : Grip) → other.node ≡ right.node → f.status other.node ≡ live_status → IsRetiring (turn_facts w is.holder u) own right
       fresh None unready other same bright = absurd unready
       fresh (Some e) unready other same bright = record {
         alone = λ j two said. absurd (let gone = merged z i p is there j two said.0 in let node = ap f.status (said.1 ∙ sym same) in omega arith);
@@ -198,7 +200,7 @@ module _ (z : Layered) (i : ℕ) (p : Party) (is : IsLayered z) (there : get_ele
           of_line how (fresh line unready other same sure.at.bright)
 
   -- switches that may not be durable yet
-  covers_after : (own : Option HeldLine) (n : ℕ) → f.status n ≢ 0 → CoversNode w own n → CoversNode w' own n
+  covers_after : (own : Option HeldLine) (n : ℕ) → f.status n ≢ free_status → CoversNode w own n → CoversNode w' own n
   covers_after own n busy = unready_by (IsCover (lines_in l words Cached) (lines_in l words Durable) (anchor_in (f.now n))) (IsCover (lines_in l words' Cached) (lines_in l words' Durable) (anchor_in ((facts w').now n))) own
       (λ e is_own unready cover.
       cover_same (lines_in l words Cached) (lines_in l words' Cached) (lines_in l words Durable) (lines_in l words' Durable) (anchor_in (f'.now n)) (anchor_in ((facts w').now n)) (line_number e)
@@ -208,13 +210,13 @@ module _ (z : Layered) (i : ℕ) (p : Party) (is : IsLayered z) (there : get_ele
   own_switched : (n : ℕ) → IsSwitched t n → CoversNode w' after n
   own_switched n is_switched = ⊎_elim
       (λ (was : IsSwitched p.stage n). kept_on (switched_busy l g f p.caller p.index p.since p.stage law.live (law.sure i p there) n was) (was_covered n was))
-      (λ (comes_so : (f.status n ≢ 0) × CoversNode w line n). kept_on comes_so.0 comes_so.1)
+      (λ (comes_so : (f.status n ≢ free_status) × CoversNode w line n). kept_on comes_so.0 comes_so.1)
       (arrives l g words w.base w.history law.row p.caller p.index p.since i is.holder k before line sure_line minds n is_switched)
     where
       was_covered : (m : ℕ) → IsSwitched p.stage m → CoversNode w line m
       was_covered m was = let covering = is.switched i p m there was in subst (λ o. CoversNode w o m) (some-injective _ _ (sym covering.1 ∙ at_line)) covering.2
 
-      kept_on : f.status n ≢ 0 → CoversNode w line n → CoversNode w' after n
+      kept_on : f.status n ≢ free_status → CoversNode w line n → CoversNode w' after n
       kept_on busy covers = covers_after after n busy (held_on l g words w.base w.history law.row p.caller p.index p.since i is.holder t line after (anchor_in (f.now n)) sure_line kept covers)
 
   lines_path : (u : Turning) → (turn_facts w' holder' u).line ≡ (turn_facts w is.holder u).line

@@ -4,10 +4,12 @@ use Rattle.std.specs.Prelude.{nat_lt}
 use Rattle.std.proofs.lemmas.Bool.{cond_both}
 use Rattle.pm_words.specs.declared.layout.Layout.{Layout}
 use Rattle.pm_words.specs.Locations.{Line, Cached, Durable, Node, at, address_of, node_words}
+use Rattle.pm_words.specs.Codes.{open_state}
 use Rattle.cat_key.specs.Names.{IsName, AreNameWords, words_of}
 use Rattle.cat_key.proofs.Packing.{name_bytes, get_or-words_of_below}
 use Rattle.data_node.specs.Spots.{Spot}
-use Rattle.data_node.specs.Lists.{anchor_in, key_of}
+use Rattle.data_node.specs.Lists.{anchor_in, key_of, anchor_offset, anchor_words}
+use Rattle.data_node.specs.Lines.{state_offset}
 use Rattle.call_stages.specs.Stages.{Grip, Tells}
 use Rattle.call_stages.specs.Lines.{HeldLine}
 use Rattle.call_stages.specs.Footings.{IsOpenOf}
@@ -68,17 +70,17 @@ spot_fits l words fits n o = cond_both (nat_lt n l.nodes && (nat_lt 0 o && nat_l
 
 -- an anchor that is a name's key is the name's words
 pub named_words : (l : Layout) (words : List ℕ) → ((k : ℕ) → slice_index words k < 2 ^ 64) → (n : ℕ) (name : List ℕ) → IsName name → anchor_in (spot_in l words n) ≡ key_of name
-    → AreNameWords (spot_in l words n 3 ∷ spot_in l words n 4 ∷ spot_in l words n 5 ∷ [])
+    → AreNameWords (anchor_words (spot_in l words n))
 unfolding anchor_in key_of words_of
 named_words l words fits n name named is =
     let small : (k : ℕ) → slice_index (words_of name) k < 2 ^ 64 = get_or-words_of_below name (name_bytes name named) in
-    let told = words_told (spot_in l words n 3) (spot_in l words n 4) (spot_in l words n 5) (slice_index (words_of name) 0) (slice_index (words_of name) 1) (slice_index (words_of name) 2)
+    let told = words_told (spot_in l words n anchor_offset) (spot_in l words n (anchor_offset + 1)) (spot_in l words n (anchor_offset + 2)) (slice_index (words_of name) 0) (slice_index (words_of name) 1) (slice_index (words_of name) 2)
     (spot_fits l words fits n 4) (spot_fits l words fits n 5) (small 1) (small 2) is in
     (name, named, λ k. sym told.first k ∷ sym told.second k ∷ sym told.third k ∷ [])
 
 -- A line that is OPEN for a node, and durably so, covers the node's anchor.
 pub record IsOpenNumber (l : Layout) (words : List ℕ) (anchor j : ℕ) : Type 0 where
-  pub state : (lines_in l words Cached).state j ≡ 1
+  pub state : (lines_in l words Cached).state j ≡ open_state
   pub covers : IsCover (lines_in l words Cached) (lines_in l words Durable) anchor j
 
 pub open_covers : (l : Layout) (words : List ℕ) (e : HeldLine) (node : Grip) (t : Spot) → SureLine l words e → IsOpenOf e node → Tells node.seen t → AreNameWords (t 3 ∷ t 4 ∷ t 5 ∷ [])
@@ -87,8 +89,8 @@ open_covers l words e node t sure open_ told named =
     let both = clean_lines_are_durable l words e sure open_.durable in
     let now = line_in l words e.caller e.number in
     let safe = safe_line l words e.caller e.number in
-    let state : (lines_in l words Cached).state (line_number e) ≡ 1 = line_tie l words e sure.here 0 (omega arith) ∙ open_.open_state now both.0 in
-    let safe_state : (lines_in l words Durable).state (line_number e) ≡ 1 = safe_tie l words e sure.here 0 (omega arith) ∙ open_.open_state safe both.1 in
+    let state : (lines_in l words Cached).state (line_number e) ≡ open_state = line_tie l words e sure.here state_offset (omega arith) ∙ open_.open_state now both.0 in
+    let safe_state : (lines_in l words Durable).state (line_number e) ≡ open_state = safe_tie l words e sure.here state_offset (omega arith) ∙ open_.open_state safe both.1 in
     record {
       state = state;
       covers = record {

@@ -6,6 +6,7 @@ use lib.ListN.{get_elem?}
 use Rattle.pm_words.specs.declared.layout.Layout.{Layout}
 use Rattle.pm_words.specs.declared.action.Action.{Action}
 use Rattle.pm_words.specs.Locations.{Cached}
+use Rattle.pm_words.specs.Codes.{gone_status, merge_kind, ready_state}
 use Rattle.version_lock.specs.Versions.{is_free_word, IsFree}
 use Rattle.version_lock.proofs.WordTests.{free_is}
 use Rattle.call_stages.specs.declared.once.Once.{Once}
@@ -226,7 +227,7 @@ module _ (z : Layered) (i : ℕ) (p : Party) (is : IsLayered z) (there : get_ele
       (cases_lt n w.layout.nodes)
 
   -- READY lines of merges are of GONE nodes
-  pub merged : (j : ℕ) → (lines_in w.layout w.words Cached).state j ≡ 2 → (lines_in w.layout w.words Cached).kind j ≡ 2 → (facts w).status ((lines_in w.layout w.words Cached).node j) ≡ 2
+  pub merged : (j : ℕ) → (lines_in w.layout w.words Cached).state j ≡ ready_state → (lines_in w.layout w.words Cached).kind j ≡ merge_kind → (facts w).status ((lines_in w.layout w.words Cached).node j) ≡ gone_status
   merged j ready kind =
       let active = is.active in
       let law = (is.rows active.0 active.1 active.2 active.3).law in

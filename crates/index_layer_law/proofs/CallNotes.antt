@@ -7,7 +7,9 @@ use Rattle.pm_words.specs.Locations.{Word, Location, Line, Cached, Durable, Vola
 use Rattle.pm_words.specs.Rows.{IsRow}
 use Rattle.pm_words.proofs.Apart.{at-set_other}
 use Rattle.data_node.specs.Lists.{anchor_in}
+use Rattle.data_node.specs.Lines.{kind_offset, line_node_offset, state_offset}
 use Rattle.pm_words.specs.Offsets.{stamp_offset}
+use Rattle.pm_words.specs.Codes.{empty_state, merge_kind, open_state, ready_state}
 use Rattle.call_stages.specs.Stages.{IsAmong}
 use Rattle.call_stages.specs.Lines.{HeldLine, Marks, fills, opens, readies}
 use Rattle.index_law.specs.Facts.{Facts}
@@ -69,7 +71,7 @@ module _ (l : Layout) (words : List ℕ) (row : IsRow l words) (e : HeldLine) (s
   safe_same : (o : ℕ) → o < 8 → line_field l stored Durable o ≡ line_field l words Durable o
   safe_same o within = column-same l words stored (line_count l) (λ j. Durable (line_word o j)) (λ j there. at-set_other l words p (Durable (line_word o j)) y has (omega arith, omega arith, within) (λ same. cc))
 
-  stamp_same : volatile_field l stored 2 ≡ volatile_field l words 2
+  stamp_same : volatile_field l stored stamp_offset ≡ volatile_field l words stamp_offset
   stamp_same = column-same l words stored l.nodes (λ n. Volatile n stamp_offset) (λ n there. at-set_other l words p (Volatile n stamp_offset) y has (there, omega arith) (λ same. cc))
 
   pub layer_same : HasSameLayer l words stored
@@ -92,7 +94,7 @@ module _ (l : Layout) (words : List ℕ) (row : IsRow l words) (e : HeldLine) (s
   lines = lines_in l words Cached
 
   -- where none of the anchor's words is stored
-  plain_lines : (state kind node : ℕ → ℕ) → line_field l stored Cached 0 ≡ state → line_field l stored Cached 1 ≡ kind → line_field l stored Cached 2 ≡ node → offset < 3
+  plain_lines : (state kind node : ℕ → ℕ) → line_field l stored Cached state_offset ≡ state → line_field l stored Cached kind_offset ≡ kind → line_field l stored Cached line_node_offset ≡ node → offset < 3
       → lines_in l stored Cached ≡ record { state = state; kind = kind; node = node; anchor = lines.anchor }
   plain_lines state kind node is_state is_kind is_node low =
       let l3 = field_else 3 (omega arith) (λ same. omega arith) in
@@ -136,13 +138,13 @@ module _ (l : Layout) (words : List ℕ) (row : IsRow l words) (e : HeldLine) (s
     path : (changed : Lines) → lines_in l stored Cached ≡ changed → after ≡ record F { line = changed }
     path changed is = ap (known l g f holder) (rest_path changed is)
 
-    fills_moved : offset ≢ 0 → lines.state number ≡ 0 → Moved F after
-    fills_moved some_offset empty_state = ⊎_elim
-        (λ (one : offset ≡ 1). inr (subst (OtherStep F) (sym (path (record lines { kind = set_at lines.kind number y }) (kind_lines one))) (others.notes_kind number y empty_state)))
+    fills_moved : offset ≢ 0 → lines.state number ≡ empty_state → Moved F after
+    fills_moved some_offset is_empty = ⊎_elim
+        (λ (one : offset ≡ 1). inr (subst (OtherStep F) (sym (path (record lines { kind = set_at lines.kind number y }) (kind_lines one))) (others.notes_kind number y is_empty)))
         (λ (not_one : offset ≢ 1). ⊎_elim
-        (λ (two : offset ≡ 2). inr (subst (OtherStep F) (sym (path (record lines { node = set_at lines.node number y }) (node_lines two))) (others.notes_node number y empty_state)))
+        (λ (two : offset ≡ 2). inr (subst (OtherStep F) (sym (path (record lines { node = set_at lines.node number y }) (node_lines two))) (others.notes_node number y is_empty)))
         (λ (not_two : offset ≢ 2). inr (subst (OtherStep F) (sym (path (record lines { anchor = set_at lines.anchor number ((lines_in l stored Cached).anchor number) }) (anchor_lines (omega arith))))
-        (others.notes_anchor number ((lines_in l stored Cached).anchor number) empty_state)))
+        (others.notes_anchor number ((lines_in l stored Cached).anchor number) is_empty)))
         (cases_eq offset 2))
         (cases_eq offset 1)
 
@@ -151,17 +153,17 @@ module _ (l : Layout) (words : List ℕ) (row : IsRow l words) (e : HeldLine) (s
 
 -- A mark on a line is such a step. A line that becomes READY is of a merge only once that is ripe.
 pub marks_moved : (l : Layout) (words : List ℕ) (row : IsRow l words) (e : HeldLine) (sure : SureLine l words e) (offset y : ℕ) (small : offset < 8) (seen : List (ℕ × ℕ)) (ready : Bool) → Marks e offset y seen ready
-    → (g : ℕ) (f : Facts) (holder : ℕ → ℕ) → (ready ≡ true → (lines_in l words Cached).kind (line_number e) ≡ 2 → IsRipe (now_known l g f (rest_in l words) holder) (line_number e))
+    → (g : ℕ) (f : Facts) (holder : ℕ → ℕ) → (ready ≡ true → (lines_in l words Cached).kind (line_number e) ≡ merge_kind → IsRipe (now_known l g f (rest_in l words) holder) (line_number e))
     → Moved (now_known l g f (rest_in l words) holder) (known l g f holder (rest_in l (stored l words row e sure offset y small)))
-marks_moved l words row e sure offset y small seen ready (fills some_offset unready empty_state) g f holder ripe =
-    fills_moved l words row e sure offset y small g f holder some_offset (line_tie l words e sure.here 0 (omega arith) ∙ empty_state (line_in l words e.caller e.number) sure.seen)
-marks_moved l words row e sure offset y small seen ready (opens unready empty_state) g f holder ripe =
-    state_moved l words row e sure 0 1 small g f holder refl (others.opens (line_number e) (line_tie l words e sure.here 0 (omega arith) ∙ empty_state (line_in l words e.caller e.number) sure.seen))
-marks_moved l words row e sure offset y small seen ready (readies unready durable open_state blind) g f holder ripe =
+marks_moved l words row e sure offset y small seen ready (fills some_offset unready is_empty) g f holder ripe =
+    fills_moved l words row e sure offset y small g f holder some_offset (line_tie l words e sure.here state_offset (omega arith) ∙ is_empty (line_in l words e.caller e.number) sure.seen)
+marks_moved l words row e sure offset y small seen ready (opens unready is_empty) g f holder ripe =
+    state_moved l words row e sure state_offset open_state small g f holder refl (others.opens (line_number e) (line_tie l words e sure.here state_offset (omega arith) ∙ is_empty (line_in l words e.caller e.number) sure.seen))
+marks_moved l words row e sure offset y small seen ready (readies unready durable is_open blind) g f holder ripe =
     let now = line_in l words e.caller e.number in
     let safe = safe_line l words e.caller e.number in
     let spared : (o : ℕ) → IsAmong e.dirty o → ⊥ = λ o among. subst (λ (dirty : List (ℕ × ℕ)). IsAmong dirty o) durable among in
     let clean : safe ≡ now = λ k o. sure.clean o (spared o) (λ given. absurd (let no : true ≡ false = sym given.ready ∙ unready in cc)) k in
-    let safe_state : (lines_in l words Durable).state (line_number e) ≡ 1 = safe_tie l words e sure.here 0 (omega arith) ∙ (λ k. clean k 0) ∙ open_state now sure.seen in
-    state_moved l words row e sure 0 2 small g f holder refl (others.readies (line_number e) (line_tie l words e sure.here 0 (omega arith) ∙ open_state now sure.seen)
+    let safe_state : (lines_in l words Durable).state (line_number e) ≡ open_state = safe_tie l words e sure.here state_offset (omega arith) ∙ (λ k. clean k 0) ∙ is_open now sure.seen in
+    state_moved l words row e sure state_offset ready_state small g f holder refl (others.readies (line_number e) (line_tie l words e sure.here state_offset (omega arith) ∙ is_open now sure.seen)
     (λ none. let one = sym safe_state ∙ none in omega arith) (anchor_safe_tie l words e sure.here ∙ ap anchor_in clean ∙ sym (anchor_line_tie l words e sure.here)) (ripe refl))

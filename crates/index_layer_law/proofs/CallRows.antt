@@ -2,6 +2,7 @@
 use Rattle.std.proofs.Common.{◌≡◌, ◌≢◌, ℕ, zero, suc, ◌<◌, inl, inr, List, None, refl, sym, ◌∙◌, subst, arith}
 use Rattle.pm_words.specs.Codes.{ready_state}
 use Rattle.pm_words.specs.Locations.{Cached}
+use Rattle.data_node.specs.Lines.{state_offset}
 use Rattle.updater_row_law.specs.search_layer.specs.Rows.{LayerWords, HasSameLayer}
 use Rattle.updater_row_law.specs.search_layer.specs.ChangeStages.{LayerAt}
 use Rattle.updater_row_law.specs.search_layer.specs.Kept.{kept, IsKept}
@@ -19,7 +20,7 @@ use Rattle.index_layer_law.proofs.CallMoves.{Moved}
 
 -- A row of words in which those of the layer are those of another, as are the READY lines.
 module _ (r : RowTerms) (ghosts ghosts' : Ghosts) (words words' : List ℕ) (same : HasSameLayer r.layout words words')
-    (lines : (j : ℕ) → line_field r.layout words Cached 0 j ≡ ready_state → (o : ℕ) → o < 8 → line_field r.layout words' Cached o j ≡ line_field r.layout words Cached o j) where
+    (lines : (j : ℕ) → line_field r.layout words Cached state_offset j ≡ ready_state → (o : ℕ) → o < 8 → line_field r.layout words' Cached o j ≡ line_field r.layout words Cached o j) where
   even_after : LayerRests r words → LayerRests r words'
   even_after rests = rest_stays r.layout words words' same rests
 
@@ -30,7 +31,7 @@ module _ (r : RowTerms) (ghosts ghosts' : Ghosts) (words words' : List ℕ) (sam
   being_read f t (suc (suc zero)) j seen sure = sure.0
   being_read f t (suc (suc (suc more))) j seen sure = sure.0
 
-  loaded_after : (j offset : ℕ) (seen : List ℕ) → line_field r.layout words Cached 0 j ≡ ready_state → HasLoaded r words j offset seen → HasLoaded r words' j offset seen
+  loaded_after : (j offset : ℕ) (seen : List ℕ) → line_field r.layout words Cached state_offset j ≡ ready_state → HasLoaded r words j offset seen → HasLoaded r words' j offset seen
   loaded_after j offset seen ready has = record {
     size = has.size;
     most = has.most;

@@ -5,6 +5,7 @@ use Rattle.std.proofs.lemmas.Bool.{cases_eq}
 use Rattle.pm_words.specs.declared.layout.Layout.{Layout}
 use Rattle.pm_words.specs.declared.action.Action.{Action}
 use Rattle.pm_words.specs.Rows.{IsRow}
+use Rattle.pm_words.specs.Codes.{gone_status, merge_kind, ready_state}
 use Rattle.version_lock.specs.Versions.{is_worn_word, IsFree, IsWorn}
 use Rattle.cat_history.specs.Maps.{Map}
 use Rattle.cat_history.specs.declared.op.Write.{Write}
@@ -67,10 +68,10 @@ module _ (l : Layout) (g : ℕ) (words : List ℕ) (base : Map) (history : List 
     pub holders : (n : ℕ) → HoldsNode s n → holder n ≡ i
     -- of the nodes that are held, it holds those that are its own
     pub own : (n : ℕ) → F.held n ≡ true → holder n ≡ i → HoldsNode s n
-    pub merged : (j : ℕ) → F.line.state j ≡ 2 → F.line.kind j ≡ 2 → f.status (F.line.node j) ≡ 2
+    pub merged : (j : ℕ) → F.line.state j ≡ ready_state → F.line.kind j ≡ merge_kind → f.status (F.line.node j) ≡ gone_status
 
   -- no READY line of a merge is of a listed node
-  not_merged : {s : Stage} → Context s → (j n : ℕ) → F.line.state j ≡ 2 → F.line.kind j ≡ 2 → F.line.node j ≡ n → IsListed f n → ⊥
+  not_merged : {s : Stage} → Context s → (j n : ℕ) → F.line.state j ≡ ready_state → F.line.kind j ≡ merge_kind → F.line.node j ≡ n → IsListed f n → ⊥
   not_merged context j n ready kind is listed =
       let live = context.live.live n listed in let gone = context.merged j ready kind in let same = ap f.status is in omega arith
 
@@ -85,14 +86,14 @@ module _ (l : Layout) (g : ℕ) (words : List ℕ) (base : Map) (history : List 
       (others.locks i n (listed_tells f n listed) (context.live.live n listed) (unheld (f.version n) g free)))
 
   unlock : {s : Stage} (context : Context s) (n w freed : ℕ) → freed ≡ w + 1 → f.version n ≡ w → IsOwnLock g w → holder n ≡ i
-      → ((j : ℕ) → F.line.state j ≡ 2 → F.line.kind j ≡ 2 → HoldsNode s (F.line.node j) → F.line.node j ≡ n) → (f.status n ≡ 2 → HasReadyMerge F n) → Moved F (after holder (with_version f n freed))
+      → ((j : ℕ) → F.line.state j ≡ ready_state → F.line.kind j ≡ merge_kind → HoldsNode s (F.line.node j) → F.line.node j ≡ n) → (f.status n ≡ gone_status → HasReadyMerge F n) → Moved F (after holder (with_version f n freed))
   unlock context n w freed next stands own mine last owner =
       inr (subst (λ v. others.OtherStep F (after holder (with_version f n v))) (sym next)
       (subst (others.OtherStep F) (sym (unlock_path l g f (rest_in l words) holder n w own))
       (others.unlocks i n (is_worn_word (w + 1) g) (held_is l g f (rest_in l words) holder n w stands own) mine
       (λ j ready kind held is. last j ready kind (context.own (F.line.node j) held is)) owner)))
 
-  listed_live : {s : Stage} → Context s → (n : ℕ) → IsListed f n → f.status n ≡ 2 → HasReadyMerge F n
+  listed_live : {s : Stage} → Context s → (n : ℕ) → IsListed f n → f.status n ≡ gone_status → HasReadyMerge F n
   listed_live context n listed gone = absurd (let live = context.live.live n listed in omega arith)
 
   -- the switch of a split

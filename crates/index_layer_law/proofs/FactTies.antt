@@ -1,5 +1,5 @@
 -- What the law of turns reads off a row, in terms of the facts of the index and of the words beside its nodes.
-use Rattle.std.proofs.Common.{◌≡◌, ℕ, ◌<◌, ◌==◌, ◌||◌, ◌&&◌, not, inl, inr, Bool, true, false, cond, List, [], ◌∷◌}
+use Rattle.std.proofs.Common.{◌≡◌, ℕ, ◌+◌, ◌<◌, ◌==◌, ◌||◌, ◌&&◌, not, inl, inr, Bool, true, false, cond, List, [], ◌∷◌}
 use Rattle.std.proofs.Common.{refl, ap, arith, subst}
 use Rattle.std.specs.Prelude.{nat_lt}
 use Rattle.std.proofs.lemmas.Bool.{eqb-true, eq-eqb, lt-ltb}
@@ -8,8 +8,9 @@ use Rattle.pm_words.specs.declared.action.Action.{Action}
 use Rattle.pm_words.specs.Locations.{Word, Location, Node, Volatile, Cached, Durable, at, node_words}
 use Rattle.pm_words.specs.Rows.{acted}
 use Rattle.version_lock.specs.Versions.{is_free_word, is_worn_word}
-use Rattle.data_node.specs.Lists.{ListNode, anchor_in, IsMember}
-use Rattle.pm_words.specs.Offsets.{stamp_offset}
+use Rattle.data_node.specs.Lists.{ListNode, anchor_in, IsMember, anchor_offset}
+use Rattle.data_node.specs.Lines.{kind_offset, line_node_offset}
+use Rattle.pm_words.specs.Offsets.{stamp_offset, status_offset, version_offset}
 use Rattle.call_stages.specs.Stages.{Stage}
 use Rattle.index_law.specs.Facts.{Facts, version_in, spot_in, status_in, IsListed}
 use Rattle.index_law.specs.Laws.{Allowed}
@@ -43,7 +44,7 @@ pub record Rest : Type 0 where
 
 abbrev pub rest_in : Layout → List ℕ → Rest
 rest_in l words = record {
-  stamp = volatile_field l words 2;
+  stamp = volatile_field l words stamp_offset;
   line = lines_in l words Cached;
   safe_line = lines_in l words Durable;
   layer = layer_words l words Cached;
@@ -68,11 +69,11 @@ known l g f holder rest = record {
   safe_layer = kept l rest.safe_layer;
 }
 
-pub version_tie : (l : Layout) (words : List ℕ) (n : ℕ) → node_field l words 0 n ≡ version_in l words n
+pub version_tie : (l : Layout) (words : List ℕ) (n : ℕ) → node_field l words version_offset n ≡ version_in l words n
 unfolding column version_in
 version_tie l words n = refl
 
-pub status_tie : (l : Layout) (words : List ℕ) (n : ℕ) → volatile_field l words 0 n ≡ status_in l words n
+pub status_tie : (l : Layout) (words : List ℕ) (n : ℕ) → volatile_field l words status_offset n ≡ status_in l words n
 unfolding column status_in
 status_tie l words n = refl
 
@@ -87,7 +88,7 @@ word_tie l words o n positive small =
     both true x = refl
     both false x = refl
 
-pub anchor_tie : (l : Layout) (words : List ℕ) (n : ℕ) → key_of (node_field l words 3 n) (node_field l words 4 n) (node_field l words 5 n) ≡ anchor_in (spot_in l words n)
+pub anchor_tie : (l : Layout) (words : List ℕ) (n : ℕ) → key_of (node_field l words anchor_offset n) (node_field l words (anchor_offset + 1) n) (node_field l words (anchor_offset + 2) n) ≡ anchor_in (spot_in l words n)
 unfolding anchor_in
 anchor_tie l words n =
     let first = word_tie l words 3 n (omega arith) (omega arith) in
@@ -104,7 +105,7 @@ facts_tie w holder t =
       listed = is_listed (facts w);
       anchor = λ n. anchor_tie l words n k;
       status = λ n. status_tie l words n k;
-      stamp = volatile_field l words 2;
+      stamp = volatile_field l words stamp_offset;
       held = λ n. not (is_free_word (version_tie l words n k) w.generation);
       holder = holder;
       worn = λ n. is_worn_word (version_tie l words n k) w.generation;
@@ -125,11 +126,11 @@ pub record RestStays (l : Layout) (words words' : List ℕ) : Type 0 where
 pub lines_same : (l : Layout) (words words' : List ℕ) (twin : Word → Location) → ((o : ℕ) → o < 8 → line_field l words' twin o ≡ line_field l words twin o) → lines_in l words' twin ≡ lines_in l words twin
 lines_same l words words' twin same =
     let l0 = same 0 (omega arith) in
-    let l1 = same 1 (omega arith) in
-    let l2 = same 2 (omega arith) in
-    let l3 = same 3 (omega arith) in
-    let l4 = same 4 (omega arith) in
-    let l5 = same 5 (omega arith) in
+    let l1 = same kind_offset (omega arith) in
+    let l2 = same line_node_offset (omega arith) in
+    let l3 = same anchor_offset (omega arith) in
+    let l4 = same (anchor_offset + 1) (omega arith) in
+    let l5 = same (anchor_offset + 2) (omega arith) in
     λ i. record { state = l0 i; kind = l1 i; node = l2 i; anchor = λ j. key_of (l3 i j) (l4 i j) (l5 i j) }
 
 pub rest_same : (l : Layout) (words words' : List ℕ) → RestStays l words words' → rest_in l words' ≡ rest_in l words

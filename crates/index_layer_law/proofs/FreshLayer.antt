@@ -54,8 +54,8 @@ module _ (l : Layout) (layout : IsLayout l) where
   some = let least = layout.nodes in omega arith
 
   -- of the row of its image only the status of node 0 has changed
-  elsewhere : (p : Location) → HasLocation l p → p ≢ Volatile 0 0 → at l words p ≡ at l row p
-  elsewhere p has other = at-set_other l row (Volatile 0 0) p live_status (some, omega arith) has other
+  elsewhere : (p : Location) → HasLocation l p → p ≢ Volatile 0 status_offset → at l words p ≡ at l row p
+  elsewhere p has other = at-set_other l row (Volatile 0 status_offset) p live_status (some, omega arith) has other
 
   twin_zero : (v : Word) → HasWord l v → fresh_word l v ≡ 0 → (at l words (Cached v) ≡ 0) × (at l words (Durable v) ≡ 0)
   twin_zero v has zero =
@@ -78,7 +78,7 @@ module _ (l : Layout) (layout : IsLayout l) where
     zero_column (line_count l) (λ j. Durable (line_word o j)) (λ j here. (twin_zero (line_word o j) (omega arith, omega arith, small) refl).1),
   )
 
-  stamp_zero : volatile_field l words 2 ≡ (λ n. 0)
+  stamp_zero : volatile_field l words stamp_offset ≡ (λ n. 0)
   stamp_zero = zero_column l.nodes (λ n. Volatile n stamp_offset) (λ n here. elsewhere (Volatile n stamp_offset) (here, omega arith) (λ e. let no : 2 ≡ 0 = ap offset_of e in omega arith) ∙ marked-at_volatile l (Volatile n stamp_offset) (here, omega arith) (omega arith) (λ e. cc))
     where
       offset_of : Location → ℕ
@@ -86,14 +86,14 @@ module _ (l : Layout) (layout : IsLayout l) where
       offset_of _ = 0
 
   -- node 0 is LIVE, and no other node is in use
-  status_is : volatile_field l words 0 ≡ (λ n. cond (n == 0) live_status free_status)
+  status_is : volatile_field l words status_offset ≡ (λ n. cond (n == 0) live_status free_status)
   unfolding column
   status_is =
-      let each : (n : ℕ) → volatile_field l words 0 n ≡ cond (n == 0) live_status free_status =
+      let each : (n : ℕ) → volatile_field l words status_offset n ≡ cond (n == 0) live_status free_status =
       λ n. elim (cases_eq n 0) [
         | inl first ↦
-            subst (λ m. volatile_field l words 0 m ≡ cond (m == 0) live_status free_status) (sym first)
-            (ap (λ b. cond b (at l words (Volatile 0 0)) 0) (lt-ltb 0 l.nodes some) ∙ at-set_same l row (Volatile 0 0) live_status (marked_row-row l layout).whole (some, omega arith))
+            subst (λ m. volatile_field l words status_offset m ≡ cond (m == 0) live_status free_status) (sym first)
+            (ap (λ b. cond b (at l words (Volatile 0 status_offset)) 0) (lt-ltb 0 l.nodes some) ∙ at-set_same l row (Volatile 0 status_offset) live_status (marked_row-row l layout).whole (some, omega arith))
         | inr other ↦
             cond_both (nat_lt n l.nodes) (at l words (Volatile n status_offset)) 0 (λ (x : ℕ). x ≡ 0)
             (λ here. let lt = ltb-true n l.nodes here in elsewhere (Volatile n status_offset) (lt, omega arith) (λ e. other (ap number_of e)) ∙ marked-at_volatile l (Volatile n status_offset) (lt, omega arith) (omega arith) (λ e. cc))
@@ -113,7 +113,7 @@ module _ (l : Layout) (layout : IsLayout l) where
   fresh : HasFreshLayer l image_row
   fresh = fresh_is_at_rest l layout
 
-  image_else : (p : Location) → HasLocation l p → p ≢ Volatile 0 0 → p ≢ Mark 1 0 → at l words p ≡ at l image_row p
+  image_else : (p : Location) → HasLocation l p → p ≢ Volatile 0 status_offset → p ≢ Mark 1 0 → at l words p ≡ at l image_row p
   image_else p has other unmarked = elsewhere p has other ∙ marked-else l p has unmarked
 
   layer_same : layer_words l words Cached ≡ layer_words l image_row Cached
@@ -129,7 +129,7 @@ module _ (l : Layout) (layout : IsLayout l) where
   marks_are : IsMarkSet (layer_marks l image_row) (layer_marks l words) (Leaf 0) 1
   marks_are =
       let set = mark_is_set l image_row 1 0 1 (row_of-row l (fresh_words l) (fresh_image l layout)).whole (mark_has l) in
-      let same : layer_marks l words ≡ layer_marks l row = store_leaves_marks l row (Volatile 0 0) live_status (some, omega arith) tt in
+      let same : layer_marks l words ≡ layer_marks l row = store_leaves_marks l row (Volatile 0 status_offset) live_status (some, omega arith) tt in
       record {
         may = tt;
         here = ap (λ (m : Marks). m 1 0) same ∙ set.here;

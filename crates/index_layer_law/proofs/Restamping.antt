@@ -94,25 +94,25 @@ module _ (z : Layered) (n y : ℕ) (is : IsLayered z) (here : n < z.whole.world.
       (line_number e) lines_are safe_lines_are (ap (λ (f : Facts). anchor_in (f.now m)) same_facts))
 
   -- but for the stamps the law of turns knows the same
-  same_turn : (u : Turning) → turn_facts w' is.holder u ≡ record (turn_facts w is.holder u) { stamp = volatile_field l words' 2 }
+  same_turn : (u : Turning) → turn_facts w' is.holder u ≡ record (turn_facts w is.holder u) { stamp = volatile_field l words' stamp_offset }
   same_turn u =
       facts_tie w' is.holder u
-      ∙ (λ k. known l w.generation (same_facts k) is.holder (record { stamp = volatile_field l words' 2; line = lines_are k; safe_line = safe_lines_are k; layer = layer_stays.cached k; safe_layer = layer_stays.durable k; marks = layer_stays.marks k; root = layer_stays.root k }))
-      ∙ sym (ap (λ (f : TurnFacts). record f { stamp = volatile_field l words' 2 }) (facts_tie w is.holder u))
+      ∙ (λ k. known l w.generation (same_facts k) is.holder (record { stamp = volatile_field l words' stamp_offset; line = lines_are k; safe_line = safe_lines_are k; layer = layer_stays.cached k; safe_layer = layer_stays.durable k; marks = layer_stays.marks k; root = layer_stays.root k }))
+      ∙ sym (ap (λ (f : TurnFacts). record f { stamp = volatile_field l words' stamp_offset }) (facts_tie w is.holder u))
 
-  stamp_else : (m : ℕ) → m ≢ n → volatile_field l words' 2 m ≡ volatile_field l w.words 2 m
+  stamp_else : (m : ℕ) → m ≢ n → volatile_field l words' stamp_offset m ≡ volatile_field l w.words stamp_offset m
   stamp_else m other = column-alike l w.words words' l.nodes (λ k. Volatile k stamp_offset) m (λ there. elsewhere (Volatile m stamp_offset) (there, omega arith) (λ e. other (ap node_at e)))
 
   module _ (has_some : at z.whole.world.layout z.whole.world.words (Volatile n stamp_offset) ≢ 0) (still : y ≢ 0) where
-    forth : (m : ℕ) → volatile_field l w.words 2 m ≡ 0 → volatile_field l words' 2 m ≡ 0
+    forth : (m : ℕ) → volatile_field l w.words stamp_offset m ≡ 0 → volatile_field l words' stamp_offset m ≡ 0
     forth m none = elim (cases_eq m n) [
-      | inl e ↦ absurd (has_some (sym (column-here l w.words l.nodes (λ k. Volatile k stamp_offset) n here) ∙ ap (volatile_field l w.words 2) (sym e) ∙ none))
+      | inl e ↦ absurd (has_some (sym (column-here l w.words l.nodes (λ k. Volatile k stamp_offset) n here) ∙ ap (volatile_field l w.words stamp_offset) (sym e) ∙ none))
       | inr other ↦ stamp_else m other ∙ none
     ]
 
-    back : (m : ℕ) → volatile_field l words' 2 m ≡ 0 → volatile_field l w.words 2 m ≡ 0
+    back : (m : ℕ) → volatile_field l words' stamp_offset m ≡ 0 → volatile_field l w.words stamp_offset m ≡ 0
     back m none = elim (cases_eq m n) [
-      | inl e ↦ absurd (still (sym (at-set_same l w.words (Volatile n stamp_offset) y is.whole.joint.lawful.row.whole has) ∙ sym (column-here l words' l.nodes (λ k. Volatile k stamp_offset) n here) ∙ ap (volatile_field l words' 2) (sym e) ∙ none))
+      | inl e ↦ absurd (still (sym (at-set_same l w.words (Volatile n stamp_offset) y is.whole.joint.lawful.row.whole has) ∙ sym (column-here l words' l.nodes (λ k. Volatile k stamp_offset) n here) ∙ ap (volatile_field l words' stamp_offset) (sym e) ∙ none))
       | inr other ↦ sym (stamp_else m other) ∙ none
     ]
 
@@ -122,7 +122,7 @@ module _ (z : Layered) (n y : ℕ) (is : IsLayered z) (here : n < z.whole.world.
       rooted = subst (λ (v : LayerWords). kept l v 0 ≢ None) (sym layer_stays.cached) row.rooted;
       sure = rest_stays l w.words words' layer_stays row.sure;
       law = subst (λ (f : TurnFacts). TurnLawful (columns.terms_of (terms_of w u)) f turns.Resting) (sym (same_turn u))
-          (with_stamps (columns.terms_of (terms_of w u)) (turn_facts w is.holder u) (volatile_field l words' 2) forth back row.law);
+          (with_stamps (columns.terms_of (terms_of w u)) (turn_facts w is.holder u) (volatile_field l words' stamp_offset) forth back row.law);
     }
 
 pub stamp_keeps_layer : StampKeepsLayer

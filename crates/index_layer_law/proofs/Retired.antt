@@ -1,6 +1,7 @@
 -- What is retired, where the log lines stay.
 use Rattle.std.proofs.Common.{◌≡◌, true, Option, Some, None, sym, ap, ◌∙◌}
 use Rattle.std.specs.Prelude.{IfSome}
+use Rattle.pm_words.specs.Codes.{ready_state}
 use Rattle.call_stages.specs.Stages.{Grip}
 use Rattle.call_stages.specs.Lines.{HeldLine}
 use Rattle.updater_law.specs.Covers.{Lines}
@@ -15,6 +16,6 @@ retiring_lines f f' line right same is = record {
   waits = still line is.waits;
 }
   where
-    still : (line : Option HeldLine) → IfSome line (λ e. e.ready ≡ true → SaysMerge f (line_number e) right.node → f.line.state (line_number e) ≡ 2) → IfSome line (λ e. e.ready ≡ true → SaysMerge f' (line_number e) right.node → f'.line.state (line_number e) ≡ 2)
+    still : (line : Option HeldLine) → IfSome line (λ e. e.ready ≡ true → SaysMerge f (line_number e) right.node → f.line.state (line_number e) ≡ ready_state) → IfSome line (λ e. e.ready ≡ true → SaysMerge f' (line_number e) right.node → f'.line.state (line_number e) ≡ ready_state)
     still None waits = tt
     still (Some e) waits = λ ready says. ap (λ (n : Lines). n.state (line_number e)) same ∙ waits ready (ap (λ (n : Lines). n.kind (line_number e)) (sym same) ∙ says.0, ap (λ (n : Lines). n.node (line_number e)) (sym same) ∙ says.1)

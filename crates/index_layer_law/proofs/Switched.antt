@@ -4,10 +4,12 @@ use Rattle.std.specs.Prelude.{IfSome}
 use Rattle.pm_words.specs.declared.layout.Layout.{Layout}
 use Rattle.pm_words.specs.declared.action.Action.{Action}
 use Rattle.pm_words.specs.Rows.{IsRow}
+use Rattle.pm_words.specs.Codes.{free_status, live_status}
 use Rattle.cat_history.specs.Maps.{Map}
 use Rattle.cat_history.specs.declared.op.Write.{Write}
 use Rattle.cat_key.specs.Names.{IsName}
 use Rattle.data_node.specs.Lists.{next_offset, anchor_in, key_of}
+use Rattle.data_node.specs.Lines.{state_offset}
 use Rattle.call_stages.specs.declared.once.Once.{Once}
 use Rattle.call_stages.specs.declared.once.Placed.{Placed}
 use Rattle.call_stages.specs.Stages.{Stage, Held, Grip, Phase, Filling, Linked, Parted, Pace, Gathered, Joined, Gone, Idle, Saw, Wears, Reads, Holds, Eyes, Splits, Leaves, Meets, Joins, IsSwitched}
@@ -43,7 +45,7 @@ unready_by P Q None by has = absurd has
 unready_by P Q (Some e) by has = (has.0, by e refl has.0 has.1)
 
 -- A step of another party keeps the covers of each node that isn't FREE.
-pub other_covers : {F F' : TurnFacts} → OtherStep F F' → (n j : ℕ) → F.status n ≢ 0 → IsCover F.line F.safe_line (F.anchor n) j → IsCover F'.line F'.safe_line (F'.anchor n) j
+pub other_covers : {F F' : TurnFacts} → OtherStep F F' → (n j : ℕ) → F.status n ≢ free_status → IsCover F.line F.safe_line (F.anchor n) j → IsCover F'.line F'.safe_line (F'.anchor n) j
 other_covers (others.notes_kind k x empty) n j busy cover = record { state = cover.state; anchor = cover.anchor; safe_state = cover.safe_state; safe_anchor = cover.safe_anchor }
 other_covers (others.notes_node k x empty) n j busy cover = record { state = cover.state; anchor = cover.anchor; safe_state = cover.safe_state; safe_anchor = cover.safe_anchor }
 other_covers {F = F} (others.notes_anchor k x empty) n j busy cover =
@@ -61,7 +63,7 @@ other_covers (others.links m k i out live held target own open_state covers apar
 other_covers (others.unlinks m k i left right apart held other_held own up between open_state covers) n j busy cover = cover
 other_covers (others.goes m out live held) n j busy cover = cover
 
-pub moved_covers : (F F' : TurnFacts) → Moved F F' → (n j : ℕ) → F.status n ≢ 0 → IsCover F.line F.safe_line (F.anchor n) j → IsCover F'.line F'.safe_line (F'.anchor n) j
+pub moved_covers : (F F' : TurnFacts) → Moved F F' → (n j : ℕ) → F.status n ≢ free_status → IsCover F.line F.safe_line (F.anchor n) j → IsCover F'.line F'.safe_line (F'.anchor n) j
 moved_covers F F' (inl same) n j busy cover = subst (λ (G : TurnFacts). IsCover G.line G.safe_line (G.anchor n) j) (sym same) cover
 moved_covers F F' (inr step) n j busy cover = other_covers step n j busy cover
 
@@ -71,7 +73,7 @@ cover_same now now' safe safe' key key' j lines safe_lines keys cover =
     subst (λ n. IsCover n safe' key' j) (sym lines) (subst (λ s. IsCover now s key' j) (sym safe_lines) (subst (λ k. IsCover now safe k j) (sym keys) cover))
 
 -- The node of a switch isn't FREE.
-pub switched_busy : (l : Layout) (g : ℕ) (f : Facts) (caller index since : ℕ) (s : Stage) → AreLive l g f → Sure l g f caller index since s → (n : ℕ) → IsSwitched s n → f.status n ≢ 0
+pub switched_busy : (l : Layout) (g : ℕ) (f : Facts) (caller index since : ℕ) (s : Stage) → AreLive l g f → Sure l g f caller index since s → (n : ℕ) → IsSwitched s n → f.status n ≢ free_status
 switched_busy l g f caller index since Idle live sure n is = absurd is
 switched_busy l g f caller index since (Saw m v w k) live sure n is = absurd is
 switched_busy l g f caller index since (Wears m v) live sure n is = absurd is
@@ -162,11 +164,11 @@ module _ (l : Layout) (g : ℕ) (words : List ℕ) (base : Map) (history : List 
 
   -- The party's switch is the one that it was, or is made by this step: its line covers the node, which isn't FREE.
   abbrev pub Arrives : Stage → Option HeldLine → ℕ → Type 0
-  Arrives s line n = IsSwitched s n ⊎ ((F.status n ≢ 0) × HasUnready (IsCover F.line F.safe_line (F.anchor n)) line)
+  Arrives s line n = IsSwitched s n ⊎ ((F.status n ≢ free_status) × HasUnready (IsCover F.line F.safe_line (F.anchor n)) line)
 
-  at_node : (line : Option HeldLine) (m n : ℕ) → m ≡ n → f.status m ≡ 1 → HasUnready (IsCover F.line F.safe_line (F.anchor m)) line
-      → (F.status n ≢ 0) × HasUnready (IsCover F.line F.safe_line (F.anchor n)) line
-  at_node line m n same bright has = subst (λ k. (F.status k ≢ 0) × HasUnready (IsCover F.line F.safe_line (F.anchor k)) line) same ((λ free. omega arith), has)
+  at_node : (line : Option HeldLine) (m n : ℕ) → m ≡ n → f.status m ≡ live_status → HasUnready (IsCover F.line F.safe_line (F.anchor m)) line
+      → (F.status n ≢ free_status) × HasUnready (IsCover F.line F.safe_line (F.anchor n)) line
+  at_node line m n same bright has = subst (λ k. (F.status k ≢ free_status) × HasUnready (IsCover F.line F.safe_line (F.anchor k)) line) same ((λ free. omega arith), has)
 
   open_line : (node : Grip) (line : Option HeldLine) → Tells node.seen (f.now node.node) → (name : List ℕ) → IsName name → anchor_in (f.now node.node) ≡ key_of name → IfSome line (SureLine l words) → HasLine line (λ e. IsOpenOf e node)
       → HasUnready (IsCover F.line F.safe_line (F.anchor node.node)) line
@@ -233,5 +235,5 @@ module _ (l : Layout) (g : ℕ) (words : List ℕ) (base : Map) (history : List 
     where
       of : (own : Option HeldLine) → IfSome own (SureLine l words) → IfSome own (λ e. IsKnownEmpty e ⊎ IsLeftToTurn t e) → HasUnready (IsCover F.line F.safe_line key) own → ⊥
       of None sure_own goes covers = covers
-      of (Some e) sure_own (inl empty) covers = covers.1.state (line_tie l words e sure_own.here 0 (omega arith) ∙ empty (line_in l words e.caller e.number) sure_own.seen)
+      of (Some e) sure_own (inl empty) covers = covers.1.state (line_tie l words e sure_own.here state_offset (omega arith) ∙ empty (line_in l words e.caller e.number) sure_own.seen)
       of (Some e) sure_own (inr left_so) covers = let no : false ≡ true = sym covers.0 ∙ left_so.ready in cc

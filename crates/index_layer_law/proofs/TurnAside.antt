@@ -10,7 +10,9 @@ use Rattle.pm_words.specs.Rows.{IsRow}
 use Rattle.cat_history.specs.Maps.{Map}
 use Rattle.cat_history.specs.declared.op.Write.{Write}
 use Rattle.data_node.specs.Lists.{members_from}
+use Rattle.data_node.specs.Lines.{state_offset}
 use Rattle.pm_words.specs.Offsets.{prev_offset, stamp_offset, status_offset, version_offset}
+use Rattle.pm_words.specs.Codes.{empty_state}
 use Rattle.index_law.specs.Facts.{facts_of, version_in, status_in, spot_in}
 use Rattle.index_law.specs.Lawful.{Lawful}
 use Rattle.index_law.specs.Lines.{line_in}
@@ -114,10 +116,10 @@ module _ (z : Whole) (after : List ℕ) (same : KeepsRest z.world.layout z.world
       }
 
 -- where no state of a line is another, or one is EMPTY then
-pub still_tended : (z : Whole) (after : List ℕ) → ((c j : ℕ) → (line_in z.world.layout after c j 0 ≡ 0) ⊎ (line_in z.world.layout after c j 0 ≡ line_in z.world.layout z.world.words c j 0))
+pub still_tended : (z : Whole) (after : List ℕ) → ((c j : ℕ) → (line_in z.world.layout after c j state_offset ≡ empty_state) ⊎ (line_in z.world.layout after c j state_offset ≡ line_in z.world.layout z.world.words c j state_offset))
     → AreTended z → AreTended (record z { world = record (z.world) { words = after } })
 still_tended z after states tended c j here low = ⊎_elim
-    (λ (empty : line_in z.world.layout after c j 0 ≡ 0). inl (inl empty))
+    (λ (empty : line_in z.world.layout after c j state_offset ≡ empty_state). inl (inl empty))
     (λ stays. ⊎_elim
     (λ none. inl (subst NeedsNoParty (sym stays) none))
     (λ (hand : IsInHand z c j). inr (record { number = hand.number; line = hand.line; there = hand.there; caller = hand.caller; index = hand.index }))

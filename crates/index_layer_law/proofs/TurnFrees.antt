@@ -2,7 +2,7 @@
 use Rattle.std.proofs.Common.{◌≡◌, ◌≢◌, ℕ, ◌<◌, ⊎_elim, Bool, cond, List, [], slice_set, refl, sym, ap, ◌∙◌, subst, arith}
 use Rattle.std.proofs.lemmas.Bool.{cases_eq, eq-eqb, ne_eqb}
 use Rattle.std.proofs.lemmas.List.{append-nil}
-use Rattle.pm_words.specs.Codes.{gone_status}
+use Rattle.pm_words.specs.Codes.{gone_status, free_status}
 use Rattle.pm_words.specs.declared.layout.Layout.{Layout}
 use Rattle.pm_words.specs.Locations.{Location, Clock, Volatile, Cached, HasLocation, address_of}
 use Rattle.pm_words.specs.Rows.{IsRow}
@@ -32,7 +32,7 @@ module _ (l : Layout) (g : ℕ) (f : Facts) (n : ℕ) (gone : f.status n ≡ gon
   abbrev freed : Facts
   freed = with_status f n 0
 
-  freed_here : (m : ℕ) → m ≡ n → freed.status m ≡ 0
+  freed_here : (m : ℕ) → m ≡ n → freed.status m ≡ free_status
   freed_here m e = ap (λ b. cond b 0 (f.status m)) (eq-eqb m n e)
 
   freed_else : (m : ℕ) → m ≢ n → freed.status m ≡ f.status m

@@ -4,7 +4,7 @@ use Rattle.std.specs.Prelude.{Option, Some, None, IfSome}
 use Rattle.std.proofs.lemmas.Bool.{cases_eq, eq-eqb, ne_eqb}
 use mathlib.Core.Option.{some}
 use lib.ListN.{get_elem?}
-use Rattle.pm_words.specs.Codes.{free_status, gone_status, ready_state}
+use Rattle.pm_words.specs.Codes.{free_status, gone_status, ready_state, merge_kind, empty_state}
 use Rattle.pm_words.specs.declared.layout.Layout.{Layout}
 use Rattle.pm_words.specs.Locations.{Location, Line, Volatile, Cached, Durable}
 use Rattle.pm_words.specs.Rows.{IsRow}
@@ -13,7 +13,8 @@ use Rattle.version_lock.specs.Versions.{IsFree, is_free_word}
 use Rattle.version_lock.proofs.WordTests.{free_word}
 use Rattle.data_node.specs.Spots.{Spot}
 use Rattle.data_node.specs.Lists.{anchor_in}
-use Rattle.pm_words.specs.Offsets.{status_offset}
+use Rattle.data_node.specs.Lines.{kind_offset, line_node_offset, state_offset}
+use Rattle.pm_words.specs.Offsets.{status_offset, version_offset}
 use Rattle.call_stages.specs.Stages.{Held, Grip, Gone, Stage, Joins, IsSwitched}
 use Rattle.call_stages.specs.Lines.{HeldLine}
 use Rattle.updater_law.specs.Covers.{set_at, IsCover}
@@ -61,8 +62,8 @@ not_false true is = refl
 not_false false is = absurd (let no : true ≡ false = is in cc)
 
 -- a node that isn't held, as the law of turns has it, has a free version word
-told_free : (l : Layout) (g : ℕ) (words : List ℕ) (n : ℕ) → not (is_free_word (node_field l words 0 n) g) ≡ false → IsFree (version_in l words n) g
-told_free l g words n is = subst (λ v. IsFree v g) (version_tie l words n) (free_word (node_field l words 0 n) g (not_false (is_free_word (node_field l words 0 n) g) is))
+told_free : (l : Layout) (g : ℕ) (words : List ℕ) (n : ℕ) → not (is_free_word (node_field l words version_offset n) g) ≡ false → IsFree (version_in l words n) g
+told_free l g words n is = subst (λ v. IsFree v g) (version_tie l words n) (free_word (node_field l words version_offset n) g (not_false (is_free_word (node_field l words version_offset n) g) is))
 
 -- the index afterwards
 pub record Keeps (z : Whole) (holder : ℕ → ℕ) (after : List ℕ) : Type 0 where
@@ -157,29 +158,29 @@ module _ (z : Whole) (holder : ℕ → ℕ) (t : Turning) (whole : IsWhole z) (t
     abbrev emptied : List ℕ
     emptied = slice_set words (line_at l j 0) 0
 
-    state_set : line_field l emptied Cached 0 ≡ set_at (line_field l words Cached 0) j 0
+    state_set : line_field l emptied Cached state_offset ≡ set_at (line_field l words Cached state_offset) j empty_state
     state_set = ap (λ φ. φ.line.state) (line_emptied r ghosts words j row.whole here).facts
 
-    two : line_in l words (j / 8) (j % 8) 0 ≡ 2
-    two = sym (number_tie l words j 0 here (omega arith)) ∙ ap (line_field l words Cached 0) (sym carried.line) ∙ carried.decided.at_hand.state
+    two : line_in l words (j / 8) (j % 8) state_offset ≡ ready_state
+    two = sym (number_tie l words j state_offset here (omega arith)) ∙ ap (line_field l words Cached state_offset) (sym carried.line) ∙ carried.decided.at_hand.state
 
     -- it is the line of no merge whose right node is held still
     released : (i : ℕ) (p : Party) (e : HeldLine) (h : Held) (left right : Grip) → get_elem? z.world.parties i ≡ some p
-        → p.stage ≡ Joins h left right Gone → (line_field l words Cached 1 (line_number e) ≡ 2) × (line_field l words Cached 2 (line_number e) ≡ right.node) → line_number e ≢ j
+        → p.stage ≡ Joins h left right Gone → (line_field l words Cached kind_offset (line_number e) ≡ merge_kind) × (line_field l words Cached line_node_offset (line_number e) ≡ right.node) → line_number e ≢ j
     released i p e h left right at_p stage merge same =
         let at_hand = carried.decided.at_hand in
         let own : carried.entry.line ≡ line_number e = carried.line ∙ sym same in
-        let kind : carried.entry.kind ≡ 2 =
-        sym at_hand.kind ∙ ap (line_field l words Cached 1) own ∙ merge.0 in
+        let kind : carried.entry.kind ≡ merge_kind =
+        sym at_hand.kind ∙ ap (line_field l words Cached kind_offset) own ∙ merge.0 in
         let node : carried.entry.node ≡ right.node =
-        sym at_hand.node ∙ ap (line_field l words Cached 2) own ∙ merge.1 in
+        sym at_hand.node ∙ ap (line_field l words Cached line_node_offset) own ∙ merge.1 in
         let knows = subst (λ (s : Stage). Sure l g f p.caller p.index p.since s) stage (whole.joint.lawful.sure i p at_p) in
         unfree (f.version right.node) g (own_of l g f p.caller p.index p.since (Joins h left right Gone) right.node (inr refl) knows)
-        (told_free l g words right.node (subst (λ m. not (is_free_word (node_field l words 0 m) g) ≡ false) node (carried.decided.free kind)))
+        (told_free l g words right.node (subst (λ m. not (is_free_word (node_field l words version_offset m) g) ≡ false) node (carried.decided.free kind)))
 
     keeps_emptied : IsRow l emptied → Keeps z holder emptied
     keeps_emptied row' =
-        let facts_same = facts-elsewhere l words z.world.base z.world.history (Cached (line_word 0 j)) 0 (omega arith, omega arith, omega arith) (λ n o d. cc, λ n d. cc) in
+        let facts_same = facts-elsewhere l words z.world.base z.world.history (Cached (line_word state_offset j)) 0 (omega arith, omega arith, omega arith) (λ n o d. cc, λ n d. cc) in
         record {
           whole = emptied_whole z (j / 8) (j % 8) (omega arith) (omega arith) row two row' whole;
           tended = still_tended z emptied (λ c k. ⊎_elim (λ empty. inl empty.1) (λ stays. inr stays) (line_either z (j / 8) (j % 8) (omega arith) (omega arith) row c k 0)) tended;
@@ -194,7 +195,7 @@ module _ (z : Whole) (holder : ℕ → ℕ) (t : Turning) (whole : IsWhole z) (t
           switched = λ i p line n at_p at_line is_switched. unready_by (IsCover (lines_in l words Cached) (lines_in l words Durable) (anchor_in (spot_in l words n)))
               (IsCover (lines_in l emptied Cached) (lines_in l emptied Durable) (anchor_in (spot_in l emptied n))) line
               (λ e is_own unready cover.
-              cover_same (record (lines_in l words Cached) { state = set_at (line_field l words Cached 0) j 0 }) (lines_in l emptied Cached) (lines_in l words Durable) (lines_in l emptied Durable)
+              cover_same (record (lines_in l words Cached) { state = set_at (line_field l words Cached state_offset) j empty_state }) (lines_in l emptied Cached) (lines_in l words Durable) (lines_in l emptied Durable)
               (anchor_in (spot_in l words n)) (anchor_in (spot_in l emptied n)) (line_number e)
               (ap (λ φ. φ.line) (line_emptied r ghosts words j row.whole here).facts) (ap (λ φ. φ.safe_line) (line_emptied r ghosts words j row.whole here).facts) (ap (λ (φ : Facts). anchor_in (φ.now n)) facts_same)
               (cover_apart (lines_in l words Cached) (lines_in l words Durable) (anchor_in (spot_in l words n)) (line_number e) j 0 (not_ready i line at_line e is_own unready) cover));
@@ -204,30 +205,30 @@ module _ (z : Whole) (holder : ℕ → ℕ) (t : Turning) (whole : IsWhole z) (t
         not_ready : (i : ℕ) (line : Option HeldLine) → get_elem? z.lines i ≡ some line → (e : HeldLine) → line ≡ Some e → e.ready ≡ false → line_number e ≢ j
         not_ready i line at_line e is_own unready same =
             let sure = whole.joint.sure i e (at_line ∙ ap some is_own) in
-            sure.unready unready (sym (line_tie l words e sure.here 0 (omega arith)) ∙ ap (line_field l words Cached 0) (same ∙ sym carried.line) ∙ carried.decided.at_hand.state)
+            sure.unready unready (sym (line_tie l words e sure.here state_offset (omega arith)) ∙ ap (line_field l words Cached state_offset) (same ∙ sym carried.line) ∙ carried.decided.at_hand.state)
 
         others : (offset : ℕ) → 0 < offset → offset < 8 → line_field l emptied Cached offset ≡ line_field l words Cached offset
         others offset positive small = column-same l words emptied (line_count l) (λ k. Cached (line_word offset k))
-            (λ k lt. at-set_other l words (Cached (line_word 0 j)) (Cached (line_word offset k)) 0 (omega arith, omega arith, omega arith) (omega arith, omega arith, small)
+            (λ k lt. at-set_other l words (Cached (line_word state_offset j)) (Cached (line_word offset k)) 0 (omega arith, omega arith, omega arith) (omega arith, omega arith, small)
             (λ e. let no : offset ≡ 0 = ap offset_in e in omega arith))
 
-        state_was : (k : ℕ) → line_field l emptied Cached 0 k ≡ 2 → line_field l words Cached 0 k ≡ 2
+        state_was : (k : ℕ) → line_field l emptied Cached state_offset k ≡ ready_state → line_field l words Cached state_offset k ≡ ready_state
         state_was k state = ⊎_elim
-            (λ (e : k ≡ j). absurd (let no : 0 ≡ 2 = sym (columns.here (line_field l words Cached 0) j k 0 e) ∙ sym (ap (λ s. s k) state_set) ∙ state in omega arith))
-            (λ other. sym (columns.other (line_field l words Cached 0) j k 0 other) ∙ sym (ap (λ s. s k) state_set) ∙ state)
+            (λ (e : k ≡ j). absurd (let no : 0 ≡ 2 = sym (columns.here (line_field l words Cached state_offset) j k 0 e) ∙ sym (ap (λ s. s k) state_set) ∙ state in omega arith))
+            (λ other. sym (columns.other (line_field l words Cached state_offset) j k 0 other) ∙ sym (ap (λ s. s k) state_set) ∙ state)
             (cases_eq k j)
 
         -- what a line says beside its state it said
-        said : (k node : ℕ) → (line_field l emptied Cached 1 k ≡ 2) × (line_field l emptied Cached 2 k ≡ node) → (line_field l words Cached 1 k ≡ 2) × (line_field l words Cached 2 k ≡ node)
+        said : (k node : ℕ) → (line_field l emptied Cached kind_offset k ≡ merge_kind) × (line_field l emptied Cached line_node_offset k ≡ node) → (line_field l words Cached kind_offset k ≡ merge_kind) × (line_field l words Cached line_node_offset k ≡ node)
         said k node merge = (ap (λ s. s k) (sym (others 1 (omega arith) (omega arith))) ∙ merge.0, ap (λ s. s k) (sym (others 2 (omega arith) (omega arith))) ∙ merge.1)
 
         still_waits : (i : ℕ) (p : Party) (line : Option HeldLine) (h : Held) (left right : Grip) → get_elem? z.world.parties i ≡ some p
-            → p.stage ≡ Joins h left right Gone → IfSome line (λ e. e.ready ≡ true → (line_field l words Cached 1 (line_number e) ≡ 2) × (line_field l words Cached 2 (line_number e) ≡ right.node) → line_field l words Cached 0 (line_number e) ≡ ready_state)
-            → IfSome line (λ e. e.ready ≡ true → (line_field l emptied Cached 1 (line_number e) ≡ 2) × (line_field l emptied Cached 2 (line_number e) ≡ right.node) → line_field l emptied Cached 0 (line_number e) ≡ ready_state)
+            → p.stage ≡ Joins h left right Gone → IfSome line (λ e. e.ready ≡ true → (line_field l words Cached kind_offset (line_number e) ≡ merge_kind) × (line_field l words Cached line_node_offset (line_number e) ≡ right.node) → line_field l words Cached state_offset (line_number e) ≡ ready_state)
+            → IfSome line (λ e. e.ready ≡ true → (line_field l emptied Cached kind_offset (line_number e) ≡ merge_kind) × (line_field l emptied Cached line_node_offset (line_number e) ≡ right.node) → line_field l emptied Cached state_offset (line_number e) ≡ ready_state)
         still_waits i p None h left right at_p stage waits = tt
         still_waits i p (Some e) h left right at_p stage waits = λ ready merge.
             ap (λ s. s (line_number e)) state_set
-            ∙ columns.other (line_field l words Cached 0) j (line_number e) 0 (released i p e h left right at_p stage (said (line_number e) right.node merge)) ∙ waits ready (said (line_number e) right.node merge)
+            ∙ columns.other (line_field l words Cached state_offset) j (line_number e) 0 (released i p e h left right at_p stage (said (line_number e) right.node merge)) ∙ waits ready (said (line_number e) right.node merge)
 
   -- each step
   pub touches_keep : (after : List ℕ) → IsRow l after → Touches r ghosts words after → Keeps z holder after

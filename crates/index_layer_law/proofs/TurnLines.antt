@@ -6,8 +6,10 @@ use Rattle.pm_words.specs.declared.layout.Layout.{Layout}
 use Rattle.pm_words.specs.Locations.{Word, Header, Line, Location, Clock, Cached, Durable, HasLocation, address_of}
 use Rattle.pm_words.specs.Rows.{IsRow}
 use Rattle.pm_words.proofs.Apart.{at-set_same, at-set_other}
+use Rattle.pm_words.specs.Codes.{empty_state, ready_state}
 use Rattle.data_node.specs.Spots.{Spot, updated}
 use Rattle.data_node.proofs.SpotLemmas.{updated-same, updated-other}
+use Rattle.data_node.specs.Lines.{state_offset}
 use Rattle.call_stages.specs.Stages.{Tells}
 use Rattle.call_stages.specs.Lines.{HeldLine, IsEntry}
 use Rattle.index_law.specs.Lawful.{Lawful}
@@ -22,8 +24,8 @@ use Rattle.index_law.proofs.Whole.{traced_same}
 use Rattle.index_law.proofs.Places.{caller_at, number_at, offset_at}
 
 -- what its party knows of a READY line stays once that is EMPTY
-module _ (l : Layout) (words after : List ℕ) (e : HeldLine) (sure : SureLine l words e) (two : line_in l words e.caller e.number 0 ≡ 2)
-    (line : (offset : ℕ) → line_in l after e.caller e.number offset ≡ updated (line_in l words e.caller e.number) 0 0 offset)
+module _ (l : Layout) (words after : List ℕ) (e : HeldLine) (sure : SureLine l words e) (two : line_in l words e.caller e.number state_offset ≡ ready_state)
+    (line : (offset : ℕ) → line_in l after e.caller e.number offset ≡ updated (line_in l words e.caller e.number) state_offset empty_state offset)
     (safe : (offset : ℕ) → safe_line l after e.caller e.number offset ≡ safe_line l words e.caller e.number offset) where
   abbrev now : Spot
   now = line_in l words e.caller e.number
@@ -38,12 +40,12 @@ module _ (l : Layout) (words after : List ℕ) (e : HeldLine) (sure : SureLine l
   ] sure.unready
 
   other_word : (offset : ℕ) → offset ≢ 0 → later offset ≡ now offset
-  other_word offset other = line offset ∙ updated-other now 0 0 offset other
+  other_word offset other = line offset ∙ updated-other now state_offset empty_state offset other
 
-  ready_again : updated later 0 2 ≡ updated now 0 2
-  ready_again = same_spots (updated later 0 2) (updated now 0 2) (λ offset. ⊎_elim
-      (λ (first : offset ≡ 0). ap (updated later 0 2) first ∙ updated-same later 0 2 ∙ sym (ap (updated now 0 2) first ∙ updated-same now 0 2))
-      (λ other. updated-other later 0 2 offset other ∙ other_word offset other ∙ sym (updated-other now 0 2 offset other))
+  ready_again : updated later state_offset ready_state ≡ updated now state_offset ready_state
+  ready_again = same_spots (updated later state_offset ready_state) (updated now state_offset ready_state) (λ offset. ⊎_elim
+      (λ (first : offset ≡ 0). ap (updated later state_offset ready_state) first ∙ updated-same later state_offset ready_state ∙ sym (ap (updated now state_offset ready_state) first ∙ updated-same now state_offset ready_state))
+      (λ other. updated-other later state_offset ready_state offset other ∙ other_word offset other ∙ sym (updated-other now state_offset ready_state offset other))
       (cases_eq offset 0))
 
   abbrev InHand : Spot → ℕ × ℕ → Type 0
@@ -67,13 +69,13 @@ module _ (l : Layout) (words after : List ℕ) (e : HeldLine) (sure : SureLine l
       let waits = sure.waits is_ready in
       record {
         here = sure.here;
-        seen = subst (Tells e.seen) (sym (same_spots later (updated now 0 0) line)) (waits.blind now 0 sure.seen);
+        seen = subst (Tells e.seen) (sym (same_spots later (updated now state_offset empty_state) line)) (waits.blind now empty_state sure.seen);
         clean = λ offset spared given. safe offset ∙ sure.clean offset spared given
             ∙ sym (other_word offset (λ first. given (record { ready = is_ready; state = first })));
         hand = hand_kept e.hand sure.hand;
         unready = λ own. absurd (let no : false ≡ true = sym own ∙ is_ready in cc);
         waits = λ _. record {
-          state = inl (line 0 ∙ updated-same now 0 0);
+          state = inl (line 0 ∙ updated-same now state_offset empty_state);
           entry = subst (IsEntry l) (sym ready_again) waits.entry;
           durable = λ offset other. safe offset ∙ waits.durable offset other ∙ sym (other_word offset other);
           blind = waits.blind;
@@ -93,12 +95,12 @@ module _ (z : Whole) (c j : ℕ) (here : c < z.world.layout.callers) (small : j 
   words = z.world.words
 
   abbrev p : Location
-  p = Cached (Line c j 0)
+  p = Cached (Line c j state_offset)
 
   abbrev emptied : List ℕ
   emptied = slice_set words (address_of l p) 0
 
-  has : HasLocation l (Cached (Line c j 0))
+  has : HasLocation l (Cached (Line c j state_offset))
   has = (here, small, omega arith)
 
   safe_kept : (d k offset : ℕ) → safe_line l emptied d k offset ≡ safe_line l words d k offset
@@ -109,13 +111,13 @@ module _ (z : Whole) (c j : ℕ) (here : c < z.world.layout.callers) (small : j 
       (λ e. ⊎_elim (λ n. n (ap caller_at e)) (λ rest. ⊎_elim (λ n. n (ap number_at e)) (λ n. n (ap offset_at e)) rest) other))
 
   module _ (row : IsRow z.world.layout z.world.words) where
-    state_empty : line_in l emptied c j 0 ≡ 0
-    state_empty = line-here l emptied c j 0 has ∙ at-set_same l words p 0 row.whole has
+    state_empty : line_in l emptied c j state_offset ≡ empty_state
+    state_empty = line-here l emptied c j state_offset has ∙ at-set_same l words p 0 row.whole has
 
-    line_own : (offset : ℕ) → line_in l emptied c j offset ≡ updated (line_in l words c j) 0 0 offset
+    line_own : (offset : ℕ) → line_in l emptied c j offset ≡ updated (line_in l words c j) state_offset empty_state offset
     line_own offset = ⊎_elim
-        (λ (first : offset ≡ 0). ap (line_in l emptied c j) first ∙ state_empty ∙ sym (ap (updated (line_in l words c j) 0 0) first ∙ updated-same (line_in l words c j) 0 0))
-        (λ other. line_else c j offset (inr (inr other)) ∙ sym (updated-other (line_in l words c j) 0 0 offset other))
+        (λ (first : offset ≡ 0). ap (line_in l emptied c j) first ∙ state_empty ∙ sym (ap (updated (line_in l words c j) state_offset empty_state) first ∙ updated-same (line_in l words c j) state_offset empty_state))
+        (λ other. line_else c j offset (inr (inr other)) ∙ sym (updated-other (line_in l words c j) state_offset empty_state offset other))
         (cases_eq offset 0)
 
     -- each word of a line is another only if it is that state
@@ -150,19 +152,19 @@ module _ (z : Whole) (c j : ℕ) (here : c < z.world.layout.callers) (small : j 
         (at-set_other l words p Clock 0 has tt (λ e. cc))
         (λ v there aside. at-set_other l words p (Cached v) 0 has there (λ e. aside (subst IsAside (sym (ap word_in e)) tt)))
 
-    sure_after : line_in l words c j 0 ≡ 2 → (e : HeldLine) → SureLine l words e → SureLine l emptied e
+    sure_after : line_in l words c j state_offset ≡ ready_state → (e : HeldLine) → SureLine l words e → SureLine l emptied e
     sure_after two e sure = ⊎_elim
         (λ (one : e.caller ≡ c). ⊎_elim
         (λ (other : e.number ≡ j). sure_emptied l words emptied e sure
-        ((λ i. line_in l words (one i) (other i) 0) ∙ two)
-        (λ offset. (λ i. line_in l emptied (one i) (other i) offset) ∙ line_own offset ∙ (λ i. updated (line_in l words (sym one i) (sym other i)) 0 0 offset))
+        ((λ i. line_in l words (one i) (other i) state_offset) ∙ two)
+        (λ offset. (λ i. line_in l emptied (one i) (other i) offset) ∙ line_own offset ∙ (λ i. updated (line_in l words (sym one i) (sym other i)) state_offset empty_state offset))
         (λ offset. safe_kept e.caller e.number offset))
         (λ other. sure_same l words emptied e (λ offset. line_else e.caller e.number offset (inr (inl other))) (λ offset. safe_kept e.caller e.number offset) sure)
         (cases_eq e.number j))
         (λ other. sure_same l words emptied e (λ offset. line_else e.caller e.number offset (inl other)) (λ offset. safe_kept e.caller e.number offset) sure)
         (cases_eq e.caller c)
 
-    pub emptied_whole : line_in l words c j 0 ≡ 2 → IsRow l emptied → IsWhole z → IsWhole (record z { world = record (z.world) { words = emptied } })
+    pub emptied_whole : line_in l words c j state_offset ≡ ready_state → IsRow l emptied → IsWhole z → IsWhole (record z { world = record (z.world) { words = emptied } })
     emptied_whole two row' whole =
         let lawful = lawful_emptied row' whole.joint.lawful in
         record {

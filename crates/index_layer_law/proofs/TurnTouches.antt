@@ -9,6 +9,7 @@ use Rattle.pm_words.specs.Locations.{Location, Root, Updater, Cached, Durable, V
 use Rattle.pm_words.specs.Rows.{IsRow, acted, got}
 use Rattle.pm_words.proofs.Apart.{at-set_same, at-set_other}
 use Rattle.pm_words.specs.Offsets.{stamp_offset, status_offset}
+use Rattle.data_node.specs.Lines.{state_offset}
 use Rattle.updater_row_law.specs.search_layer.specs.ChangeStages.{Changing, Changed, ChangeStep}
 use Rattle.updater_row_law.specs.search_layer.specs.RootLine.{RootLineStays}
 use Rattle.updater_row_law.specs.search_layer.proofs.RootLemmas.{root_step_keeps}
@@ -115,7 +116,7 @@ touched r ghosts words row {s = s} {t = t} (stamps {e = e} here) told is locked 
 touched r ghosts words row {s = s} {t = t} (empties {j = j} here) told is locked = record {
   touches = is_emptied j here is.law.sure refl;
   lock = still_locked r ghosts words row (slice_set words (line_at r.layout j 0) 0) s t
-      (at-set_other r.layout words (Cached (line_word 0 j)) Updater 0 (omega arith, omega arith, omega arith) tt (λ e. cc)) (λ e. cc) locked;
+      (at-set_other r.layout words (Cached (line_word state_offset j)) Updater 0 (omega arith, omega arith, omega arith) tt (λ e. cc)) (λ e. cc) locked;
 }
 touched r ghosts words row {s = s} {t = t} (passes_node {n = n} here other_status) told is locked = loads r ghosts words row (volatile_at r.layout n status_offset) s t (λ e. cc) locked
 touched r ghosts words row {s = s} {t = t} (sees_gone {n = n} here gone) told is locked = loads r ghosts words row (volatile_at r.layout n status_offset) s t (λ e. cc) locked

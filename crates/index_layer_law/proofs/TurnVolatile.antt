@@ -5,6 +5,7 @@ use Rattle.pm_words.specs.Locations.{Location, Cached, Volatile, at}
 use Rattle.pm_words.specs.Rows.{acted}
 use Rattle.pm_words.proofs.Apart.{at-set_other}
 use Rattle.pm_words.specs.Offsets.{status_offset}
+use Rattle.data_node.specs.Lines.{state_offset}
 use Rattle.updater_row_law.specs.Columns.{Ghosts, RowTerms, line_word}
 use Rattle.updater_row_law.specs.RowStages.{Resting}
 use Rattle.updater_row_law.specs.RowSteps.{RowStep}
@@ -23,7 +24,7 @@ touches_leave : (r : RowTerms) (ghosts : Ghosts) (words after : List ℕ) (n off
 touches_leave r ghosts words after n offset here most first second (is_aside same) = same.rest (Volatile n offset) (here, most) (kept_volatile n offset second)
 touches_leave r ghosts words after n offset here most first second (is_emptied j low carried is) =
     ap (λ (v : List ℕ). at r.layout v (Volatile n offset)) is
-    ∙ at-set_other r.layout words (Cached (line_word 0 j)) (Volatile n offset) 0 (omega arith, omega arith, omega arith) (here, most) (λ e. cc)
+    ∙ at-set_other r.layout words (Cached (line_word state_offset j)) (Volatile n offset) 0 (omega arith, omega arith, omega arith) (here, most) (λ e. cc)
 touches_leave r ghosts words after n offset here most first second (is_freed m low freeing is) =
     ap (λ (v : List ℕ). at r.layout v (Volatile n offset)) is
     ∙ at-set_other r.layout words (Volatile m status_offset) (Volatile n offset) 0 (low, omega arith) (here, most) (λ e. first (ap offset_in e))

@@ -3,6 +3,8 @@ use Rattle.std.proofs.Common.{◌≡◌, ℕ, ◌+◌, ◌≤◌, true, false, L
 use Rattle.pm_words.specs.declared.layout.Layout.{Layout}
 use Rattle.pm_words.specs.declared.action.Action.{Action}
 use Rattle.pm_words.specs.Rows.{got}
+use Rattle.pm_words.specs.Codes.{live_status}
+use Rattle.pm_words.specs.Offsets.{version_offset}
 use Rattle.version_lock.specs.Versions.{generation_of, IsFree}
 use Rattle.cat_history.specs.Maps.{Map}
 use Rattle.cat_history.specs.declared.op.Write.{Write}
@@ -45,7 +47,7 @@ module _ (l : Layout) (g : ℕ) (words : List ℕ) (base : Map) (history : List 
         };
       }
   watch_keeps before after a x known live (finds_live {n = n} here is) told knows =
-      let lit : f.status n ≡ 1 = status_in-here l words n here ∙ sym told ∙ is in
+      let lit : f.status n ≡ live_status = status_in-here l words n here ∙ sym told ∙ is in
       record {
         here = knows.here;
         known = knows.known;
@@ -132,7 +134,7 @@ module _ (r : RowTerms) (words : List ℕ) (base : Map) (history : List Write) (
   pub found_target : (key : List ℕ) (target : RowTarget) → IsShown r.layout r.generation φ key target → IsTargetFor r ghosts words key target
   found_target key target shown =
       let n : ℕ = target.node in
-      let stood : node_field r.layout words 0 n ≡ target.version → Stands φ n shown.sight = (λ same. shown.sure.stands (sym (version_tie r.layout words n) ∙ same)) in
+      let stood : node_field r.layout words version_offset n ≡ target.version → Stands φ n shown.sight = (λ same. shown.sure.stands (sym (version_tie r.layout words n) ∙ same)) in
       let anchors : (facts_in r ghosts words).anchor ≡ (λ m. anchor_in (φ.now m)) = λ k m. anchor_tie r.layout words m k in
       record {
         stands = λ same.
