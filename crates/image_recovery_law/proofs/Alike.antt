@@ -1,5 +1,5 @@
 -- Words that are the same but for bitmaps, and keys that are anchors of a list or of open lines.
-use Rattle.std.proofs.Common.{◌≡◌, ◌≢◌, ℕ, zero, suc, ◌%◌, ◌<◌, ◌≤◌, ◌⊎◌, ◌↔◌, Bool, true, List, [], ◌∷◌, slice_index, Option, Some, None, inl, inr, sym, subst, ap, ap₂, ◌∙◌, arith}
+use Rattle.std.proofs.Common.{◌≡◌, ◌≢◌, ℕ, ◌+◌, zero, suc, ◌%◌, ◌<◌, ◌≤◌, ◌⊎◌, ◌↔◌, Bool, true, List, [], ◌∷◌, slice_index, Option, Some, None, inl, inr, sym, subst, ap, ap₂, ◌∙◌, arith}
 use Rattle.std.proofs.lemmas.Bool.{cases_eq, cases_lt}
 use Rattle.cat_key.specs.Names.{IsName, AreNameWords, bytes_of, fingerprint_of}
 use Rattle.cat_history.specs.Maps.{Map, at}
@@ -7,6 +7,8 @@ use Rattle.data_node.specs.Slots.{prints_of}
 use Rattle.data_node.specs.Spots.{Spot, IsTidy, Means, Finds, name_words, value_in, print_in_spot, bitmap_offset, slot_offset, print_offset}
 use Rattle.data_node.specs.Lists.{ListNode, next_offset, three_words, anchor_in, IsMember, IsIn, IsChain, Rise}
 use Rattle.data_node.proofs.ListLemmas.{above}
+use Rattle.data_node.specs.Lists.{anchor_offset}
+use Rattle.pm_words.specs.Codes.{empty_state}
 use Rattle.updater_law.specs.Covers.{Lines, IsOpenFor}
 use Rattle.updater_law.specs.Covered.{ListHas, AreApart}
 use Rattle.image_recovery_law.specs.Columns.{IsTrim}
@@ -15,12 +17,12 @@ use Rattle.image_recovery_law.specs.Columns.{IsTrim}
 abbrev pub AlikeBut : Spot → Spot → Type 0
 AlikeBut s t = (offset : ℕ) → offset ≢ bitmap_offset → t offset ≡ s offset
 
-pub anchor_same : (s t : Spot) → t 3 ≡ s 3 → t 4 ≡ s 4 → t 5 ≡ s 5 → anchor_in t ≡ anchor_in s
+pub anchor_same : (s t : Spot) → t anchor_offset ≡ s anchor_offset → t (anchor_offset + 1) ≡ s (anchor_offset + 1) → t (anchor_offset + 2) ≡ s (anchor_offset + 2) → anchor_in t ≡ anchor_in s
 unfolding anchor_in
-anchor_same s t a b c = ap₂ (λ x y. three_words x y (t 5)) a b ∙ ap (λ z. three_words (s 3) (s 4) z) c
+anchor_same s t a b c = ap₂ (λ x y. three_words x y (t (anchor_offset + 2))) a b ∙ ap (λ z. three_words (s anchor_offset) (s (anchor_offset + 1)) z) c
 
 pub anchor_kept : (s t : Spot) → AlikeBut s t → anchor_in t ≡ anchor_in s
-anchor_kept s t same = anchor_same s t (same 3 (λ e. cc)) (same 4 (λ e. cc)) (same 5 (λ e. cc))
+anchor_kept s t same = anchor_same s t (same anchor_offset (λ e. cc)) (same (anchor_offset + 1) (λ e. cc)) (same (anchor_offset + 2) (λ e. cc))
 
 pub chain_kept : (now now' : ℕ → Spot) (here : ℕ) (list : List ListNode) → ((n : ℕ) → AlikeBut (now n) (now' n)) → IsChain now here list → IsChain now' here list
 chain_kept now now' here [] same chain = same here next_offset (λ e. cc) ∙ chain
@@ -104,7 +106,7 @@ nodes_apart now list lowest chain rise n k (inr is) (inl f) same =
 nodes_apart now list lowest chain rise n k (inr is) (inr is') same = members_apart now 0 0 list n k chain rise is is' same
 
 -- a key is that of a line which isn't empty, or it isn't
-open_below : (lines : Lines) (key bound : ℕ) → IsOpenFor lines key ⊎ ((j : ℕ) → j < bound → lines.state j ≢ 0 → lines.anchor j ≢ key)
+open_below : (lines : Lines) (key bound : ℕ) → IsOpenFor lines key ⊎ ((j : ℕ) → j < bound → lines.state j ≢ empty_state → lines.anchor j ≢ key)
 open_below lines key zero = inr (λ j lt. absurd (omega arith))
 open_below lines key (suc bound) = elim (open_below lines key bound) [
   | inl found ↦ inl found
@@ -117,7 +119,7 @@ open_below lines key (suc bound) = elim (open_below lines key bound) [
   ]
 ]
 
-pub open_or_not : (lines : Lines) (key bound : ℕ) → ((j : ℕ) → bound ≤ j → lines.state j ≡ 0) → IsOpenFor lines key ⊎ (IsOpenFor lines key → ⊥)
+pub open_or_not : (lines : Lines) (key bound : ℕ) → ((j : ℕ) → bound ≤ j → lines.state j ≡ empty_state) → IsOpenFor lines key ⊎ (IsOpenFor lines key → ⊥)
 open_or_not lines key bound beyond = elim (open_below lines key bound) [
   | inl found ↦ inl found
   | inr none ↦ inr (λ is. elim (cases_lt is.line bound) [ inl lt ↦ none is.line lt is.state is.anchor | inr past ↦ is.state (beyond is.line past) ])

@@ -2,10 +2,11 @@
 use Rattle.std.proofs.Common.{◌≡◌, ◌≢◌, ℕ, suc, ◌<◌, ◌≤◌, ◌⊎◌, ◌↔◌, List, inl, inr, refl, sym, subst, ap, ◌∙◌, arith}
 use Rattle.std.proofs.lemmas.Bool.{cases_eq, cases_lt}
 use Rattle.pm_words.specs.declared.layout.Layout.{Layout}
+use Rattle.pm_words.specs.Codes.{empty_state}
 use Rattle.cat_history.specs.Maps.{Map}
 use Rattle.version_lock.specs.Versions.{generation_of, IsGeneration}
 use Rattle.data_node.specs.Spots.{Means}
-use Rattle.data_node.specs.Lines.{IsFitLine}
+use Rattle.data_node.specs.Lines.{IsFitLine, state_offset}
 use Rattle.data_node.specs.Lists.{ListNode, range_in, IsIn}
 use Rattle.data_node.proofs.ListLemmas.{all_member}
 use Rattle.data_node.proofs.KeyLemmas.{anchor_named}
@@ -29,10 +30,10 @@ module _ (l : Layout) (list : List ListNode) (o : Columns) (sound : IsSound l li
   is_open_or_not key = open_or_not (lines_of o) key (line_count l) sound.nodes.beyond
 
   -- a line that isn't EMPTY is one of the log, and its anchor is a name
-  pub used_line : (j : ℕ) → o.line j 0 ≢ 0 → j < line_count l
+  pub used_line : (j : ℕ) → o.line j state_offset ≢ empty_state → j < line_count l
   used_line j used = elim (cases_lt j (line_count l)) [ inl lt ↦ lt | inr beyond ↦ absurd (used (sound.nodes.beyond j beyond)) ]
 
-  pub line_named : (j : ℕ) → o.line j 0 ≢ 0 → IsNameKey (line_anchor o j)
+  pub line_named : (j : ℕ) → o.line j state_offset ≢ empty_state → IsNameKey (line_anchor o j)
   line_named j used = elim (sound.nodes.lines j (used_line j used)) [
     | inl empty ↦ absurd (used empty)
     | inr entry ↦ let named = anchor_named (o.line j) (entry.name, entry.is_name, sym entry.anchor) in record { name = named.0; is_name = named.1; same = named.2 }
@@ -64,9 +65,9 @@ module _ (l : Layout) (list : List ListNode) (o : Columns) (sound : IsSound l li
     pub lines_anchor : (j : ℕ) → line_anchor i j ≡ line_anchor o j
     lines_anchor j = anchor_same (o.line j) (i.line j) (mends.nodes.fields j 3 (λ e. cc)) (mends.nodes.fields j 4 (λ e. cc)) (mends.nodes.fields j 5 (λ e. cc))
 
-    line_same : (j : ℕ) → i.line j 0 ≢ 0 → i.line j ≡ o.line j
+    line_same : (j : ℕ) → i.line j state_offset ≢ empty_state → i.line j ≡ o.line j
     line_same j used =
-        let state : i.line j 0 ≡ o.line j 0 = elim (mends.states j) [ inl same ↦ same | inr emptied ↦ absurd (used emptied.empty) ] in
+        let state : i.line j state_offset ≡ o.line j state_offset = elim (mends.states j) [ inl same ↦ same | inr emptied ↦ absurd (used emptied.empty) ] in
         let same : (offset : ℕ) → i.line j offset ≡ o.line j offset =
         λ offset. elim (cases_eq offset 0) [ inl e ↦ ap (i.line j) e ∙ state ∙ ap (o.line j) (sym e) | inr ne ↦ mends.nodes.fields j offset ne ] in
         λ k offset. same offset k
@@ -106,7 +107,7 @@ module _ (l : Layout) (list : List ListNode) (o : Columns) (sound : IsSound l li
         ]
 
     line_fits : (j : ℕ) → j < line_count l → IsFitLine l.nodes (i.line j)
-    line_fits j lt = elim (cases_eq (i.line j 0) 0) [
+    line_fits j lt = elim (cases_eq (i.line j state_offset) 0) [
       | inl empty ↦ inl empty
       | inr used ↦ subst (IsFitLine l.nodes) (sym (line_same j used)) (sound.nodes.lines j lt)
     ]

@@ -4,6 +4,7 @@ use Rattle.std.proofs.lemmas.Bool.{cases_eq}
 use Rattle.pm_words.specs.declared.layout.Layout.{Layout}
 use Rattle.data_node.specs.Spots.{bitmap_offset}
 use Rattle.data_node.specs.Lists.{ListNode}
+use Rattle.data_node.specs.Lines.{state_offset}
 use Rattle.layer_map.specs.Layers.{Layer, AreSame}
 use Rattle.updater_row_law.specs.search_layer.specs.Rows.{LayerWords, AreEven, IsLayerMix}
 use Rattle.updater_row_law.specs.tree_update.specs.Stages.{Aim, made_of}
@@ -112,9 +113,9 @@ module _ (now safe mix : Columns) (is : IsMix now safe mix) where
       ]
   mix_is (State m) even layer =
       let others : (n k : ℕ) → (n ≡ m → k ≢ 0) → safe.line n k ≡ now.line n k = λ n k apart. even.line n k (λ e. apart (let same : m ≡ n = cc in sym same)) in
-      elim (is.line m 0) [
-        | inl g ↦ inl (mix_now (State m) even layer (generation_first (State m) even (λ e. cc)) (spot_first (State m) even (λ n e. cc)) (all_first now.line safe.line mix.line m 0 is.line others g))
-        | inr g ↦ inr (mix_safe (State m) even layer (generation_second (State m) even (λ e. cc)) (spot_second (State m) even (λ n e. cc)) (all_second now.line safe.line mix.line m 0 is.line others g))
+      elim (is.line m state_offset) [
+        | inl g ↦ inl (mix_now (State m) even layer (generation_first (State m) even (λ e. cc)) (spot_first (State m) even (λ n e. cc)) (all_first now.line safe.line mix.line m state_offset is.line others g))
+        | inr g ↦ inr (mix_safe (State m) even layer (generation_second (State m) even (λ e. cc)) (spot_second (State m) even (λ n e. cc)) (all_second now.line safe.line mix.line m state_offset is.line others g))
       ]
 
   pub still_mends : (l : Layout) (list : List ListNode) (o : Columns) (part : Part) → IsStill l list o part now safe → Mends l list o mix

@@ -1,11 +1,13 @@
 -- What is planned on the first image serves at every moment, and leads from one move to the next.
 use Rattle.std.proofs.Common.{◌≡◌, ◌≢◌, ℕ, suc, ◌<◌, ◌⊎◌, Bool, true, false, List, [], ◌∷◌, inl, inr, refl, sym, subst, ◌∙◌}
 use Rattle.pm_words.specs.declared.layout.Layout.{Layout}
+use Rattle.pm_words.specs.Codes.{empty_state}
 use Rattle.cat_key.specs.Names.{IsName, words_of}
 use Rattle.data_node.specs.Slots.{IsLive}
 use Rattle.data_node.specs.Spots.{Spot, updated, IsTidy, IsLiveIn, name_words, bitmap_offset}
 use Rattle.data_node.specs.Lists.{ListNode, range_in, IsIn, StaysIn}
 use Rattle.data_node.proofs.SpotLemmas.{updated-same, updated-other}
+use Rattle.data_node.specs.Lines.{state_offset}
 use Rattle.image_recovery_law.specs.Columns.{Columns, anchor_of, line_anchor, IsSound, IsTrim, Mends}
 use Rattle.image_recovery_law.specs.Stages.{HasAnchor, LacksAnchor, Stage, Begins, Trims, Unsets, Sets, Empties, Wakes, Step, passes_node, all_trimmed, passes_unset, all_unset, passes_set, all_set, passes_empty, all_empty, Sure}
 use Rattle.image_recovery_law.specs.Moves.{Move, Plan, raise, trim, leaves_node, to_unsets, unset_line, leaves_unset, to_sets, set_line, leaves_set, to_empties, empty_line, leaves_empty, ends, raises_now, trims_now, unsets_now, sets_now, empties_now, IsNext, PlanReaches, PlanEnds, PlannedBitsServe, PlannedNoneServes}
@@ -66,13 +68,13 @@ module _ (l : Layout) (list : List ListNode) (o now safe : Columns) (sound : IsS
   past_node : (n : ℕ) (left : List ℕ) → IsIn list n → Sure l list o (Trims (n ∷ left)) now safe → StaysIn l.slots (range_in list n) (o.spot n) → Sure l list o (Trims left) now safe
   past_node n left is sure stays = pass (passes_node n left (planned_none_serves l list o now n sure.0.cached is stays)) sure
 
-  past_unset : (j : ℕ) → Sure l list o (Unsets j) now safe → (o.line j 0 ≡ 0) ⊎ HasAnchor list o j → Sure l list o (Unsets (suc j)) now safe
+  past_unset : (j : ℕ) → Sure l list o (Unsets j) now safe → (o.line j state_offset ≡ empty_state) ⊎ HasAnchor list o j → Sure l list o (Unsets (suc j)) now safe
   past_unset j sure why = pass (passes_unset j (elim why [ inl none ↦ inl (sure.1 j ∙ none) | inr has ↦ inr (has_now j sure.0.cached has) ])) sure
 
-  past_set : (j : ℕ) → Sure l list o (Sets j) now safe → (o.line j 0 ≡ 0) ⊎ LacksAnchor list o j → Sure l list o (Sets (suc j)) now safe
+  past_set : (j : ℕ) → Sure l list o (Sets j) now safe → (o.line j state_offset ≡ empty_state) ⊎ LacksAnchor list o j → Sure l list o (Sets (suc j)) now safe
   past_set j sure why = pass (passes_set j (elim why [ inl none ↦ inl (sure.1 j ∙ none) | inr lacks ↦ inr (lacks_now j sure.0.cached lacks) ])) sure
 
-  past_empty : (j : ℕ) → Sure l list o (Empties j) now safe → o.line j 0 ≡ 0 → Sure l list o (Empties (suc j)) now safe
+  past_empty : (j : ℕ) → Sure l list o (Empties j) now safe → o.line j state_offset ≡ empty_state → Sure l list o (Empties (suc j)) now safe
   past_empty j sure none = pass (passes_empty j (elim (sure.0.cached.states j) [ inl same ↦ same ∙ none | inr gone ↦ gone.empty ])) sure
 
   reaches : {s : Stage} {m : Move} {ms : List Move} → Plan l list o s (m ∷ ms) → Sure l list o s now safe → IsNext l list o now safe m ms

@@ -3,6 +3,7 @@ use Rattle.std.proofs.Common.{◌≡◌, ◌≢◌, ℕ, zero, suc, ◌+◌, ◌
 use Rattle.std.proofs.Common.{inr, refl, sym, subst, ap, ◌∙◌, arith}
 use Rattle.std.proofs.lemmas.Bool.{cases_eq, eq-eqb, ne_eqb, lt-ltb}
 use Rattle.pm_words.specs.declared.layout.Layout.{Layout}
+use Rattle.pm_words.specs.Codes.{gone_status, live_status}
 use Rattle.version_lock.specs.Versions.{generation_of, count_of}
 use Rattle.data_node.specs.Lists.{ListNode, IsMember, IsIn}
 use Rattle.updater_law.specs.Facts.{TurnFacts}
@@ -68,8 +69,8 @@ is_in-true list n (inr is) = elim (n == 0) as (λ b. (b || is_behind list n) ≡
 pub rest_is_lawful : RestIsLawful
 rest_is_lawful l list o now safe c stamp rests =
     let f : TurnFacts = recovered_facts l list now safe in
-    let lit : (n : ℕ) → is_in list n ≡ true → f.status n ≡ 1 = λ n is. ap (λ b. cond b 1 0) is in
-    let not_gone : (n : ℕ) → f.status n ≢ 2 = λ n. elim (is_in list n) as (λ b. cond {A = ℕ} b 1 0 ≡ 2 → ⊥) [ true ↦ λ (e : suc zero ≡ 2). omega arith | false ↦ λ (e : zero ≡ 2). omega arith ] in
+    let lit : (n : ℕ) → is_in list n ≡ true → f.status n ≡ live_status = λ n is. ap (λ b. cond b 1 0) is in
+    let not_gone : (n : ℕ) → f.status n ≢ gone_status = λ n. elim (is_in list n) as (λ b. cond {A = ℕ} b 1 0 ≡ 2 → ⊥) [ true ↦ λ (e : suc zero ≡ 2). omega arith | false ↦ λ (e : zero ≡ 2). omega arith ] in
     record {
       stamped_by = stamp;
       durable = λ k. ap (λ i. layer_kept l i k) rests.durable;

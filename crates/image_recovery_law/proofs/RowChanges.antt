@@ -1,14 +1,16 @@
 -- A change of the layer on a row of words: as it begins, step by step, and as it ends.
-use Rattle.std.proofs.Common.{◌≡◌, ◌≢◌, ℕ, zero, suc, ◌-◌, ◌^◌, ◌<◌, ◌≤◌, Bool, true, false, List, [], ◌∷◌, Some}
+use Rattle.std.proofs.Common.{◌≡◌, ◌≢◌, ℕ, ◌+◌, zero, suc, ◌-◌, ◌^◌, ◌<◌, ◌≤◌, Bool, true, false, List, [], ◌∷◌, Some}
 use Rattle.std.proofs.Common.{None, slice_index, inl, inr, refl, sym, subst, subst₂, ap, ◌∙◌, arith}
 use Rattle.std.specs.Prelude.{nat_lt}
 use Rattle.std.proofs.lemmas.Bool.{cases_eq, lt-ltb}
 use Rattle.pm_words.specs.declared.layout.Layout.{Layout}
 use Rattle.pm_words.specs.Locations.{Word, Header, Root, Node, Line, Leaf, Cell, Cached, Durable, part_of_word, at}
 use Rattle.pm_words.specs.Rows.{acted}
+use Rattle.pm_words.specs.Codes.{empty_state}
 use Rattle.cat_key.specs.Names.{words_of}
-use Rattle.data_node.specs.Lists.{ListNode, anchor_in}
+use Rattle.data_node.specs.Lists.{ListNode, anchor_in, anchor_offset}
 use Rattle.data_node.proofs.KeyLemmas.{key-number}
+use Rattle.data_node.specs.Lines.{state_offset}
 use Rattle.layer_map.specs.Keys.{key_number, IsKey}
 use Rattle.layer_map.specs.Layers.{Layer}
 use Rattle.layer_map.proofs.KeyLemmas.{zero_is_least}
@@ -117,7 +119,7 @@ line_key : (l : Layout) (words : List ℕ) (j word : ℕ) → ((k : ℕ) → sli
 line_key l words j word fits = record {
   whole = refl;
   fits = three_fit ((columns_in l words Cached).line j 3) ((columns_in l words Cached).line j 4) ((columns_in l words Cached).line j 5)
-      (unfit (has_line_word l j 3) _ (fits _)) (unfit (has_line_word l j 4) _ (fits _)) (unfit (has_line_word l j 5) _ (fits _));
+      (unfit (has_line_word l j anchor_offset) _ (fits _)) (unfit (has_line_word l j (anchor_offset + 1)) _ (fits _)) (unfit (has_line_word l j (anchor_offset + 2)) _ (fits _));
 }
 
 pub leads_somewhere : (node : ℕ) → Some node ≡ None → ⊥
@@ -125,7 +127,7 @@ leads_somewhere node e = cc
 
 -- No line has the zero key as its anchor, and that leads to node 0 at every moment.
 module _ (l : Layout) (list : List ListNode) (o : Columns) (sound : IsSound l list o) where
-  line_some : (j : ℕ) → o.line j 0 ≢ 0 → line_anchor o j ≢ 0
+  line_some : (j : ℕ) → o.line j state_offset ≢ empty_state → line_anchor o j ≢ 0
   line_some j busy none =
       let named = line_named l list o sound j busy in
       let least : 0 < key_number (words_of named.name) = zero_is_least named.name named.is_name in
@@ -138,7 +140,7 @@ module _ (l : Layout) (list : List ListNode) (o : Columns) (sound : IsSound l li
   pub zero_leads : (layer : Layer) → MendsLayer l o layer → layer 0 ≡ Some 0
   zero_leads layer mends = mends.same 0 zero_closed ∙ (sound.layer.covered 0 0 zero_closed).1 (inl refl, sound.nodes.makes.lowest)
 
-  rooted : (j word : ℕ) (before : Layer) → o.line j 0 ≢ 0 → MendsLayer l o before → IsRooted (aim_at o j word) before
+  rooted : (j word : ℕ) (before : Layer) → o.line j state_offset ≢ empty_state → MendsLayer l o before → IsRooted (aim_at o j word) before
   unfolding anchor_in
   rooted j word before busy mends takes = (line_some j busy, λ none. leads_somewhere 0 (sym (zero_leads before mends) ∙ none))
 

@@ -9,6 +9,7 @@ use Rattle.pm_words.specs.Locations.{node_words, word_at, at}
 use Rattle.pm_words.specs.Rows.{durable_row, row_of}
 use Rattle.pm_words.proofs.Made.{row_of-at, durable_row-at}
 use Rattle.pm_words.specs.Offsets.{version_offset}
+use Rattle.image_rules.specs.Rules.{generation_offset}
 use Rattle.updater_row_law.specs.search_layer.specs.Rows.{LayerWords, layer_words, image_layer_words}
 use Rattle.updater_row_law.specs.search_layer.proofs.RowLemmas.{images_alike}
 use Rattle.updater_row_law.specs.Columns.{line_count, line_word}
@@ -48,7 +49,7 @@ abbrev root_at : Word → ℕ
 root_at (Root o) = o
 root_at _ = 0
 
-pub generation_rest : (l : Layout) → IsRest l (Header 5)
+pub generation_rest : (l : Layout) → IsRest l (Header generation_offset)
 generation_rest l = let small : 5 < 8 = omega arith in (small, omega arith, λ e. cc)
 
 pub spare_low : (k : ℕ) → k < 2 → spare_word k ≡ Header (6 + k)
@@ -99,8 +100,8 @@ word_of _ = Root 0
 
 -- the same words, but for one perhaps, are the same columns, but for those that tell this one
 module _ (l : Layout) (word word' : Word → ℕ) (Kept : Word → Type 0) (same : (w : Word) → IsRest l w → Kept w → word' w ≡ word w) where
-  pub generation_same : Kept (Header 5) → word' (Header 5) ≡ word (Header 5)
-  generation_same kept = same (Header 5) (generation_rest l) kept
+  pub generation_same : Kept (Header generation_offset) → word' (Header generation_offset) ≡ word (Header generation_offset)
+  generation_same kept = same (Header generation_offset) (generation_rest l) kept
 
   pub spare_same : (k : ℕ) → Kept (spare_word k) → word_if (nat_lt k spare_count) (word' (spare_word k)) ≡ word_if (nat_lt k spare_count) (word (spare_word k))
   spare_same k kept = word_if-alike (nat_lt k spare_count) (word' (spare_word k)) (word (spare_word k)) (λ is. same (spare_word k) (spare_rest l k is) kept)

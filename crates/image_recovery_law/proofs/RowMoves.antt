@@ -8,6 +8,8 @@ use Rattle.pm_words.specs.Locations.{at}
 use Rattle.pm_words.specs.Rows.{acted, evicted}
 use Rattle.data_node.specs.Lists.{ListNode}
 use Rattle.data_node.specs.Spots.{bitmap_offset}
+use Rattle.data_node.specs.Lines.{state_offset}
+use Rattle.image_rules.specs.Rules.{generation_offset}
 use Rattle.layer_map.specs.Layers.{Layer}
 use Rattle.layer_map.specs.Places.{is_layer_word}
 use Rattle.updater_row_law.specs.search_layer.specs.Rows.{LayerWords, Marks, layer_words, layer_marks}
@@ -53,10 +55,10 @@ move_stores l list o words s t u w value whole sound known of_generation =
     let safe : Columns = columns_in l words Durable in
     let next : Sure l list o Raised (with_generation now (suc now.generation)) safe =
     steps_keep l list o now safe (with_generation now (suc now.generation)) safe Begins Raised sound known.sure raises in
-    stored l list o words (Store (address_of l (Cached (Header 5))) (suc o.generation)) (with_generation now (suc o.generation)) Raised
+    stored l list o words (Store (address_of l (Cached (Header generation_offset))) (suc o.generation)) (with_generation now (suc o.generation)) Raised
     (generation_stores l words (suc o.generation) whole)
     (subst (λ g. Sure l list o Raised (with_generation now (suc g)) safe) known.sure.2 next)
-    (tells_stored l words (Header 5) (suc o.generation) (omega arith) refl known.marks)
+    (tells_stored l words (Header generation_offset) (suc o.generation) (omega arith) refl known.marks)
 move_stores l list o words s t u w value whole sound known (of_bits n bits left within is fits) =
     let now : Columns = columns_in l words Cached in
     let safe : Columns = columns_in l words Durable in
@@ -67,9 +69,9 @@ move_stores l list o words s t u w value whole sound known (of_bits n bits left 
 move_stores l list o words s t u w value whole sound known (of_empty j within) =
     let now : Columns = columns_in l words Cached in
     let safe : Columns = columns_in l words Durable in
-    stored l list o words (Store (address_of l (Cached (line_word 0 j))) 0) (with_empty now j) (Emptied j) (empty_stores l words j whole within)
+    stored l list o words (Store (address_of l (Cached (line_word state_offset j))) 0) (with_empty now j) (Emptied j) (empty_stores l words j whole within)
     (steps_keep l list o now safe (with_empty now j) safe (Empties j) (Emptied j) sound known.sure (empties j))
-    (tells_stored l words (line_word 0 j) 0 (omega arith, omega arith, omega arith) refl known.marks)
+    (tells_stored l words (line_word state_offset j) 0 (omega arith, omega arith, omega arith) refl known.marks)
 
 pub move_ends : MoveEnds
 move_ends l list o words s t u w value sound known of_generation even = record {
@@ -87,7 +89,7 @@ move_ends l list o words s t u w value sound known (of_empty j within) even =
     let inside = line_here l j 0 within (omega arith) in
     record {
       sure = steps_keep l list o (columns_in l words Cached) (columns_in l words Durable) (columns_in l words Cached) (columns_in l words Durable) t u sound known.sure
-          (emptied j (word_if-here (has_line_word l j 0) (at l words (Durable (line_word 0 j))) inside ∙ even ∙ sym (word_if-here (has_line_word l j 0) (at l words (Cached (line_word 0 j))) inside)));
+          (emptied j (word_if-here (has_line_word l j state_offset) (at l words (Durable (line_word state_offset j))) inside ∙ even ∙ sym (word_if-here (has_line_word l j state_offset) (at l words (Cached (line_word state_offset j))) inside)));
       marks = known.marks;
     }
 

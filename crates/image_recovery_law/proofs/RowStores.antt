@@ -11,6 +11,8 @@ use Rattle.pm_words.specs.Rows.{evicted}
 use Rattle.pm_words.proofs.Apart.{at-set_other, at-set_same}
 use Rattle.pm_words.specs.Offsets.{version_offset}
 use Rattle.data_node.specs.Spots.{bitmap_offset}
+use Rattle.data_node.specs.Lines.{state_offset}
+use Rattle.image_rules.specs.Rules.{generation_offset}
 use Rattle.layer_map.specs.Places.{is_layer_word}
 use Rattle.updater_row_law.specs.search_layer.specs.Rows.{layer_words}
 use Rattle.updater_row_law.specs.search_layer.proofs.RowLemmas.{row_eviction_mixes, layer_words_stay, rows_alike}
@@ -47,7 +49,7 @@ abbrev line_at : Word → ℕ
 line_at (Line c j o) = 8 * c + j
 line_at _ = 0
 
-spare_no_generation : (k : ℕ) → spare_word k ≢ Header 5
+spare_no_generation : (k : ℕ) → spare_word k ≢ Header generation_offset
 spare_no_generation k = elim (cases_lt k 2) [
   | inl low ↦ λ e. let same : 6 + k ≡ 5 = ap header_at (sym (spare_low k low) ∙ e) in omega arith
   | inr high ↦ λ e. let same : 1 ≡ 0 + 0 = ap part_of_word (sym (spare_high k high) ∙ e) in omega arith
@@ -90,7 +92,7 @@ module _ (l : Layout) (words : List ℕ) (whole : length words ≡ row_words l) 
   abbrev Kept : Word → Type 0
   Kept w = w ≢ v
 
-  generation_kept : v ≢ Header 5 → after (Header 5) ≡ before (Header 5)
+  generation_kept : v ≢ Header generation_offset → after (Header generation_offset) ≡ before (Header generation_offset)
   generation_kept ne = generation_same l before after Kept cached_same (λ e. ne (sym e))
 
   spares_kept : ((k : ℕ) → spare_word k ≢ v) → (k : ℕ) → word_if (nat_lt k spare_count) (after (spare_word k)) ≡ word_if (nat_lt k spare_count) (before (spare_word k))
@@ -107,10 +109,10 @@ module _ (l : Layout) (words : List ℕ) (whole : length words ≡ row_words l) 
 
 pub generation_stores : GenerationStores
 generation_stores l words value whole =
-    let v : Word = Header 5 in
-    let has : HasWord l (Header 5) = (generation_rest l).0 in
+    let v : Word = Header generation_offset in
+    let has : HasWord l (Header generation_offset) = (generation_rest l).0 in
     record {
-      cached = columns_path (with_generation (columns_in l words Cached) value) (columns_in l (slice_set words (address_of l (Cached (Header 5))) value) Cached)
+      cached = columns_path (with_generation (columns_in l words Cached) value) (columns_in l (slice_set words (address_of l (Cached (Header generation_offset))) value) Cached)
           (cached_here l words whole v has value refl)
           (spares_kept l words whole v has value refl spare_no_generation)
           (versions_kept l words whole v has value refl (λ n e. cc))
@@ -148,12 +150,12 @@ bits_store l words n value whole within =
 
 pub empty_stores : EmptyStores
 empty_stores l words j whole within =
-    let v : Word = line_word 0 j in
-    let has : HasWord l (line_word 0 j) = (omega arith, omega arith, omega arith) in
+    let v : Word = line_word state_offset j in
+    let has : HasWord l (line_word state_offset j) = (omega arith, omega arith, omega arith) in
     let i : Columns = columns_in l words Cached in
-    let after : Word → ℕ = λ w. at l (slice_set words (address_of l (Cached (line_word 0 j))) 0) (Cached w) in
+    let after : Word → ℕ = λ w. at l (slice_set words (address_of l (Cached (line_word state_offset j))) 0) (Cached w) in
     record {
-      cached = columns_path (with_empty i j) (columns_in l (slice_set words (address_of l (Cached (line_word 0 j))) 0) Cached)
+      cached = columns_path (with_empty i j) (columns_in l (slice_set words (address_of l (Cached (line_word state_offset j))) 0) Cached)
           (generation_kept l words whole v has 0 refl (λ e. cc))
           (spares_kept l words whole v has 0 refl (λ k. spare_apart k v (omega arith)))
           (versions_kept l words whole v has 0 refl (λ m e. cc))
@@ -164,7 +166,7 @@ empty_stores l words j whole within =
               | inr ne ↦ line_kept l words whole v has 0 refl k o (λ f. ne (ap offset_at f)) ∙ sym (empty_other i j k o (λ f. ne))
               | inl f ↦ subst (λ x. word_if (has_line_word l x o) (after (line_word o x)) ≡ (with_empty i j).line x o) (sym e)
                   (subst (λ x. word_if (has_line_word l j x) (after (line_word x j)) ≡ (with_empty i j).line j x) (sym f)
-                  (word_if-here (has_line_word l j 0) (after (line_word 0 j)) (line_here l j 0 within (omega arith))
+                  (word_if-here (has_line_word l j state_offset) (after (line_word state_offset j)) (line_here l j 0 within (omega arith))
                   ∙ cached_here l words whole v has 0 refl ∙ sym (empty_here i j)))
             ]
           ])
@@ -187,7 +189,7 @@ module _ (l : Layout) (words : List ℕ) (word : ℕ) (whole : length words ≡ 
         cached = columns_alike l now (λ w. at l (evicted l words word) (Cached w)) (layer_words l words Cached) (layer_words l (evicted l words word) Cached)
             (λ w is. cached l words word whole within w is.0) layer.cached;
         durable = record {
-          generation = durable_either (Header 5) (generation_rest l);
+          generation = durable_either (Header generation_offset) (generation_rest l);
           spare = λ k. word_if-either (nat_lt k spare_count) (mix (spare_word k)) (now (spare_word k)) (safe (spare_word k)) (λ is. durable_either (spare_word k) (spare_rest l k is));
           version = λ n. word_if-either (nat_lt n l.nodes) (mix (Node n version_offset)) (now (Node n version_offset)) (safe (Node n version_offset)) (λ is. durable_either (Node n version_offset) (version_rest l n is));
           spot = λ n o. word_if-either (has_spot_word l n o) (mix (Node n o)) (now (Node n o)) (safe (Node n o)) (λ is. durable_either (Node n o) (spot_rest l n o is));

@@ -1,5 +1,5 @@
 -- The columns of an image are sound where the image is.
-use Rattle.std.proofs.Common.{◌≡◌, ℕ, suc, ◌+◌, ◌-◌, ◌<◌, ◌≤◌, ◌⊎◌, List, [], ◌∷◌, inl, inr, refl, sym, subst, ap, ◌∙◌, arith}
+use Rattle.std.proofs.Common.{◌≡◌, ℕ, suc, ◌+◌, ◌-◌, ◌<◌, ◌≤◌, List, inl, inr, refl, sym, subst, ap, ◌∙◌, arith}
 use Rattle.std.specs.Prelude.{nat_lt}
 use Rattle.std.proofs.lemmas.Bool.{cases_lt, and_parts, ltb-true, lt-ltb, false_from_ne_true}
 use Rattle.pm_words.specs.declared.layout.Layout.{Layout}
@@ -7,8 +7,9 @@ use Rattle.pm_words.specs.Images.{IsImage}
 use Rattle.pm_words.specs.Locations.{Word, Header, Root, Node, word_at}
 use Rattle.version_lock.specs.Versions.{generation_of}
 use Rattle.data_node.specs.Spots.{Spot, IsTidy, Means}
-use Rattle.data_node.specs.Lines.{IsFitLine}
+use Rattle.data_node.specs.Lines.{state_offset}
 use Rattle.data_node.specs.Lists.{MakeList}
+use Rattle.data_node.proofs.LineLemmas.{fit_alike}
 use Rattle.pm_words.specs.Offsets.{version_offset}
 use Rattle.image_rules.specs.Nodes.{image_spot, image_list, image_range}
 use Rattle.image_rules.specs.Rules.{IsSpare, line_spot}
@@ -20,28 +21,6 @@ use Rattle.image_recovery_law.specs.Columns.{Columns, NodesAreSound}
 use Rattle.image_recovery_law.specs.Rows.{word_if, spare_count, spare_word, image_columns}
 use Rattle.image_recovery_law.specs.SoundImages.{ColumnsAreSound, ColumnsKeepMaps}
 use Rattle.image_recovery_law.proofs.RowColumns.{word_if-here, word_if-past, spare_low, spare_high, has_line_word, line_here, not_below}
-
--- a line is fit by its first eight words
-fit_alike : (nodes : ℕ) (s t : Spot) → ((o : ℕ) → o < 8 → t o ≡ s o) → IsFitLine nodes s → IsFitLine nodes t
-fit_alike nodes s t same (inl empty) = inl (same 0 (omega arith) ∙ empty)
-fit_alike nodes s t same (inr entry) =
-    let a = same 0 (omega arith) in
-    let b = same 1 (omega arith) in
-    let c = same 2 (omega arith) in
-    let first = same 3 (omega arith) in
-    let second = same 4 (omega arith) in
-    let third = same 5 (omega arith) in
-    let d = same 6 (omega arith) in
-    inr (record {
-      state = subst (λ x. x ≤ 2) (sym a) entry.state;
-      kind = subst (λ x. (x ≡ 1) ⊎ (x ≡ 2)) (sym b) entry.kind;
-      node = subst (λ x. (1 ≤ x) × (x < nodes)) (sym c) entry.node;
-      name = entry.name;
-      is_name = entry.is_name;
-      anchor = (λ k. first k ∷ second k ∷ third k ∷ []) ∙ entry.anchor;
-      left = subst (λ x. x < nodes) (sym d) entry.left;
-      zero = same 7 (omega arith) ∙ entry.zero;
-    })
 
 module _ (l : Layout) (words : List ℕ) where
   abbrev i : Columns
@@ -95,8 +74,8 @@ module _ (l : Layout) (words : List ℕ) where
         makes = subst (λ (s : ℕ → Spot). MakeList l.nodes s (image_list l words)) (sym spots_are) keeps.list;
         tidy = λ n among. subst (λ (s : ℕ → Spot). IsTidy l.slots (s n)) (sym spots_are) (keeps.tidy n among);
         lines = λ j lt. fit_alike l.nodes (line_spot l words j) (i.line j) (λ o small. line_word_here j o lt small) (keeps.lines j lt);
-        beyond = λ j past. word_if-past (has_line_word l j 0) (word_at l words (line_word 0 j))
-            (false_from_ne_true (has_line_word l j 0) (λ e. let lt = ltb-true j (line_count l) (and_parts (nat_lt j (line_count l)) (nat_lt 0 8) e).0 in omega arith));
+        beyond = λ j past. word_if-past (has_line_word l j state_offset) (word_at l words (line_word state_offset j))
+            (false_from_ne_true (has_line_word l j state_offset) (λ e. let lt = ltb-true j (line_count l) (and_parts (nat_lt j (line_count l)) (nat_lt 0 8) e).0 in omega arith));
       }
 
   nodes_sound : IsImage l words → NodesAreSound l (image_list l words) i → image.IsSound l words

@@ -3,9 +3,11 @@ use Rattle.std.proofs.Common.{◌≡◌, ◌≢◌, ℕ, suc, ◌-◌, ◌<◌, 
 use Rattle.std.proofs.Common.{inr, refl, sym, subst, ap, ◌∙◌, arith}
 use Rattle.std.proofs.lemmas.Bool.{cases_eq, cases_lt, eq-eqb, ne_eqb}
 use Rattle.pm_words.specs.declared.layout.Layout.{Layout}
+use Rattle.pm_words.specs.Codes.{empty_state}
 use Rattle.data_node.specs.Spots.{Spot, updated, bitmap_offset}
 use Rattle.data_node.specs.Lists.{ListNode, anchor_in, range_in, IsMember, IsIn, IsChain, StaysIn}
 use Rattle.data_node.proofs.SpotLemmas.{updated-same, updated-other}
+use Rattle.data_node.specs.Lines.{state_offset}
 use Rattle.layer_map.specs.Layers.{Layer, HasFew, changed_at, node_of}
 use Rattle.updater_row_law.specs.search_layer.specs.Rows.{LayerWords, IsLayerMix}
 use Rattle.updater_row_law.specs.tree_update.specs.declared.change.ChangeAt.{ChangeAt}
@@ -49,13 +51,13 @@ bits_other i n bits m offset apart = elim (cases_eq m n) [
 
 -- words of lines with one emptied
 pub empty_here : (i : Columns) (j : ℕ) → (with_empty i j).line j 0 ≡ 0
-empty_here i j = ap (λ (s : Spot). s 0) (here i.line j j (updated (i.line j) 0 0) refl) ∙ updated-same (i.line j) 0 0
+empty_here i j = ap (λ (s : Spot). s 0) (here i.line j j (updated (i.line j) state_offset empty_state) refl) ∙ updated-same (i.line j) state_offset empty_state
 
 pub empty_other : (i : Columns) (j k offset : ℕ) → (k ≡ j → offset ≢ 0) → (with_empty i j).line k offset ≡ i.line k offset
 empty_other i j k offset apart = elim (cases_eq k j) [
-  | inr ne ↦ ap (λ (s : Spot). s offset) (other i.line j k (updated (i.line j) 0 0) ne)
+  | inr ne ↦ ap (λ (s : Spot). s offset) (other i.line j k (updated (i.line j) state_offset empty_state) ne)
   | inl e ↦ subst (λ x. (with_empty i j).line x offset ≡ i.line x offset) (sym e)
-      (ap (λ (s : Spot). s offset) (here i.line j j (updated (i.line j) 0 0) refl) ∙ updated-other (i.line j) 0 0 offset (apart e))
+      (ap (λ (s : Spot). s offset) (here i.line j j (updated (i.line j) state_offset empty_state) refl) ∙ updated-other (i.line j) state_offset empty_state offset (apart e))
 ]
 
 -- every listed node is to be trimmed
@@ -328,7 +330,7 @@ module _ (l : Layout) (list : List ListNode) (o : Columns) (sound : IsSound l li
       λ i lt used none. elim (cases_eq i j) [
         | inr ne ↦ out i (omega arith) used none
         | inl e ↦ elim why [
-          | inl empty ↦ absurd (used (ap (λ x. o.line x 0) e ∙ sym (untouched j) ∙ empty))
+          | inl empty ↦ absurd (used (ap (λ x. o.line x state_offset) e ∙ sym (untouched j) ∙ empty))
           | inr has ↦ absurd (none has.0 has.1 (sym (anchors_now still.cached.nodes has.0) ∙ has.2 ∙ lines_now still.cached.nodes j ∙ ap (line_anchor o) (sym e)))
         ]
       ],
@@ -375,14 +377,14 @@ module _ (l : Layout) (list : List ListNode) (o : Columns) (sound : IsSound l li
       λ i n lt used is same. elim (cases_eq i j) [
         | inr ne ↦ stand i n (omega arith) used is same
         | inl e ↦ elim why [
-          | inl empty ↦ absurd (used (ap (λ x. o.line x 0) e ∙ sym (untouched j) ∙ empty))
+          | inl empty ↦ absurd (used (ap (λ x. o.line x state_offset) e ∙ sym (untouched j) ∙ empty))
           | inr none ↦ absurd (none n is (anchors_now still.cached.nodes n ∙ same ∙ ap (line_anchor o) e ∙ sym (lines_now still.cached.nodes j)))
         ]
       ],
     )
     step (sets j n used is anchor) (still, untouched, generation, done, listed, stand) =
         let same : line_anchor now j ≡ line_anchor o j = lines_now still.cached.nodes j in
-        let busy : o.line j 0 ≢ 0 = λ e. used (untouched j ∙ e) in
+        let busy : o.line j state_offset ≢ empty_state = λ e. used (untouched j ∙ e) in
         let opened : IsOpenFor (lines_of o) (line_anchor now j) = record { line = j; state = busy; anchor = sym same } in
         let own : anchor_of o n ≡ line_anchor now j = sym (anchors_now still.cached.nodes n) ∙ anchor in
         let last = set_layer (layer_kept l now) (line_anchor now j) n opened is own (subst IsNameKey (sym same) (line_named l list o sound j busy)) listed still.cached.layer in (
@@ -443,7 +445,7 @@ module _ (l : Layout) (list : List ListNode) (o : Columns) (sound : IsSound l li
       generation,
       done,
       exact,
-      λ i lt. elim (cases_eq i j) [ inl e ↦ ap (λ x. now.line x 0) e ∙ none | inr ne ↦ empty i (omega arith) ],
+      λ i lt. elim (cases_eq i j) [ inl e ↦ ap (λ x. now.line x state_offset) e ∙ none | inr ne ↦ empty i (omega arith) ],
     )
     step (empties j) (still, generation, done, exact, empty) = (
       record {

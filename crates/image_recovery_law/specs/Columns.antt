@@ -7,7 +7,7 @@ use Rattle.cat_history.specs.Maps.{Map, at}
 use Rattle.version_lock.specs.Versions.{generation_of, IsGeneration}
 use Rattle.data_node.specs.Slots.{IsLive}
 use Rattle.data_node.specs.Spots.{Spot, IsTidy, Means, IsLiveIn, name_words, bitmap_offset}
-use Rattle.data_node.specs.Lines.{IsFitLine}
+use Rattle.data_node.specs.Lines.{IsFitLine, kind_offset, line_node_offset, state_offset}
 use Rattle.data_node.specs.Lists.{ListNode, anchor_in, key_of, range_in, IsIn, MakeList}
 use Rattle.layer_map.specs.Layers.{Layer, HasFew}
 use Rattle.updater_row_law.specs.search_layer.specs.Rows.{LayerWords, IsLayerMix}
@@ -34,9 +34,9 @@ line_anchor i j = anchor_in (i.line j)
 
 abbrev pub lines_of : Columns → Lines
 lines_of i = record {
-  state = λ j. i.line j 0;
-  kind = λ j. i.line j 1;
-  node = λ j. i.line j 2;
+  state = λ j. i.line j state_offset;
+  kind = λ j. i.line j kind_offset;
+  node = λ j. i.line j line_node_offset;
   anchor = line_anchor i;
 }
 
@@ -53,7 +53,7 @@ pub record NodesAreSound (l : Layout) (list : List ListNode) (i : Columns) : Typ
   pub makes : MakeList l.nodes i.spot list
   pub tidy : (n : ℕ) → IsIn list n → IsTidy l.slots (i.spot n)
   pub lines : (j : ℕ) → j < line_count l → IsFitLine l.nodes (i.line j)
-  pub beyond : (j : ℕ) → line_count l ≤ j → i.line j 0 ≡ empty_state
+  pub beyond : (j : ℕ) → line_count l ≤ j → i.line j state_offset ≡ empty_state
 
 -- the number of some name
 pub record IsNameKey (key : ℕ) : Type 0 where
@@ -115,7 +115,8 @@ pub record IsMendedLine (list : List ListNode) (o : Columns) (j state : ℕ) (la
 -- Columns that a recovery of o may have come to: a line has its state still, or is mended.
 pub record Mends (l : Layout) (list : List ListNode) (o i : Columns) : Type 0 where
   pub nodes : MendsNodes l list o i
-  pub states : (j : ℕ) → (i.line j 0 ≡ o.line j 0) ⊎ IsMendedLine list o j (i.line j 0) (layer_kept l i)
+  pub states : (j : ℕ) → (i.line j state_offset ≡ o.line j state_offset) ⊎
+      IsMendedLine list o j (i.line j state_offset) (layer_kept l i)
   pub row : IsKept l i.layer
   pub layer : MendsLayer l o (layer_kept l i)
 

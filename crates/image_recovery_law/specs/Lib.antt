@@ -9,3 +9,4 @@ pub mod SoundImages
 -- crates below, for those above that name them through this one
 pub use Rattle.updater_row_law.specs.search_layer
 pub use Rattle.updater_row_law
+pub use Rattle.image_rules

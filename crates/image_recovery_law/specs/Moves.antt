@@ -4,6 +4,7 @@ use Rattle.pm_words.specs.Codes.{empty_state}
 use Rattle.pm_words.specs.declared.layout.Layout.{Layout}
 use Rattle.data_node.specs.Spots.{updated, bitmap_offset}
 use Rattle.data_node.specs.Lists.{ListNode, range_in, IsIn, StaysIn}
+use Rattle.data_node.specs.Lines.{state_offset}
 use Rattle.updater_row_law.specs.Columns.{line_count}
 use Rattle.image_recovery_law.specs.Columns.{Columns, anchor_of, line_anchor, IsSound, IsTrim, Mends}
 use Rattle.image_recovery_law.specs.Stages.{nodes_of, HasAnchor, LacksAnchor, Stage, Begins, Trims, Unsets, Sets}
@@ -31,22 +32,22 @@ pub data Plan (l : Layout) (list : List ListNode) (o : Columns) : Stage → List
       StaysIn l.slots (range_in list n) (o.spot n) → Plan l list o (Trims left) moves →
       Plan l list o (Trims (n ∷ left)) moves
   to_unsets : {moves : List Move} → Plan l list o (Unsets 0) moves → Plan l list o (Trims []) moves
-  unset_line : (j : ℕ) {moves : List Move} → o.line j 0 ≢ empty_state → LacksAnchor list o j →
+  unset_line : (j : ℕ) {moves : List Move} → o.line j state_offset ≢ empty_state → LacksAnchor list o j →
       Plan l list o (Unsets (suc j)) moves → Plan l list o (Unsets j) (Unset j ∷ moves)
-  leaves_unset : (j : ℕ) {moves : List Move} → (o.line j 0 ≡ empty_state) ⊎ HasAnchor list o j →
+  leaves_unset : (j : ℕ) {moves : List Move} → (o.line j state_offset ≡ empty_state) ⊎ HasAnchor list o j →
       Plan l list o (Unsets (suc j)) moves → Plan l list o (Unsets j) moves
   to_sets : (j : ℕ) {moves : List Move} → line_count l ≤ j → Plan l list o (Sets 0) moves →
       Plan l list o (Unsets j) moves
-  set_line : (j n : ℕ) {moves : List Move} → o.line j 0 ≢ empty_state → IsIn list n →
+  set_line : (j n : ℕ) {moves : List Move} → o.line j state_offset ≢ empty_state → IsIn list n →
       anchor_of o n ≡ line_anchor o j → Plan l list o (Sets (suc j)) moves → Plan l list o (Sets j) (Set j n ∷ moves)
-  leaves_set : (j : ℕ) {moves : List Move} → (o.line j 0 ≡ empty_state) ⊎ LacksAnchor list o j →
+  leaves_set : (j : ℕ) {moves : List Move} → (o.line j state_offset ≡ empty_state) ⊎ LacksAnchor list o j →
       Plan l list o (Sets (suc j)) moves → Plan l list o (Sets j) moves
   to_empties : (j : ℕ) {moves : List Move} → line_count l ≤ j → Plan l list o (Empties 0) moves →
       Plan l list o (Sets j) moves
-  empty_line : (j : ℕ) {moves : List Move} → o.line j 0 ≢ empty_state → Plan l list o (Empties (suc j)) moves →
-      Plan l list o (Empties j) (Empty j ∷ moves)
-  leaves_empty : (j : ℕ) {moves : List Move} → o.line j 0 ≡ empty_state → Plan l list o (Empties (suc j)) moves →
-      Plan l list o (Empties j) moves
+  empty_line : (j : ℕ) {moves : List Move} → o.line j state_offset ≢ empty_state →
+      Plan l list o (Empties (suc j)) moves → Plan l list o (Empties j) (Empty j ∷ moves)
+  leaves_empty : (j : ℕ) {moves : List Move} → o.line j state_offset ≡ empty_state →
+      Plan l list o (Empties (suc j)) moves → Plan l list o (Empties j) moves
   ends : (j : ℕ) → line_count l ≤ j → Plan l list o (Empties j) []
 
 -- At this stage the move is to be made, and then come those.
@@ -54,12 +55,12 @@ pub data Takes (l : Layout) (list : List ListNode) (o : Columns) : Stage → Mov
   raises_now : {moves : List Move} → Plan l list o (Trims (nodes_of list)) moves → Takes l list o Begins Raise moves
   trims_now : (n bits : ℕ) {left : List ℕ} {moves : List Move} → IsIn list n → TrimsNode l list o n bits →
       Plan l list o (Trims left) moves → Takes l list o (Trims (n ∷ left)) (Trim n bits) moves
-  unsets_now : (j : ℕ) {moves : List Move} → o.line j 0 ≢ empty_state → LacksAnchor list o j →
+  unsets_now : (j : ℕ) {moves : List Move} → o.line j state_offset ≢ empty_state → LacksAnchor list o j →
       Plan l list o (Unsets (suc j)) moves → Takes l list o (Unsets j) (Unset j) moves
-  sets_now : (j n : ℕ) {moves : List Move} → o.line j 0 ≢ empty_state → IsIn list n →
+  sets_now : (j n : ℕ) {moves : List Move} → o.line j state_offset ≢ empty_state → IsIn list n →
       anchor_of o n ≡ line_anchor o j → Plan l list o (Sets (suc j)) moves → Takes l list o (Sets j) (Set j n) moves
-  empties_now : (j : ℕ) {moves : List Move} → o.line j 0 ≢ empty_state → Plan l list o (Empties (suc j)) moves →
-      Takes l list o (Empties j) (Empty j) moves
+  empties_now : (j : ℕ) {moves : List Move} → o.line j state_offset ≢ empty_state →
+      Plan l list o (Empties (suc j)) moves → Takes l list o (Empties j) (Empty j) moves
 
 pub record IsNext (l : Layout) (list : List ListNode) (o now safe : Columns) (move : Move) (moves : List Move) : Type 0
   where

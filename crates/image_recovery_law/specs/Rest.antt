@@ -6,6 +6,7 @@ use Rattle.pm_words.specs.declared.layout.Layout.{Layout}
 use Rattle.cat_history.specs.Maps.{Map}
 use Rattle.version_lock.specs.Versions.{IsGeneration, IsFree, IsWorn, kept_count}
 use Rattle.data_node.specs.Lists.{ListNode, range_in, IsIn, StaysIn}
+use Rattle.data_node.specs.Lines.{state_offset}
 use Rattle.updater_law.specs.Facts.{TurnTerms, TurnFacts}
 use Rattle.updater_law.specs.TurnStages.{Resting}
 use Rattle.updater_law.specs.Lawful.{TurnLawful}
@@ -26,7 +27,7 @@ pub record Rests (l : Layout) (list : List ListNode) (o now safe : Columns) : Ty
   pub same_map : (m : Map) → IsMapOf l list o m ↔ IsMapOf l list now m
   pub durable : safe ≡ now
   pub generation : now.generation ≡ suc o.generation
-  pub empty : (j : ℕ) → now.line j 0 ≡ empty_state
+  pub empty : (j : ℕ) → now.line j state_offset ≡ empty_state
   pub exact : IsExact list now (layer_kept l now)
   pub stays : (n : ℕ) → IsIn list n → StaysIn l.slots (range_in list n) (now.spot n)
   pub untaken : (n : ℕ) → n < l.nodes → IsUntaken (now.version n) now.generation

@@ -9,6 +9,8 @@ use Rattle.pm_words.specs.Locations.{address_of, at}
 use Rattle.pm_words.specs.Rows.{IsRow, acted, got, evicted}
 use Rattle.data_node.specs.Lists.{ListNode, IsIn}
 use Rattle.data_node.specs.Spots.{bitmap_offset}
+use Rattle.data_node.specs.Lines.{state_offset}
+use Rattle.image_rules.specs.Rules.{generation_offset}
 use Rattle.layer_map.specs.Layers.{Layer, HasFew}
 use Rattle.updater_row_law.specs.tree_update.specs.Stages.{Aim, IsRooted}
 use Rattle.updater_row_law.specs.search_layer.specs.ChangeStages.{Changing, Changed, ChangeStep, start_stage}
@@ -56,11 +58,11 @@ pub record RowSure (l : Layout) (list : List ListNode) (o : Columns) (s : Stage)
 -- A move stores this value into this word: from the stage before to the one after the store, and to the last one once
 -- the word is durable.
 pub data MoveStore (l : Layout) (list : List ListNode) (o : Columns) : Stage → Word → ℕ → Stage → Stage → Type 0 where
-  of_generation : MoveStore l list o Begins (Header 5) (suc o.generation) Raised (Trims (nodes_of list))
+  of_generation : MoveStore l list o Begins (Header generation_offset) (suc o.generation) Raised (Trims (nodes_of list))
   of_bits : (n bits : ℕ) (left : List ℕ) → n < l.nodes → IsIn list n → TrimsNode l list o n bits →
       MoveStore l list o (Trims (n ∷ left)) (Node n bitmap_offset) bits (Trimmed n left) (Trims left)
   of_empty : (j : ℕ) → j < line_count l →
-      MoveStore l list o (Empties j) (line_word 0 j) empty_state (Emptied j) (Empties (suc j))
+      MoveStore l list o (Empties j) (line_word state_offset j) empty_state (Emptied j) (Empties (suc j))
 
 -- The store of a move keeps what the recovery is sure of,
 abbrev pub MoveStores : Type 0
@@ -92,12 +94,12 @@ ChangesOnRows = (l : Layout) (aim : Aim) (before : Layer) (words : List ℕ) (s 
 -- and so of one that takes out the anchor of a line, or sets it: as it begins,
 abbrev pub UnsetBegins : Type 0
 UnsetBegins = (l : Layout) (list : List ListNode) (o : Columns) (words : List ℕ) (j : ℕ) → IsRow l words →
-    IsSound l list o → RowSure l list o (Unsets j) words → o.line j 0 ≢ empty_state → LacksAnchor list o j →
+    IsSound l list o → RowSure l list o (Unsets j) words → o.line j state_offset ≢ empty_state → LacksAnchor list o j →
     RowSure l list o (Unsetting j (layer_of l words) (start_stage l (aim_at o j 0))) words
 
 abbrev pub SetBegins : Type 0
 SetBegins = (l : Layout) (list : List ListNode) (o : Columns) (words : List ℕ) (j n : ℕ) → IsRow l words →
-    IsSound l list o → RowSure l list o (Sets j) words → o.line j 0 ≢ empty_state → IsIn list n →
+    IsSound l list o → RowSure l list o (Sets j) words → o.line j state_offset ≢ empty_state → IsIn list n →
     anchor_of o n ≡ line_anchor o j →
     RowSure l list o (Setting j n (layer_of l words) (start_stage l (aim_at o j (suc n)))) words
 

@@ -12,6 +12,8 @@ use Rattle.pm_words.specs.Locations.{word_at}
 use Rattle.pm_words.specs.Rows.{acted, evicted, durable_row, row_of}
 use Rattle.pm_words.specs.Offsets.{version_offset}
 use Rattle.data_node.specs.Spots.{bitmap_offset}
+use Rattle.data_node.specs.Lines.{state_offset}
+use Rattle.image_rules.specs.Rules.{generation_offset}
 use Rattle.updater_row_law.specs.search_layer.specs.Rows.{LayerWords, layer_words, image_layer_words}
 use Rattle.updater_row_law.specs.Columns.{line_count, line_word}
 use Rattle.image_recovery_law.specs.Columns.{Columns, IsMix}
@@ -31,7 +33,7 @@ spare_word k = if nat_lt k 2 then Header (6 + k) else Root (k - 1)
 -- The columns of the words that are read so by name, with these of the layer.
 abbrev pub columns_by : Layout → (Word → ℕ) → LayerWords → Columns
 columns_by l word layer = record {
-  generation = word (Header 5);
+  generation = word (Header generation_offset);
   spare = λ k. word_if (nat_lt k spare_count) (word (spare_word k));
   version = λ n. word_if (nat_lt n l.nodes) (word (Node n version_offset));
   spot = λ n o. word_if (nat_lt n l.nodes && (nat_lt 0 o && nat_lt o (node_words l))) (word (Node n o));
@@ -64,7 +66,7 @@ pub record StoresOn (l : Layout) (words : List ℕ) (a : Action) (now : Columns)
 
 abbrev pub GenerationStores : Type 0
 GenerationStores = (l : Layout) (words : List ℕ) (generation : ℕ) → length words ≡ row_words l →
-    StoresOn l words (Store (address_of l (Cached (Header 5))) generation)
+    StoresOn l words (Store (address_of l (Cached (Header generation_offset))) generation)
     (with_generation (columns_in l words Cached) generation)
 
 abbrev pub BitsStore : Type 0
@@ -74,7 +76,7 @@ BitsStore = (l : Layout) (words : List ℕ) (n bits : ℕ) → length words ≡ 
 
 abbrev pub EmptyStores : Type 0
 EmptyStores = (l : Layout) (words : List ℕ) (j : ℕ) → length words ≡ row_words l → j < line_count l →
-    StoresOn l words (Store (address_of l (Cached (line_word 0 j))) empty_state)
+    StoresOn l words (Store (address_of l (Cached (line_word state_offset j))) empty_state)
     (with_empty (columns_in l words Cached) j)
 
 -- A word that becomes durable leaves the cached columns, and makes a mix of the durable ones.

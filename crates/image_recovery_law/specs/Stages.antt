@@ -3,7 +3,8 @@ use Rattle.std.specs.Prelude.{◌≡◌, ◌≢◌, ℕ, suc, ◌<◌, ◌≤◌
 use Rattle.pm_words.specs.Codes.{empty_state}
 use Rattle.pm_words.specs.declared.layout.Layout.{Layout}
 use Rattle.data_node.specs.Spots.{updated, bitmap_offset}
-use Rattle.data_node.specs.Lists.{ListNode, range_in, IsIn, StaysIn}
+use Rattle.data_node.specs.Lists.{ListNode, range_in, IsIn, StaysIn, anchor_words}
+use Rattle.data_node.specs.Lines.{state_offset}
 use Rattle.layer_map.specs.Layers.{Layer}
 use Rattle.updater_row_law.specs.search_layer.specs.Rows.{LayerWords, AreEven}
 use Rattle.updater_row_law.specs.tree_update.specs.Stages.{Aim, made_of}
@@ -23,7 +24,7 @@ abbrev pub with_bits : Columns → ℕ → ℕ → Columns
 with_bits i n bits = record i { spot = set_at i.spot n (updated (i.spot n) bitmap_offset bits) }
 
 abbrev pub with_empty : Columns → ℕ → Columns
-with_empty i j = record i { line = set_at i.line j (updated (i.line j) 0 empty_state) }
+with_empty i j = record i { line = set_at i.line j (updated (i.line j) state_offset empty_state) }
 
 abbrev pub with_layer : Columns → LayerWords → Columns
 with_layer i layer = record i { layer = layer }
@@ -42,7 +43,7 @@ IsOneOf (m ∷ others) n = (n ≡ m) ⊎ IsOneOf others n
 
 -- The change that leads the anchor of a line to this node word.
 abbrev pub aim_at : Columns → ℕ → ℕ → Aim
-aim_at i j word = record { key = i.line j 3 ∷ i.line j 4 ∷ i.line j 5 ∷ []; word = word }
+aim_at i j word = record { key = anchor_words (i.line j); word = word }
 
 -- The list has a node with the line's anchor, or none.
 abbrev pub HasAnchor : List ListNode → Columns → ℕ → Type 0
@@ -94,9 +95,9 @@ pub data Step (l : Layout) (list : List ListNode) (now safe : Columns) : Stage �
         Step l list now safe (Trimmed n left) (Trims left) now safe
     all_trimmed : Step l list now safe (Trims []) (Unsets 0) now safe
     -- it comes to a line whose anchor isn't to be taken out, and to one whose is; then the change goes on, and ends
-    passes_unset : (j : ℕ) → (now.line j 0 ≡ empty_state) ⊎ HasAnchor list now j →
+    passes_unset : (j : ℕ) → (now.line j state_offset ≡ empty_state) ⊎ HasAnchor list now j →
         Step l list now safe (Unsets j) (Unsets (suc j)) now safe
-    unsets : (j : ℕ) → now.line j 0 ≢ empty_state → LacksAnchor list now j →
+    unsets : (j : ℕ) → now.line j state_offset ≢ empty_state → LacksAnchor list now j →
         Step l list now safe (Unsets j) (Unsetting j (layer_kept l now) (start_stage l (aim_at now j 0))) now safe
     unsetting : (j : ℕ) (before : Layer) (c next : Changing) (w s : LayerWords) →
         ChangesTo l (aim_at now j 0) before next w s →
@@ -104,19 +105,20 @@ pub data Step (l : Layout) (list : List ListNode) (now safe : Columns) : Stage �
     unset : (j : ℕ) (before : Layer) → Step l list now safe (Unsetting j before Changed) (Unsets (suc j)) now safe
     all_unset : (j : ℕ) → line_count l ≤ j → Step l list now safe (Unsets j) (Sets 0) now safe
     -- the same of anchors that are to be set
-    passes_set : (j : ℕ) → (now.line j 0 ≡ empty_state) ⊎ LacksAnchor list now j →
+    passes_set : (j : ℕ) → (now.line j state_offset ≡ empty_state) ⊎ LacksAnchor list now j →
         Step l list now safe (Sets j) (Sets (suc j)) now safe
-    sets : (j n : ℕ) → now.line j 0 ≢ empty_state → IsIn list n → anchor_of now n ≡ line_anchor now j →
+    sets : (j n : ℕ) → now.line j state_offset ≢ empty_state → IsIn list n → anchor_of now n ≡ line_anchor now j →
         Step l list now safe (Sets j) (Setting j n (layer_kept l now) (start_stage l (aim_at now j (suc n)))) now safe
     setting : (j n : ℕ) (before : Layer) (c next : Changing) (w s : LayerWords) →
         ChangesTo l (aim_at now j (suc n)) before next w s →
         Step l list now safe (Setting j n before c) (Setting j n before next) (with_layer now w) (with_layer safe s)
     set : (j n : ℕ) (before : Layer) → Step l list now safe (Setting j n before Changed) (Sets (suc j)) now safe
     all_set : (j : ℕ) → line_count l ≤ j → Step l list now safe (Sets j) (Empties 0) now safe
-    passes_empty : (j : ℕ) → now.line j 0 ≡ empty_state →
+    passes_empty : (j : ℕ) → now.line j state_offset ≡ empty_state →
         Step l list now safe (Empties j) (Empties (suc j)) now safe
     empties : (j : ℕ) → Step l list now safe (Empties j) (Emptied j) (with_empty now j) safe
-    emptied : (j : ℕ) → safe.line j 0 ≡ now.line j 0 → Step l list now safe (Emptied j) (Empties (suc j)) now safe
+    emptied : (j : ℕ) → safe.line j state_offset ≡ now.line j state_offset →
+        Step l list now safe (Emptied j) (Empties (suc j)) now safe
     all_empty : (j : ℕ) → line_count l ≤ j → Step l list now safe (Empties j) Wakes now safe
 
 -- The part of an image of which one word may not be durable yet.
@@ -145,7 +147,7 @@ pub record IsStill (l : Layout) (list : List ListNode) (o : Columns) (part : Par
 pub record IsChanging (l : Layout) (list : List ListNode) (o : Columns) (aim : Aim) (before : Layer) (c : Changing)
     (now safe : Columns) : Type 0 where
   pub nodes : MendsNodes l list o now
-  pub states : (j : ℕ) → now.line j 0 ≡ o.line j 0
+  pub states : (j : ℕ) → now.line j state_offset ≡ o.line j state_offset
   pub even : IsEvenBut Nothing now safe
   pub layer : ChangesTo l aim before c now.layer safe.layer
   pub first : MendsLayer l o before
@@ -160,12 +162,12 @@ AreTrimmedBut l list left now =
 
 -- the lines have their states still
 abbrev pub AreUntouched : Columns → Columns → Type 0
-AreUntouched o now = (j : ℕ) → now.line j 0 ≡ o.line j 0
+AreUntouched o now = (j : ℕ) → now.line j state_offset ≡ o.line j state_offset
 
 -- no anchor of a line below this one is in the layer that the list doesn't have
 abbrev pub AreUnset : List ListNode → Columns → ℕ → Layer → Type 0
 AreUnset list o j layer =
-    (i : ℕ) → i < j → o.line i 0 ≢ empty_state → LacksAnchor list o i → layer (line_anchor o i) ≡ None
+    (i : ℕ) → i < j → o.line i state_offset ≢ empty_state → LacksAnchor list o i → layer (line_anchor o i) ≡ None
 
 -- every key of the layer is the anchor of a listed node
 abbrev pub AreListed : List ListNode → Columns → Layer → Type 0
@@ -173,15 +175,15 @@ AreListed list o layer = (key node : ℕ) → layer key ≡ Some node → (n : �
 
 -- each anchor of a line below this one that the list has leads to its node
 abbrev pub AreSet : List ListNode → Columns → ℕ → Layer → Type 0
-AreSet list o j layer = (i n : ℕ) → i < j → o.line i 0 ≢ empty_state → IsIn list n → anchor_of o n ≡ line_anchor o i →
-    layer (line_anchor o i) ≡ Some n
+AreSet list o j layer = (i n : ℕ) → i < j → o.line i state_offset ≢ empty_state → IsIn list n →
+    anchor_of o n ≡ line_anchor o i → layer (line_anchor o i) ≡ Some n
 
 -- the layer leads exactly the anchors of listed nodes, each to its node
 abbrev pub IsExact : List ListNode → Columns → Layer → Type 0
 IsExact list o layer = (key node : ℕ) → (layer key ≡ Some node) ↔ (IsIn list node × (anchor_of o node ≡ key))
 
 abbrev pub AreEmptyTo : ℕ → Columns → Type 0
-AreEmptyTo j now = (i : ℕ) → i < j → now.line i 0 ≡ empty_state
+AreEmptyTo j now = (i : ℕ) → i < j → now.line i state_offset ≡ empty_state
 
 -- What holds at each stage of a recovery of o.
 abbrev pub Sure : Layout → List ListNode → Columns → Stage → Columns → Columns → Type 0
@@ -200,14 +202,14 @@ Sure l list o (Unsets j) now safe =
     AreTrimmedBut l list [] now × AreUnset list o j (layer_kept l now)
 Sure l list o (Unsetting j before c) now safe =
     IsChanging l list o (aim_at now j 0) before c now safe × (now.generation ≡ suc o.generation) ×
-    AreTrimmedBut l list [] now × AreUnset list o j before × (o.line j 0 ≢ empty_state)
+    AreTrimmedBut l list [] now × AreUnset list o j before × (o.line j state_offset ≢ empty_state)
 Sure l list o (Sets j) now safe =
     IsStill l list o Nothing now safe × AreUntouched o now × (now.generation ≡ suc o.generation) ×
     AreTrimmedBut l list [] now × AreListed list o (layer_kept l now) × AreSet list o j (layer_kept l now)
 Sure l list o (Setting j n before c) now safe =
     IsChanging l list o (aim_at now j (suc n)) before c now safe × (now.generation ≡ suc o.generation) ×
     AreTrimmedBut l list [] now × AreListed list o before × AreSet list o j before ×
-    (o.line j 0 ≢ empty_state) × IsIn list n × (anchor_of o n ≡ line_anchor o j)
+    (o.line j state_offset ≢ empty_state) × IsIn list n × (anchor_of o n ≡ line_anchor o j)
 Sure l list o (Empties j) now safe =
     IsStill l list o Nothing now safe × (now.generation ≡ suc o.generation) × AreTrimmedBut l list [] now ×
     IsExact list o (layer_kept l now) × AreEmptyTo j now
@@ -216,4 +218,4 @@ Sure l list o (Emptied j) now safe =
     IsExact list o (layer_kept l now) × AreEmptyTo (suc j) now
 Sure l list o Wakes now safe =
     IsStill l list o Nothing now safe × (now.generation ≡ suc o.generation) × AreTrimmedBut l list [] now ×
-    IsExact list o (layer_kept l now) × ((j : ℕ) → now.line j 0 ≡ empty_state)
+    IsExact list o (layer_kept l now) × ((j : ℕ) → now.line j state_offset ≡ empty_state)

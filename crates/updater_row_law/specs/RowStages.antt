@@ -1,5 +1,5 @@
 -- Where a turn on a row of words is, and the words that it has loaded.
-use Rattle.std.specs.Prelude.{ℕ, zero, suc, ◌+◌, ◌==◌, ◌&&◌, nat_lt, Bool, true, if◌then◌else◌, List, [], ◌∷◌}
+use Rattle.std.specs.Prelude.{ℕ, zero, suc, ◌+◌, ◌==◌, ◌&&◌, nat_lt, Bool, true, if◌then◌else◌, List}
 use Rattle.std.specs.Prelude.{slice_index}
 use Rattle.pm_words.specs.Codes.{merge_kind}
 use Rattle.call_stages.specs.data_node.specs.Lists.{anchor_words}
