@@ -1,13 +1,16 @@
 -- Where the tree of an image is covered.
-use Rattle.std.proofs.Common.{◌≡◌, ◌≢◌, ℕ, ◌*◌, ◌^◌, ◌⊎◌, List, Option, Some, None, inl, inr, refl, sym, subst, ap, ◌∙◌, arith, ◌-◌, ◌<◌, [], ◌∷◌, slice_index}
+use Rattle.std.proofs.Common.{◌≡◌, ◌≢◌, ℕ, ◌+◌, ◌*◌, ◌^◌, ◌⊎◌, List, Option, Some, None, inl, inr, refl, sym, subst, ap, ◌∙◌, arith, ◌-◌, ◌<◌, [], ◌∷◌, slice_index}
 use Rattle.std.proofs.lemmas.Bool.{cases_eq, cases_lt}
 use Rattle.pm_words.specs.declared.layout.Layout.{Layout}
+use Rattle.pm_words.specs.Codes.{empty_state}
+use Rattle.data_node.specs.Lists.{anchor_offset, anchor_words}
 use Rattle.data_node.specs.Spots.{Spot}
 use Rattle.data_node.proofs.KeyLemmas.{key-number, anchor-number, named_anchor, zero_anchor}
 use Rattle.image_rules.specs.Rules.{line_spot}
 use Rattle.image_rules.proofs.TidyLemmas.{sound_keeps}
 use Rattle.image_layer_rules.proofs.LineLemmas.{line_word-here, line_word-outside}
 use Rattle.data_node.proofs.ListLemmas.{member_or}
+use Rattle.data_node.specs.Lines.{state_offset}
 use Rattle.image_rules.specs.Nodes.{image_list, IsListedNode}
 use Rattle.image_rules.specs.Sound.{IsSound}
 use Rattle.layer_map.specs.Keys.{key_number}
@@ -87,16 +90,16 @@ rule_on_cover l image is sound right =
     )
 
 -- an anchor of a line that isn't EMPTY is a key
-open_key : (l : Layout) (image : List ℕ) → IsSound l image → (line : ℕ) → (image_lines l image).state line ≢ 0 → IsKeyNumber ((image_lines l image).anchor line)
+open_key : (l : Layout) (image : List ℕ) → IsSound l image → (line : ℕ) → (image_lines l image).state line ≢ empty_state → IsKeyNumber ((image_lines l image).anchor line)
 open_key l image sound line some = elim (cases_lt line (8 * l.callers)) as (λ _. IsKeyNumber ((image_lines l image).anchor line)) [
   | inl here ↦ elim ((sound_keeps l image sound).lines line here) as (λ _. IsKeyNumber ((image_lines l image).anchor line)) [
-    | inl empty ↦ absurd (some (line_word-here l image line 0 here (omega arith) ∙ empty))
+    | inl empty ↦ absurd (some (line_word-here l image line state_offset here (omega arith) ∙ empty))
     | inr is ↦
-        let words : line_word l image line 3 ∷ line_word l image line 4 ∷ line_word l image line 5 ∷ [] ≡ line_spot l image line 3 ∷ line_spot l image line 4 ∷ line_spot l image line 5 ∷ [] =
-        λ k. line_word-here l image line 3 here (omega arith) k ∷ line_word-here l image line 4 here (omega arith) k ∷ line_word-here l image line 5 here (omega arith) k ∷ [] in
+        let words : anchor_words (line_word l image line) ≡ anchor_words (line_spot l image line) =
+        λ k. line_word-here l image line anchor_offset here (omega arith) k ∷ line_word-here l image line (anchor_offset + 1) here (omega arith) k ∷ line_word-here l image line (anchor_offset + 2) here (omega arith) k ∷ [] in
         inr (is.name, is.is_name, ap key_number (words ∙ is.anchor) ∙ sym (key-number is.name))
   ]
-  | inr out ↦ absurd (some (line_word-outside l image line 0 out))
+  | inr out ↦ absurd (some (line_word-outside l image line state_offset out))
 ]
 
 -- a leaf's key as a node's anchor

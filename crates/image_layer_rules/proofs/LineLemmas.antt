@@ -1,5 +1,5 @@
 -- The words of lines, where the image has them and where it hasn't; and what a crash and a start make of an image's words.
-use Rattle.std.proofs.Common.{◌≡◌, ℕ, ◌*◌, ◌/◌, ◌%◌, ◌<◌, ◌≤◌, List, sym, ◌∙◌, arith, refl}
+use Rattle.std.proofs.Common.{◌≡◌, ℕ, ◌+◌, ◌*◌, ◌/◌, ◌%◌, ◌<◌, ◌≤◌, List, sym, ◌∙◌, arith, refl}
 use Rattle.std.proofs.lemmas.Bool.{lt-ltb, le-ltb}
 use Rattle.pm_words.specs.declared.layout.Layout.{Layout}
 use Rattle.pm_words.specs.Locations.{Line, word_at}
@@ -9,6 +9,7 @@ use Rattle.layer_map.specs.Keys.{key_of}
 use Rattle.image_rules.specs.Rules.{line_spot}
 use Rattle.tree_row.proofs.RowLaw.{crash_reads, image_reads}
 use Rattle.image_layer_rules.specs.Anchors.{image_lines, line_word}
+use Rattle.data_node.specs.Lists.{anchor_offset}
 use Rattle.image_layer_rules.specs.Laws.{CrashKeepsLayer, StartCachesLayer, CrashKeepsLines, StartCachesLines}
 
 pub line_word-here : (l : Layout) (image : List ℕ) (line offset : ℕ) → line < 8 * l.callers → offset < 8 → line_word l image line offset ≡ word_at l image (Line (line / 8) (line % 8) offset)
@@ -20,8 +21,8 @@ unfolding line_word
 line_word-outside l image line offset out = rw (le-ltb line (8 * l.callers) out) refl
 
 -- the key of a line is that of the words that stand there
-pub line_key-here : (l : Layout) (image : List ℕ) (line : ℕ) → line < 8 * l.callers → (image_lines l image).anchor line ≡ key_of (line_spot l image line 3) (line_spot l image line 4) (line_spot l image line 5)
-line_key-here l image line here = λ k. key_of (line_word-here l image line 3 here (omega arith) k) (line_word-here l image line 4 here (omega arith) k) (line_word-here l image line 5 here (omega arith) k)
+pub line_key-here : (l : Layout) (image : List ℕ) (line : ℕ) → line < 8 * l.callers → (image_lines l image).anchor line ≡ key_of (line_spot l image line anchor_offset) (line_spot l image line (anchor_offset + 1)) (line_spot l image line (anchor_offset + 2))
+line_key-here l image line here = λ k. key_of (line_word-here l image line anchor_offset here (omega arith) k) (line_word-here l image line (anchor_offset + 1) here (omega arith) k) (line_word-here l image line (anchor_offset + 2) here (omega arith) k)
 
 pub crash_keeps_layer : CrashKeepsLayer
 crash_keeps_layer = crash_reads

@@ -1,9 +1,10 @@
 -- The keys that a layer may have, and the nodes of an image and the lines of its log by their anchors.
-use Rattle.std.specs.Prelude.{◌≡◌, ℕ, ◌*◌, ◌/◌, ◌%◌, ◌&&◌, ◌⊎◌, nat_lt, if◌then◌else◌, List, [], ◌∷◌}
+use Rattle.std.specs.Prelude.{◌≡◌, ℕ, ◌+◌, ◌*◌, ◌/◌, ◌%◌, ◌&&◌, ◌⊎◌, nat_lt, if◌then◌else◌, List, [], ◌∷◌}
 use Rattle.pm_words.specs.declared.layout.Layout.{Layout}
 use Rattle.pm_words.specs.Locations.{Line, word_at}
 use Rattle.cat_key.specs.Names.{IsName, AreNameWords}
-use Rattle.data_node.specs.Lists.{key_of, anchor_in}
+use Rattle.data_node.specs.Lists.{key_of, anchor_in, anchor_offset}
+use Rattle.data_node.specs.Lines.{kind_offset, line_node_offset, state_offset}
 use Rattle.image_rules.specs.Nodes.{image_spot}
 use Rattle.layer_map.specs.Keys as keys
 use Rattle.updater_law.specs.Covers.{Lines}
@@ -28,8 +29,9 @@ line_word l image line offset =
 -- The lines of the log.
 abbrev pub image_lines : Layout → List ℕ → Lines
 image_lines l image = record {
-  state = λ line. line_word l image line 0;
-  kind = λ line. line_word l image line 1;
-  node = λ line. line_word l image line 2;
-  anchor = λ line. keys.key_of (line_word l image line 3) (line_word l image line 4) (line_word l image line 5);
+  state = λ line. line_word l image line state_offset;
+  kind = λ line. line_word l image line kind_offset;
+  node = λ line. line_word l image line line_node_offset;
+  anchor = λ line. keys.key_of (line_word l image line anchor_offset)
+      (line_word l image line (anchor_offset + 1)) (line_word l image line (anchor_offset + 2));
 }

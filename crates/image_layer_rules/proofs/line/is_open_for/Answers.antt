@@ -1,5 +1,6 @@
 use Rattle.std.proofs.Common.{◌∙◌, ◌*◌, ◌<◌, ap, sym, refl, inl, inr, arith}
 use Rattle.std.proofs.lemmas.Bool.{cases_lt, false≢true}
+use Rattle.data_node.specs.Lines.{state_offset}
 use Rattle.layer_map.specs.Keys.{key_number}
 use Rattle.image_layer_rules.proofs.LineLemmas.{line_word-here, line_word-outside, line_key-here}
 use Rattle.image_layer_rules.proofs.line.is_open_for.Goals as goal
@@ -13,7 +14,7 @@ returns-then-is_same c =
     let here : line < 8 * l.callers = omega (arith, c.loop-line-test.true) in (
       λ is. record {
         line = line;
-        state = λ empty. c.if-line_word-ne-EMPTY.true (c.line_word.ensures ∙ sym (line_word-here l image line 0 here (omega arith)) ∙ empty);
+        state = λ empty. c.if-line_word-ne-EMPTY.true (c.line_word.ensures ∙ sym (line_word-here l image line state_offset here (omega arith)) ∙ empty);
         anchor = line_key-here l image line here ∙ sym (ap key_number c.line_anchor.ensures) ∙ c.is_same.ensures.0 c.if-is_same.true;
       },
       λ is. refl,

@@ -1,4 +1,6 @@
-use Rattle.std.proofs.Common.{◌≡◌, ◌≢◌}
+use Rattle.std.proofs.Common.{◌≡◌, ◌+◌, ◌≢◌}
+use Rattle.data_node.specs.Lists.{anchor_offset}
+use Rattle.data_node.specs.Lines.{state_offset}
 use Rattle.layer_map.specs.Keys.{key_of, key_number}
 use Rattle.image_rules.specs.Rules.{line_spot}
 use Rattle.image_rules.proofs.LowestLemmas.{NoneBelow}
@@ -8,4 +10,4 @@ use Rattle.image_layer_rules.proofs.line.is_open_for.Given as goal
 abbrev pub invariant-loop-line : goal.invariant-loop-line
 invariant-loop-line l =
     let word = line_spot l.image.layout l.image.words in
-    NoneBelow (λ line. (word line 0 ≢ 0) × (key_of (word line 3) (word line 4) (word line 5) ≡ key_number l.key)) l.line
+    NoneBelow (λ line. (word line state_offset ≢ 0) × (key_of (word line anchor_offset) (word line (anchor_offset + 1)) (word line (anchor_offset + 2)) ≡ key_number l.key)) l.line
