@@ -1,5 +1,5 @@
 -- The image is sound by the rules on its header, list, nodes and log.
-use Rattle.std.proofs.Common.{◌≡◌, ℕ, ◌*◌, ◌/◌, ◌%◌, ◌<◌, ◌≤◌, ◌⊎◌, inl, inr, List, [], ◌∷◌, refl, ◌∙◌, sym, subst, arith}
+use Rattle.std.proofs.Common.{◌≡◌, ℕ, ◌*◌, ◌/◌, ◌%◌, ◌<◌, ◌≤◌, inr, List, refl, ◌∙◌, sym, subst, arith}
 use Rattle.pm_words.specs.declared.layout.Layout.{Layout}
 use Rattle.pm_words.specs.Locations.{Word, Header, Root, Node, Line, Leaf, Cell, Cached, word_at, at}
 use Rattle.pm_words.specs.Rows.{cached_row}
@@ -8,10 +8,11 @@ use Rattle.version_lock.specs.Versions.{generation_of, IsGeneration}
 use Rattle.data_node.specs.Spots.{Spot, IsTidy, Means}
 use Rattle.data_node.specs.Lines.{IsFitLine}
 use Rattle.data_node.specs.Lists.{members_from, range_in, IsIn, MakeList}
+use Rattle.data_node.proofs.LineLemmas.{fit_alike}
 use Rattle.pm_words.specs.Offsets.{version_offset}
 use Rattle.image_rules.specs.Nodes.{image_spot}
 use Rattle.image_rules.specs.Laws.{KeepsRules}
-use Rattle.image_rules.specs.Rules.{IsSpare, line_spot}
+use Rattle.image_rules.specs.Rules.{IsSpare, line_spot, generation_offset}
 use Rattle.image_rules.specs.Sound.{IsSound, IsMapOf}
 use Rattle.image_rules.proofs.TidyLemmas.{keeps_sound}
 use Rattle.index_law.specs.Facts.{spot_in, map_now}
@@ -26,26 +27,10 @@ use Rattle.index_image_law.proofs.CachedWords.{spots_are, line_at}
 pub in_image : (l : Layout) (words : List ℕ) (P : (ℕ → Spot) → Type 0) → P (spot_in l words) → P (image_spot l (cached_row l words))
 in_image l words P = subst P (spots_are l words)
 
--- a line whose words are those of one in order is in order
-same_fit : (nodes : ℕ) (s t : Spot) → ((offset : ℕ) → offset < 8 → t offset ≡ s offset) → IsFitLine nodes s → IsFitLine nodes t
-same_fit nodes s t same (inl empty) = inl (same 0 (omega arith) ∙ empty)
-same_fit nodes s t same (inr is) =
-    let at = λ (offset : ℕ) (within : offset < 8). sym (same offset within) in
-    inr (record {
-      state = subst (λ (v : ℕ). v ≤ 2) (at 0 (omega arith)) is.state;
-      kind = subst (λ (v : ℕ). (v ≡ 1) ⊎ (v ≡ 2)) (at 1 (omega arith)) is.kind;
-      node = subst (λ (v : ℕ). (1 ≤ v) × (v < nodes)) (at 2 (omega arith)) is.node;
-      name = is.name;
-      is_name = is.is_name;
-      anchor = (λ k. same 3 (omega arith) k ∷ same 4 (omega arith) k ∷ same 5 (omega arith) k ∷ []) ∙ is.anchor;
-      left = subst (λ (v : ℕ). v < nodes) (at 6 (omega arith)) is.left;
-      zero = same 7 (omega arith) ∙ is.zero;
-    })
-
 lines_fit : (l : Layout) (words : List ℕ) → AreFit l words → (line : ℕ) → line < 8 * l.callers → IsFitLine l.nodes (line_spot l (cached_row l words) line)
 lines_fit l words fit line here =
     let s : Spot = line_in l words (line / 8) (line % 8) in
-    same_fit l.nodes s (line_spot l (cached_row l words) line) (λ offset within. line_at l words (line / 8) (line % 8) offset (omega arith) (omega arith) within)
+    fit_alike l.nodes s (line_spot l (cached_row l words) line) (λ offset within. line_at l words (line / 8) (line % 8) offset (omega arith) (omega arith) within)
     (fit (line / 8) (line % 8) s (λ offset. inr refl))
 
 -- words that have no use are blank
@@ -58,8 +43,8 @@ blank l words none (Leaf k o) is = absurd is
 blank l words none (Cell kind k o) is = absurd is
 
 -- the header tells the run
-pub generation_is : (w : World) → IsAtRest w → word_at w.layout (cached_row w.layout w.words) (Header 5) ≡ w.generation
-generation_is w rest = cached_row-at w.layout w.words (Header 5) (omega arith) ∙ rest.front.generation
+pub generation_is : (w : World) → IsAtRest w → word_at w.layout (cached_row w.layout w.words) (Header generation_offset) ≡ w.generation
+generation_is w rest = cached_row-at w.layout w.words (Header generation_offset) (omega arith) ∙ rest.front.generation
 
 rules : (w : World) → IsAtRest w → AreFit w.layout w.words → KeepsRules w.layout (cached_row w.layout w.words)
 rules w rest fit =
@@ -72,7 +57,7 @@ rules w rest fit =
       versions = λ n here.
           let word : word_at l (cached_row l words) (Node n version_offset) ≡ (facts w).version n =
           cached_row-at l words (Node n version_offset) (here, omega arith) ∙ sym (version_in-here l words n here) in
-          subst (λ (v : ℕ). generation_of v ≤ word_at l (cached_row l words) (Header 5)) (sym word) (let known = rest.versions n here in omega (arith, generation));
+          subst (λ (v : ℕ). generation_of v ≤ word_at l (cached_row l words) (Header generation_offset)) (sym word) (let known = rest.versions n here in omega (arith, generation));
       list = in_image l words (λ now. MakeList l.nodes now (members_from now l.nodes 0)) rest.list;
       tidy = in_image l words (λ now. (n : ℕ) → IsIn (members_from now l.nodes 0) n → IsTidy l.slots (now n)) (λ n listed. (rest.settled n listed).means.tidy);
       lines = lines_fit l words fit;
