@@ -4,13 +4,14 @@ use Rattle.std.proofs.Common.{refl, sym, ap, ◌∙◌, subst, arith}
 use Rattle.std.specs.Prelude.{nat_lt, Option}
 use Rattle.std.specs.List.{AllByRecursion}
 use Rattle.std.proofs.lemmas.Bool.{cases_lt, cond_both, and_parts, lt-ltb, le-ltb, ltb-true}
-use Rattle.pm_words.specs.Codes.{gone_status}
+use Rattle.pm_words.specs.Codes.{gone_status, empty_state, free_status}
 use Rattle.pm_words.specs.declared.layout.Layout.{Layout}
 use Rattle.pm_words.specs.Locations.{Word, Location, Line, Volatile, Cached, Durable, at}
 use Rattle.cat_history.specs.Maps.{Map}
 use Rattle.data_node.specs.Spots.{Spot}
 use Rattle.data_node.proofs.ListLemmas.{chain_closed, member_or}
 use Rattle.data_node.specs.Lists.{ListNode, IsIn, IsMember, IsChain, next_offset}
+use Rattle.data_node.specs.Lines.{state_offset}
 use Rattle.pm_words.specs.Offsets.{prev_offset}
 use Rattle.call_stages.specs.Lines.{HeldLine}
 use Rattle.call_stages.specs.Prevs.{Debt}
@@ -46,31 +47,31 @@ before_within most here prev (m ∷ behind) low few back n (inl e) = subst (λ k
 before_within most here prev (m ∷ behind) low few back n (inr later) = before_within most m.node prev behind few.0 few.1 back.1 n later
 
 -- past the nodes there is no status
-pub status_past : (l : Layout) (words : List ℕ) (n : ℕ) → l.nodes ≤ n → status_in l words n ≡ 0
+pub status_past : (l : Layout) (words : List ℕ) (n : ℕ) → l.nodes ≤ n → status_in l words n ≡ free_status
 unfolding status_in
 status_past l words n past = rw (le-ltb n l.nodes past) refl
 
 module _ (l : Layout) (list : List ListNode) (o : Columns) (words : List ℕ) (m : Map) (is : IsOpening l list o words m) where
   -- each log line is EMPTY in both rows
-  state_zero : (twin : Word → Location) → ((j : ℕ) → (columns_in l words twin).line j 0 ≡ 0) → (c j : ℕ) → c < l.callers → j < 8 → at l words (twin (Line c j 0)) ≡ 0
+  state_zero : (twin : Word → Location) → ((j : ℕ) → (columns_in l words twin).line j 0 ≡ 0) → (c j : ℕ) → c < l.callers → j < 8 → at l words (twin (Line c j state_offset)) ≡ 0
   state_zero twin none c j here low =
       let k = 8 * c + j in
       let line : k / 8 ≡ c = omega arith in
       let place : k % 8 ≡ j = omega arith in
-      (λ i. at l words (twin (Line (sym line i) (sym place i) 0)))
-      ∙ sym (word_if-here (nat_lt k (line_count l) && nat_lt 0 8) (at l words (twin (line_word 0 k))) (line_here l k 0 (omega arith) (omega arith)))
+      (λ i. at l words (twin (Line (sym line i) (sym place i) state_offset)))
+      ∙ sym (word_if-here (nat_lt k (line_count l) && nat_lt 0 8) (at l words (twin (line_word state_offset k))) (line_here l k 0 (omega arith) (omega arith)))
       ∙ none k
 
-  line_zero : (c j : ℕ) → line_in l words c j 0 ≡ 0
+  line_zero : (c j : ℕ) → line_in l words c j state_offset ≡ empty_state
   unfolding line_in
-  line_zero c j = cond_both (nat_lt c l.callers && (nat_lt j 8 && nat_lt 0 8)) (at l words (Cached (Line c j 0))) 0 (λ x. x ≡ 0)
+  line_zero c j = cond_both (nat_lt c l.callers && (nat_lt j 8 && nat_lt 0 8)) (at l words (Cached (Line c j state_offset))) 0 (λ x. x ≡ 0)
       (λ both. let parts = and_parts (nat_lt c l.callers) (nat_lt j 8 && nat_lt 0 8) both in let small = and_parts (nat_lt j 8) (nat_lt 0 8) parts.1 in
       state_zero Cached is.rests.empty c j (ltb-true c l.callers parts.0) (ltb-true j 8 small.0))
       (λ past. refl)
 
   safe_zero : (c j : ℕ) → safe_line l words c j 0 ≡ 0
   unfolding safe_line
-  safe_zero c j = cond_both (nat_lt c l.callers && (nat_lt j 8 && nat_lt 0 8)) (at l words (Durable (Line c j 0))) 0 (λ x. x ≡ 0)
+  safe_zero c j = cond_both (nat_lt c l.callers && (nat_lt j 8 && nat_lt 0 8)) (at l words (Durable (Line c j state_offset))) 0 (λ x. x ≡ 0)
       (λ both. let parts = and_parts (nat_lt c l.callers) (nat_lt j 8 && nat_lt 0 8) both in let small = and_parts (nat_lt j 8) (nat_lt 0 8) parts.1 in
       state_zero Durable (λ k. (λ i. (is.rests.durable i).line k 0) ∙ is.rests.empty k) c j (ltb-true c l.callers parts.0) (ltb-true j 8 small.0))
       (λ past. refl)

@@ -11,6 +11,7 @@ use Rattle.version_lock.specs.Versions.{generation_of, IsFree, IsWorn, is_worn_w
 use Rattle.version_lock.proofs.WordTests.{free_is, worn_word}
 use Rattle.data_node.specs.Lists.{ListNode, anchor_in}
 use Rattle.pm_words.specs.Offsets.{stamp_offset}
+use Rattle.image_recovery_law.specs.image_rules.specs.Rules.{generation_offset}
 use Rattle.index_law.specs.Facts.{Facts, version_in, status_in}
 use Rattle.index_law.specs.Worlds.{Party, facts}
 use Rattle.layer_map.specs.Keys.{key_of}
@@ -76,7 +77,7 @@ module _ (l : Layout) (list : List ListNode) (o : Columns) (words : List ℕ) (m
   safe = columns_in l words Durable
 
   abbrev g : ℕ
-  g = at l words (Cached (Header 5))
+  g = at l words (Cached (Header generation_offset))
 
   abbrev f : Facts
   f = facts (opened_world l words [] m)
@@ -113,7 +114,7 @@ module _ (l : Layout) (list : List ListNode) (o : Columns) (words : List ℕ) (m
       (inl (let some = generation_some in omega arith), λ worn. let same : generation_of 0 ≡ g = worn.0 in let some = generation_some in omega arith))
       (cases_lt n l.nodes)
 
-  stamp_zero : (n : ℕ) → volatile_field l words 2 n ≡ 0
+  stamp_zero : (n : ℕ) → volatile_field l words stamp_offset n ≡ 0
   unfolding column
   stamp_zero n = cond_both (nat_lt n l.nodes) (at l words (Volatile n stamp_offset)) 0 (λ x. x ≡ 0) (λ here. is.tells.stamps n (ltb-true n l.nodes here)) (λ past. refl)
 

@@ -11,6 +11,7 @@ use Rattle.data_node.specs.Lists.{ListNode, IsIn, MakeList, Rise, StaysIn, next_
 use Rattle.data_node.specs.Spots.{Spot, Means}
 use Rattle.data_node.proofs.ListLemmas.{chain_is, members_few, member_or}
 use Rattle.pm_words.specs.Offsets.{version_offset}
+use Rattle.image_recovery_law.specs.image_rules.specs.Rules.{generation_offset}
 use Rattle.call_stages.specs.Stages.{Idle}
 use Rattle.index_law.specs.Facts.{version_in, spot_in, status_in, list_in, durable_spot, durable_version}
 use Rattle.index_law.specs.Worlds.{Party, facts}
@@ -105,7 +106,7 @@ module _ (l : Layout) (list : List ListNode) (o : Columns) (words : List ℕ) (m
       (λ (more : spot_in l words n next_offset ≢ 0). within (spot_in l words n next_offset) (leads_on l (facts (opened_world l words [] m)) made n has more))
       (cases_eq (spot_in l words n next_offset) 0)
 
-  live : AreLive l (at l words (Cached (Header 5))) (facts (opened_world l words [] m))
+  live : AreLive l (at l words (Cached (Header generation_offset))) (facts (opened_world l words [] m))
   live = record {
     live = λ n has. status_lit n (within n has) (listed n has);
     listed = λ n here lit free. bright n here lit;
@@ -113,7 +114,7 @@ module _ (l : Layout) (list : List ListNode) (o : Columns) (words : List ℕ) (m
     three = λ n here. let few = status_few n here in omega arith;
   }
 
-  generation_is : now.generation ≡ at l words (Cached (Header 5))
+  generation_is : now.generation ≡ at l words (Cached (Header generation_offset))
   generation_is = refl
 
   -- both twins of each column are the same
@@ -131,8 +132,8 @@ module _ (l : Layout) (list : List ListNode) (o : Columns) (words : List ℕ) (m
     run = is.rests.sound.nodes.generation;
     row = is.row;
     clock = is.tells.clock;
-    versions = λ n here. subst (λ (v : ℕ → ℕ). generation_of (v n) ≤ at l words (Cached (Header 5))) (version_is l words) (is.rests.sound.nodes.versions n here);
-    free = λ n here. subst (λ (v : ℕ → ℕ). IsFree (v n) (at l words (Cached (Header 5)))) (version_is l words) (is.rests.untaken n here).free;
+    versions = λ n here. subst (λ (v : ℕ → ℕ). generation_of (v n) ≤ at l words (Cached (Header generation_offset))) (version_is l words) (is.rests.sound.nodes.versions n here);
+    free = λ n here. subst (λ (v : ℕ → ℕ). IsFree (v n) (at l words (Cached (Header generation_offset)))) (version_is l words) (is.rests.untaken n here).free;
     settled = λ n has. settled n (listed n has);
     durable = λ n here k. spots_even n k;
     durable_versions = λ n here. safe_version n here;
@@ -145,11 +146,11 @@ module _ (l : Layout) (list : List ListNode) (o : Columns) (words : List ℕ) (m
     begun = begun;
   }
     where
-      safe_version : (n : ℕ) → n < l.nodes → generation_of (durable_version l words n) ≤ at l words (Cached (Header 5))
+      safe_version : (n : ℕ) → n < l.nodes → generation_of (durable_version l words n) ≤ at l words (Cached (Header generation_offset))
       safe_version n here =
           let same : durable_version l words n ≡ now.version n =
           sym (word_if-here (nat_lt n l.nodes) (at l words (Durable (Node n version_offset))) (lt-ltb n l.nodes here)) ∙ (λ j. (is.rests.durable j).version n) in
-          subst (λ (v : ℕ). generation_of v ≤ at l words (Cached (Header 5))) (sym same) (is.rests.sound.nodes.versions n here)
+          subst (λ (v : ℕ). generation_of v ≤ at l words (Cached (Header generation_offset))) (sym same) (is.rests.sound.nodes.versions n here)
 
       settled : (n : ℕ) → IsIn list n → IsSettled l (facts (opened_world l words parties m)) n
       settled n has = record {
@@ -167,6 +168,6 @@ opening_has_list l list o words m is = list_is l list o words m is
 
 pub opening_is_unlocked : OpeningIsUnlocked
 opening_is_unlocked l list o words m parties is = record {
-  untaken = λ n here. subst (λ (v : ℕ → ℕ). IsUntaken (v n) (at l words (Cached (Header 5)))) (version_is l words) (is.rests.untaken n here);
+  untaken = λ n here. subst (λ (v : ℕ → ℕ). IsUntaken (v n) (at l words (Cached (Header generation_offset)))) (version_is l words) (is.rests.untaken n here);
   not_gone = λ n here gone. let few = status_few l list o words m is n here in absurd (let two : status_in l words n ≡ gone_status = gone in omega arith);
 }

@@ -9,6 +9,7 @@ use Rattle.pm_words.specs.Rows.{IsRow}
 use Rattle.pm_words.specs.Offsets.{permutation_version_offset, prev_offset, stamp_offset, status_offset}
 use Rattle.cat_history.specs.Maps.{Map}
 use Rattle.data_node.specs.Lists.{ListNode, IsIn, IsMember}
+use Rattle.image_recovery_law.specs.image_rules.specs.Rules.{generation_offset}
 use Rattle.call_stages.specs.Stages.{Idle}
 use Rattle.call_stages.specs.Lines.{HeldLine}
 use Rattle.call_stages.specs.Prevs.{Debt}
@@ -59,7 +60,7 @@ pub record IsOpening (l : Layout) (list : List ListNode) (o : Columns) (words : 
 abbrev pub opened_world : Layout → List ℕ → List Party → Map → World
 opened_world l words parties m = record {
   layout = l;
-  generation = at l words (Cached (Header 5));
+  generation = at l words (Cached (Header generation_offset));
   words = words;
   parties = parties;
   base = m;
