@@ -1,5 +1,5 @@
 -- A walk that makes its loads one after another.
-use Rattle.std.proofs.Common.{◌≡◌, ◌≢◌, ℕ, ◌+◌, ◌*◌, ◌<◌, ◌≤◌, ◌==◌, Bool, true, false, cond, ltb, nat_lt, IsTrue, ◌↔◌}
+use Rattle.std.proofs.Common.{◌≡◌, ◌≢◌, ℕ, ◌+◌, ◌*◌, ◌<◌, ◌≤◌, ◌==◌, Bool, true, false, cond, ltb, nat_lt, IsTrue, ◌↔◌, List}
 use Rattle.std.proofs.Common.{Option, Some, None, ap, ap₂, sym, refl, subst, ◌∙◌, arith}
 use Rattle.std.proofs.lemmas.Bool.{both_ways, eq-eqb, ne_eqb, lt-ltb, le-ltb}
 use Rattle.pm_words.specs.Codes.{live_status, gone_status}
@@ -12,10 +12,10 @@ use Rattle.pm_words.specs.Images.{Row}
 use Rattle.pm_words.specs.Locations.{row_words}
 use Rattle.pm_words.specs.Rows.{CanAct, acted, got}
 use Rattle.pm_words.specs.declared.machine.Turn.{Turn}
+use Rattle.data_node.specs.Lists.{anchor_offset, number_of}
 use Rattle.call_stages.specs.Kinds.{word_address}
 use Rattle.machine_runs.specs.Runs.{begins}
 use Rattle.machine_runs.proofs.Running.{turn_bursts, third_can, thrice_bursts, burst_goes, burst_behind, run_may}
-use Rattle.data_list.specs.declared.key.KeyWords.{KeyWords}
 use Rattle.data_list.specs.declared.target.Walked.{Walked}
 use Rattle.data_list.specs.declared.target.Walked.TheVariants as walked
 use Rattle.data_list.specs.declared.walk.Walk.{Walk}
@@ -23,7 +23,6 @@ use Rattle.data_list.specs.declared.walk.WalkAt.{WalkAt}
 use Rattle.data_list.specs.declared.walk.WalkAt.TheVariants as at
 use Rattle.data_list.specs.Walks.{walk_at_asks, walk_at_turned, walk_takes, IsWalk}
 use Rattle.data_list.specs.Walks.{landing, loads_at, hops_to, saw_version, saw_status, saw_anchor, saw_next, saw_high, target, high_of}
-use Rattle.data_list.specs.Keys.{key_number, words_in}
 use Rattle.data_list.specs.declared.target.Next.{Next}
 use Rattle.data_list.specs.Arrivals.{MayWalk, WalkBursts, Arrives, Leads, anchor_loaded, anchor_at}
 use Rattle.data_list.proofs.Loading.{walk_adds_nothing, walk_fewer}
@@ -61,39 +60,39 @@ goes_may walk here next may b on = run_may walk_takes may (burst_goes b on)
 
 -- the words of an anchor
 module _ {old : Row} (walk : Walk) (version : ℕ) (may : MayWalk old walk (at.First version)) where
-  pub low_within : word_address walk.layout walk.node 5 < row_words old.layout
+  pub low_within : word_address walk.layout walk.node (anchor_offset + 2) < row_words old.layout
   low_within =
       (third_can walk_takes walk_adds_nothing (λ w x takes. walk_fewer w x) 0 (record walk { at = at.First version })
       (λ x. record walk { at = at.Second version x }) (λ x y. record walk { at = at.Third version x y }) _ _ _ refl
       (λ x. refl) (λ x y. refl) (λ x. refl) (λ x y. refl) may).0
 
-  pub low_bursts : {after : Row} {key : KeyWords} {begun later : ℕ}
+  pub low_bursts : {after : Row} {key : List ℕ} {begun later : ℕ}
       → after ≡ record old { words = anchor_loaded walk.layout walk.node old.layout old.words }
       → key ≡ anchor_at walk.layout walk.node old.layout old.words → later ≡ begun + 3
       → WalkBursts old after walk (at.First version) (saw_anchor walk version key) begun later
   low_bursts {after} {begun = begun} {later} acts is ticks =
-      subst (λ (k : KeyWords). WalkBursts old after walk (at.First version) (saw_anchor walk version k) begun later)
+      subst (λ (k : List ℕ). WalkBursts old after walk (at.First version) (saw_anchor walk version k) begun later)
       (sym is)
       (thrice_bursts walk_takes walk_adds_nothing (λ w x takes. walk_fewer w x) begun
       (record walk { at = at.First version }) (λ x. record walk { at = at.Second version x })
       (λ x y. record walk { at = at.Third version x y }) _ _ _ refl (λ x. refl) (λ x y. refl) (λ x. refl)
       (λ x y. refl) may acts refl ticks)
 
-module _ {old : Row} (walk : Walk) (version : ℕ) (low : KeyWords) (next : ℕ)
+module _ {old : Row} (walk : Walk) (version : ℕ) (low : List ℕ) (next : ℕ)
     (may : MayWalk old walk (at.HighFirst version low next)) where
-  pub high_within : word_address walk.layout next 5 < row_words old.layout
+  pub high_within : word_address walk.layout next (anchor_offset + 2) < row_words old.layout
   high_within =
       (third_can walk_takes walk_adds_nothing (λ w x takes. walk_fewer w x) 0
       (record walk { at = at.HighFirst version low next }) (λ x. record walk { at = at.HighSecond version low next x })
       (λ x y. record walk { at = at.HighThird version low next x y }) _ _ _ refl (λ x. refl) (λ x y. refl) (λ x. refl)
       (λ x y. refl) may).0
 
-  pub high_bursts : {after : Row} {key : KeyWords} {begun later : ℕ}
+  pub high_bursts : {after : Row} {key : List ℕ} {begun later : ℕ}
       → after ≡ record old { words = anchor_loaded walk.layout next old.layout old.words }
       → key ≡ anchor_at walk.layout next old.layout old.words → later ≡ begun + 3
       → WalkBursts old after walk (at.HighFirst version low next) (saw_high walk version low next key) begun later
   high_bursts {after} {begun = begun} {later} acts is ticks =
-      subst (λ (k : KeyWords). WalkBursts old after walk (at.HighFirst version low next)
+      subst (λ (k : List ℕ). WalkBursts old after walk (at.HighFirst version low next)
       (saw_high walk version low next k) begun later)
       (sym is)
       (thrice_bursts walk_takes walk_adds_nothing (λ w x takes. walk_fewer w x) begun
@@ -102,14 +101,14 @@ module _ {old : Row} (walk : Walk) (version : ℕ) (low : KeyWords) (next : ℕ)
       (λ x y. refl) may acts refl ticks)
 
 -- what its turns come to at the target
-pub arrives : {old after : Row} (walk : Walk) (here : WalkAt) (version : ℕ) (low : KeyWords) (next : Option Next)
+pub arrives : {old after : Row} (walk : Walk) (here : WalkAt) (version : ℕ) (low : List ℕ) (next : Option Next)
     {turn : Turn Walk Walked} {begun later : ℕ} → WalkBursts old after walk here turn begun later
     → turn ≡ target walk version low next → Arrives old after (record walk { at = here }) walk version begun later
 arrives {old} {after} walk here version low next {begun = begun} {later} b is = record {
   target = record {
     node = walk.node;
     version = version;
-    low = words_in low;
+    low = low;
     high = high_of next;
     hops = walk.hops;
     next = next;
@@ -131,7 +130,7 @@ leads_so after walk here next version None later b on more = record {
 }
 
 -- what the number of the next node makes of it
-module _ (walk : Walk) (version : ℕ) (low : KeyWords) (next nodes : ℕ) where
+module _ (walk : Walk) (version : ℕ) (low : List ℕ) (next nodes : ℕ) where
   abbrev by_tests : Bool → Bool → Turn Walk Walked
   by_tests none within =
       cond none (target walk version low None)
@@ -168,8 +167,8 @@ module _ (walk : Walk) (version status : ℕ) where
   status_other not_live not_gone = ap₂ by_status (ne_eqb status live_status not_live) (ne_eqb status gone_status not_gone)
 
 -- what the anchor makes of it
-module _ (walk : Walk) (version : ℕ) (low : KeyWords) (below : Bool)
-    (is : below ≡ nat_lt (key_number walk.key) (key_number low)) where
+module _ (walk : Walk) (version : ℕ) (low : List ℕ) (below : Bool)
+    (is : below ≡ nat_lt (number_of walk.key) (number_of low)) where
   abbrev by_anchor : Bool → Turn Walk Walked
   by_anchor b = cond b (loads_at walk at.Prev) (loads_at walk (at.Next version low))
 

@@ -1,9 +1,9 @@
 -- Each turn of a walk keeps node and hops, or makes one hop.
-use Rattle.std.proofs.Common.{◌≡◌, ◌≢◌, ℕ, ◌+◌, ◌*◌, ◌<◌, ◌==◌, true, false, cond, ltb, inl, inr, Some, None, refl, sym, ap, ◌∙◌, arith}
+use Rattle.std.proofs.Common.{◌≡◌, ◌≢◌, ℕ, ◌+◌, ◌*◌, ◌<◌, ◌==◌, true, false, cond, ltb, inl, inr, Some, None, refl, sym, ap, ◌∙◌, arith, [], ◌∷◌}
 use Rattle.std.proofs.lemmas.Bool.{eqb-true, eqb-false, ltb-false}
 use Rattle.pm_words.specs.Codes.{live_status, gone_status}
 use Rattle.pm_words.specs.declared.action.Action.TheVariants.{Load}
-use Rattle.data_node.specs.Lists.{next_offset}
+use Rattle.data_node.specs.Lists.{next_offset, number_of}
 use Rattle.pm_words.specs.declared.machine.Turn.{Turn}
 use Rattle.pm_words.specs.declared.machine.Turn.TheVariants.{Go, Done}
 use Rattle.pm_words.specs.declared.again.Again.TheVariants.{Locked, Hops}
@@ -12,8 +12,7 @@ use Rattle.data_list.specs.declared.target.Walked.TheVariants as walked
 use Rattle.data_list.specs.declared.walk.Walk.{Walk}
 use Rattle.data_list.specs.declared.walk.WalkAt.{WalkAt}
 use Rattle.data_list.specs.declared.walk.WalkAt.TheVariants as at
-use Rattle.data_list.specs.Keys.{key_number, words_in}
-use Rattle.data_list.specs.Walks.{landing, loads_at, hops_to, target, words_of_key, walk_at_asks, walk_at_turned, LeadsOn, IsWalkAt, KnowsFirst, IsWalk}
+use Rattle.data_list.specs.Walks.{landing, loads_at, hops_to, target, walk_at_asks, walk_at_turned, LeadsOn, IsWalkAt, KnowsFirst, IsWalk}
 use Rattle.call_stages.specs.Kinds.{Told, status_address, word_address}
 use Rattle.version_lock.specs.Versions.{is_free_word}
 use Rattle.data_list.specs.Hops.{hop_from, HopsAt, WalksHop}
@@ -65,8 +64,8 @@ module _ (walk : Walk) (sound : IsWalk walk) where
   hops_at (at.First version) x here first = on (at.First version) x (at.Second version x)
   hops_at (at.Second version word) x here first = on (at.Second version word) x (at.Third version word x)
   hops_at (at.Third version word second) x here first =
-      let low = words_of_key word second x in
-      elim (ltb (key_number walk.key) (key_number low)) as (λ b. Leads (at.Third version word second) x (cond b (loads_at walk at.Prev) (loads_at walk (at.Next version low)))) [
+      let low = word ∷ second ∷ x ∷ [] in
+      elim (ltb (number_of walk.key) (number_of low)) as (λ b. Leads (at.Third version word second) x (cond b (loads_at walk at.Prev) (loads_at walk (at.Next version low)))) [
         | true ↦ on (at.Third version word second) x at.Prev
         | false ↦ on (at.Third version word second) x (at.Next version low)
       ]
@@ -82,8 +81,8 @@ module _ (walk : Walk) (sound : IsWalk walk) where
   hops_at (at.HighFirst version low next) x here first = on (at.HighFirst version low next) x (at.HighSecond version low next x)
   hops_at (at.HighSecond version low next word) x here first = on (at.HighSecond version low next word) x (at.HighThird version low next word x)
   hops_at (at.HighThird version low next word second) x here first =
-      let high = words_of_key word second x in
-      elim (ltb (key_number walk.key) (key_number high)) as (λ b. Leads (at.HighThird version low next word second) x (cond b (target walk version low (Some (record { node = next; anchor = words_in high }))) (hops_to walk next))) [
+      let high = word ∷ second ∷ x ∷ [] in
+      elim (ltb (number_of walk.key) (number_of high)) as (λ b. Leads (at.HighThird version low next word second) x (cond b (target walk version low (Some (record { node = next; anchor = high }))) (hops_to walk next))) [
         | true ↦ (refl, refl)
         | false ↦ hop (at.HighThird version low next word second) x next refl (λ told zero. here.2)
       ]

@@ -1,5 +1,5 @@
 -- A walk loads, and does nothing else, and each turn leaves it fewer loads.
-use Rattle.std.proofs.Common.{◌≡◌, ℕ, ◌+◌, ◌-◌, ◌*◌, ◌≤◌, ◌==◌, true, false, cond, ltb, Some, None, refl, arith}
+use Rattle.std.proofs.Common.{◌≡◌, ℕ, ◌+◌, ◌-◌, ◌*◌, ◌≤◌, ◌==◌, true, false, cond, ltb, Some, None, refl, arith, [], ◌∷◌}
 use Rattle.std.proofs.lemmas.Bool.{ltb-true}
 use Rattle.pm_words.specs.declared.layout.Layout.{Layout}
 use Rattle.pm_words.specs.declared.again.Again.TheVariants.{Locked, Hops}
@@ -7,14 +7,14 @@ use Rattle.pm_words.specs.declared.machine.Turn.{Turn}
 use Rattle.pm_words.specs.declared.machine.Turn.TheVariants.{Go, Done}
 use Rattle.pm_words.specs.Codes.{live_status, gone_status}
 use Rattle.pm_words.specs.Turns.{GoesBelow}
+use Rattle.data_node.specs.Lists.{number_of}
 use Rattle.version_lock.specs.Versions.{is_free_word}
 use Rattle.data_list.specs.declared.target.Walked.{Walked}
 use Rattle.data_list.specs.declared.target.Walked.TheVariants as walked
 use Rattle.data_list.specs.declared.walk.Walk.{Walk}
 use Rattle.data_list.specs.declared.walk.WalkAt.{WalkAt}
 use Rattle.data_list.specs.declared.walk.WalkAt.TheVariants as at
-use Rattle.data_list.specs.Keys.{key_number, words_in}
-use Rattle.data_list.specs.Walks.{loads_at, landing, hops_to, target, words_of_key}
+use Rattle.data_list.specs.Walks.{loads_at, landing, hops_to, target}
 use Rattle.data_list.specs.Walks.{walk_asks, walk_at_asks, walk_turned, walk_at_turned, walk_left, walk_at_left}
 use Rattle.machine_runs.specs.Runs.{AddsNothing}
 
@@ -65,8 +65,8 @@ module _ (walk : Walk) where
   at_fewer (at.First version) got = omega arith
   at_fewer (at.Second version first) got = omega arith
   at_fewer (at.Third version first second) got =
-      elim (ltb (key_number walk.key) (key_number (words_of_key first second got))) as (λ b. Fewer 6 (cond b
-      (loads_at walk at.Prev) (loads_at walk (at.Next version (words_of_key first second got))))) [
+      elim (ltb (number_of walk.key) (number_of (first ∷ second ∷ got ∷ []))) as (λ b. Fewer 6 (cond b
+      (loads_at walk at.Prev) (loads_at walk (at.Next version (first ∷ second ∷ got ∷ []))))) [
         | true ↦ omega arith
         | false ↦ omega arith
       ]
@@ -83,8 +83,8 @@ module _ (walk : Walk) where
   at_fewer (at.HighFirst version low next) got = omega arith
   at_fewer (at.HighSecond version low next first) got = omega arith
   at_fewer (at.HighThird version low next first second) got =
-      elim (ltb (key_number walk.key) (key_number (words_of_key first second got))) as (λ b. Fewer 2 (cond b
-      (target walk version low (Some (record { node = next; anchor = words_in (words_of_key first second got) })))
+      elim (ltb (number_of walk.key) (number_of (first ∷ second ∷ got ∷ []))) as (λ b. Fewer 2 (cond b
+      (target walk version low (Some (record { node = next; anchor = first ∷ second ∷ got ∷ [] })))
       (hops_to walk next))) [
         | true ↦ tt
         | false ↦ hop_fewer next 2 (omega arith)

@@ -1,14 +1,13 @@
 -- A walk that nobody disturbs comes to the target of its key.
-use Rattle.std.proofs.Common.{◌≡◌, ◌≢◌, ℕ, zero, suc, ◌+◌, ◌*◌, ◌<◌, ◌≤◌, ◌==◌, true, false, cond, ltb, Some, None, inl, inr, ⊎_elim, refl, sym, subst, ap, ◌∙◌, arith, Option}
+use Rattle.std.proofs.Common.{◌≡◌, ◌≢◌, ℕ, zero, suc, ◌+◌, ◌*◌, ◌<◌, ◌≤◌, ◌==◌, true, false, cond, ltb, Some, None, inl, inr, ⊎_elim, refl, sym, subst, ap, ◌∙◌, arith, Option, List, [], ◌∷◌}
 use Rattle.std.proofs.lemmas.Bool.{eqb-true, eqb-false, ne_eqb, ltb-true, ltb-false, lt-ltb}
 use Rattle.pm_words.specs.Codes.{live_status, gone_status}
 use Rattle.pm_words.specs.declared.layout.Layout.{Layout}
 use Rattle.pm_words.specs.declared.machine.Turn.{Turn}
 use Rattle.pm_words.specs.declared.machine.Turn.TheVariants.{Go, Done}
 use Rattle.pm_words.specs.declared.again.Again.TheVariants.{Locked, Hops}
-use Rattle.data_node.specs.Lists.{next_offset, anchor_in, target_from, IsIn, Rise}
+use Rattle.data_node.specs.Lists.{next_offset, anchor_in, target_from, IsIn, Rise, anchor_offset, number_of}
 use Rattle.data_node.proofs.ListLemmas.{between_target, chain_closed}
-use Rattle.data_list.specs.declared.key.KeyWords.{KeyWords}
 use Rattle.data_list.specs.declared.target.Next.{Next}
 use Rattle.data_list.specs.declared.target.Target.{Target}
 use Rattle.data_list.specs.declared.target.Walked.{Walked}
@@ -16,8 +15,7 @@ use Rattle.data_list.specs.declared.target.Walked.TheVariants as walked
 use Rattle.data_list.specs.declared.walk.Walk.{Walk}
 use Rattle.data_list.specs.declared.walk.WalkAt.{WalkAt}
 use Rattle.data_list.specs.declared.walk.WalkAt.TheVariants as at
-use Rattle.data_list.specs.Keys.{key_number, words_in}
-use Rattle.data_list.specs.Walks.{walk_from, landing, loads_at, hops_to, target, words_of_key, walk_at_turned, walk_turned, walk_at_left}
+use Rattle.data_list.specs.Walks.{walk_from, landing, loads_at, hops_to, target, walk_at_turned, walk_turned, walk_at_left}
 use Rattle.data_list.specs.Still.{Nodes, IsQuietList, Comes, loaded, HasSeen, SawLive, IsOnWay, StaysOnWay, BeginsOnWay, WalksComeThere, Answers, is_done, turns, WalksAnswer}
 use Rattle.data_list.proofs.WalkLaw.{anchor_is}
 use Rattle.version_lock.proofs.WordTests.{free_is}
@@ -28,8 +26,8 @@ begins_on_way l g f hops walk still some none at comes = record {
   left = hops;
   comes = comes;
   all = let zero : walk.hops ≡ 0 = none in omega arith;
-  few = comes_few l g f (key_number walk.key) still some walk.node hops comes;
-  seen = subst (HasSeen f (key_number walk.key) walk.node) (sym at) tt;
+  few = comes_few l g f (number_of walk.key) still some walk.node hops comes;
+  seen = subst (HasSeen f (number_of walk.key) walk.node) (sym at) tt;
 }
 
 -- a walk that is nearer to the target than the one before
@@ -48,7 +46,7 @@ module _ (f : Nodes) (hops : ℕ) (walk : Walk) (still : IsQuietList walk.layout
   n = walk.node
 
   abbrev key : ℕ
-  key = key_number walk.key
+  key = number_of walk.key
 
   -- after a load it is nearer to the target, if it isn't there
   abbrev Nears : WalkAt → Turn Walk Walked → Type 0
@@ -96,7 +94,7 @@ module _ (f : Nodes) (hops : ℕ) (walk : Walk) (still : IsQuietList walk.layout
           }))
 
   -- the node is the target
-  ends : (load : WalkAt) (version : ℕ) (low : KeyWords) (leads : Option Next) → SawLive f n version → n ≡ target_from 0 f.list key → leads_to f key n ≡ None → Nears load (target walk version low leads)
+  ends : (load : WalkAt) (version : ℕ) (low : List ℕ) (leads : Option Next) → SawLive f n version → n ≡ target_from 0 f.list key → leads_to f key n ≡ None → Nears load (target walk version low leads)
   ends load version low leads seen is none = (is, ends_at way.left way.comes way.all, seen.word)
     where
       ends_at : (left : ℕ) → Comes l f key n left → walk.hops + left ≡ hops → walk.hops ≡ hops
@@ -122,12 +120,12 @@ module _ (f : Nodes) (hops : ℕ) (walk : Walk) (still : IsQuietList walk.layout
           | false ↦ λ left. hop (at.Status version) 0 (omega arith) (else_leads f key n other left)
         ] refl
       ] refl
-  goes (at.First version) seen = on (at.First version) (at.Second version (f.now n 3)) (omega arith) (seen, refl)
-  goes (at.Second version first) seen = on (at.Second version first) (at.Third version first (f.now n 4)) (omega arith) (seen.0, seen.1, refl)
+  goes (at.First version) seen = on (at.First version) (at.Second version (f.now n anchor_offset)) (omega arith) (seen, refl)
+  goes (at.Second version first) seen = on (at.Second version first) (at.Third version first (f.now n (anchor_offset + 1))) (omega arith) (seen.0, seen.1, refl)
   goes (at.Third version first second) seen =
-      let low = words_of_key first second (f.now n 5) in
-      let anchor : anchor_in (f.now n) ≡ key_number low = anchor_is (f.now n) low (sym seen.1) (sym seen.2) refl in
-      elim (ltb key (key_number low)) as (λ b. ltb key (key_number low) ≡ b → Nears (at.Third version first second) (cond b (loads_at walk at.Prev) (loads_at walk (at.Next version low)))) [
+      let low = first ∷ second ∷ f.now n (anchor_offset + 2) ∷ [] in
+      let anchor : anchor_in (f.now n) ≡ number_of low = anchor_is (f.now n) low (sym seen.1) (sym seen.2) refl in
+      elim (ltb key (number_of low)) as (λ b. ltb key (number_of low) ≡ b → Nears (at.Third version first second) (cond b (loads_at walk at.Prev) (loads_at walk (at.Next version low)))) [
         | true ↦ λ under. on (at.Third version first second) at.Prev (omega arith) (inr (seen.0.live, (let lt = ltb-true _ _ under in omega arith)))
         | false ↦ λ above. on (at.Third version first second) (at.Next version low) (omega arith) (seen.0, (let le = ltb-false _ _ above in omega arith))
       ] refl
@@ -142,18 +140,18 @@ module _ (f : Nodes) (hops : ℕ) (walk : Walk) (still : IsQuietList walk.layout
             subst (λ b. Nears (at.Next version low) (cond b (loads_at walk (at.HighFirst version low next)) (hops_to walk 0))) (sym (lt-ltb next l.nodes within))
             (on (at.Next version low) (at.HighFirst version low next) (omega arith) (record { here = seen.0; above = seen.1; leads = refl; some = eqb-false _ _ more }))
       ] refl
-  goes (at.HighFirst version low next) seen = on (at.HighFirst version low next) (at.HighSecond version low next (f.now next 3)) (omega arith) (seen, refl)
-  goes (at.HighSecond version low next first) seen = on (at.HighSecond version low next first) (at.HighThird version low next first (f.now next 4)) (omega arith) (seen.0, seen.1, refl)
+  goes (at.HighFirst version low next) seen = on (at.HighFirst version low next) (at.HighSecond version low next (f.now next anchor_offset)) (omega arith) (seen, refl)
+  goes (at.HighSecond version low next first) seen = on (at.HighSecond version low next first) (at.HighThird version low next first (f.now next (anchor_offset + 1))) (omega arith) (seen.0, seen.1, refl)
   goes (at.HighThird version low next first second) seen =
-      let high = words_of_key first second (f.now next 5) in
-      let anchor : anchor_in (f.now next) ≡ key_number high = anchor_is (f.now next) high (sym seen.1) (sym seen.2) refl in
-      let beyond : anchor_in (f.now (f.now n next_offset)) ≡ key_number high = ap (λ k. anchor_in (f.now k)) (sym seen.0.leads) ∙ anchor in
+      let high = first ∷ second ∷ f.now next (anchor_offset + 2) ∷ [] in
+      let anchor : anchor_in (f.now next) ≡ number_of high = anchor_is (f.now next) high (sym seen.1) (sym seen.2) refl in
+      let beyond : anchor_in (f.now (f.now n next_offset)) ≡ number_of high = ap (λ k. anchor_in (f.now k)) (sym seen.0.leads) ∙ anchor in
       let more : f.now n next_offset ≢ 0 = λ z. seen.0.some (seen.0.leads ∙ z) in
       let live = seen.0.here.live in
-      elim (ltb key (key_number high)) as (λ b. ltb key (key_number high) ≡ b → Nears (at.HighThird version low next first second) (cond b (target walk version low (Some (record { node = next; anchor = words_in high }))) (hops_to walk next))) [
+      elim (ltb key (number_of high)) as (λ b. ltb key (number_of high) ≡ b → Nears (at.HighThird version low next first second) (cond b (target walk version low (Some (record { node = next; anchor = high }))) (hops_to walk next))) [
         | true ↦ λ under.
             let past : key < anchor_in (f.now (f.now n next_offset)) = let lt = ltb-true _ _ under in omega arith in
-            ends (at.HighThird version low next first second) version low (Some (record { node = next; anchor = words_in high })) seen.0.here (is_target live seen.0.above (λ ne. past)) (ends_leads f key n live seen.0.above more past)
+            ends (at.HighThird version low next first second) version low (Some (record { node = next; anchor = high })) seen.0.here (is_target live seen.0.above (λ ne. past)) (ends_leads f key n live seen.0.above more past)
         | false ↦ λ over.
             let up : anchor_in (f.now (f.now n next_offset)) ≤ key = let le = ltb-false _ _ over in omega arith in
             hop (at.HighThird version low next first second) next (omega arith) (on_leads f key n live seen.0.above more up ∙ ap (λ k. Some k) (sym seen.0.leads))
@@ -181,7 +179,7 @@ walks_come_there l g f hops walk still layout generation way =
 -- it ends, since each turn brings it nearer
 module _ (f : Nodes) (hops : ℕ) where
   abbrev Told : Walk → Type 0
-  Told walk = (target : Target) × Answers f walk (walked.Target target) × (target.node ≡ target_from 0 f.list (key_number walk.key)) × (target.hops ≡ hops)
+  Told walk = (target : Target) × Answers f walk (walked.Target target) × (target.node ≡ target_from 0 f.list (number_of walk.key)) × (target.hops ≡ hops)
 
   -- such a walk answers, if it makes fewer loads than this
   abbrev Answered : ℕ → Type 0
@@ -192,7 +190,7 @@ module _ (f : Nodes) (hops : ℕ) where
   after fuel rest walk still way less (Go next) is near =
       let nearer = near.less in
       let told : Told next = rest next near.quiet near.way (omega arith) in
-      (told.0, turns is told.1, subst (λ (k : KeyWords). told.0.node ≡ target_from 0 f.list (key_number k)) near.key told.2, told.3)
+      (told.0, turns is told.1, subst (λ (k : List ℕ). told.0.node ≡ target_from 0 f.list (number_of k)) near.key told.2, told.3)
   after fuel rest walk still way less (Done (walked.Target target)) is near = (target, is_done is, near.0, near.1)
   after fuel rest walk still way less (Done (walked.Again why)) is near = absurd near
 

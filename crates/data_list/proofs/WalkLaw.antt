@@ -1,5 +1,5 @@
 -- Each turn of a walk is a look, and a watch.
-use Rattle.std.proofs.Common.{◌≡◌, ◌≢◌, ℕ, zero, suc, ◌+◌, ◌*◌, ◌<◌, ◌≤◌, ◌==◌, true, false, cond, ltb, [], ◌∷◌, slice_index, Option, Some, None, refl, sym, subst, ap, arith}
+use Rattle.std.proofs.Common.{◌≡◌, ◌≢◌, ℕ, zero, suc, ◌+◌, ◌*◌, ◌<◌, ◌≤◌, ◌==◌, true, false, cond, ltb, [], ◌∷◌, slice_index, Option, Some, None, refl, sym, subst, ap, arith, List}
 use Rattle.std.proofs.lemmas.Bool.{eqb-true, eqb-false, ltb-true, ltb-false}
 use Rattle.pm_words.specs.Codes.{live_status, gone_status}
 use Rattle.pm_words.specs.declared.layout.Layout.{Layout}
@@ -10,7 +10,7 @@ use Rattle.pm_words.specs.declared.machine.Turn.{Turn}
 use Rattle.pm_words.specs.declared.machine.Turn.TheVariants.{Go, Done}
 use Rattle.version_lock.specs.Versions.{generation_of, kept_count, locked_word, is_free_word, is_worn_word}
 use Rattle.data_node.specs.Spots.{Spot}
-use Rattle.data_node.specs.Lists.{next_offset, three_words, anchor_in, IsBetween}
+use Rattle.data_node.specs.Lists.{next_offset, three_words, anchor_in, IsBetween, anchor_offset, number_of}
 use Rattle.call_stages.specs.declared.once.Once.TheVariants as once
 use Rattle.call_stages.specs.declared.once.Once.{Once}
 use Rattle.call_stages.specs.declared.once.Placed.{Placed}
@@ -18,7 +18,6 @@ use Rattle.call_stages.specs.Stages.{Sight, Sees, Tells, no_sight, Stage, Idle, 
 use Rattle.call_stages.specs.Watches.{Watching, Nothing, Watches, Watch}
 use Rattle.call_stages.specs.Watches as watch
 use Rattle.call_stages.specs.Kinds.{HasWordAt, word_address, version_address, status_address, prev_address, Told, GivesUp, Look, turns_back, wears, roams, roams_status, is_worn, sees, finds_live, watches, watches_next, turns_away, steps_back, wanders}
-use Rattle.data_list.specs.declared.key.KeyWords.{KeyWords}
 use Rattle.data_list.specs.declared.target.Next.{Next}
 use Rattle.data_list.specs.declared.target.Sighting.{Sighting}
 use Rattle.data_list.specs.declared.target.Walked.{Walked}
@@ -26,8 +25,7 @@ use Rattle.data_list.specs.declared.target.Walked.TheVariants as walked
 use Rattle.data_list.specs.declared.walk.Walk.{Walk}
 use Rattle.data_list.specs.declared.walk.WalkAt.{WalkAt}
 use Rattle.data_list.specs.declared.walk.WalkAt.TheVariants as at
-use Rattle.data_list.specs.Keys.{key_number, words_in}
-use Rattle.data_list.specs.Walks.{loads_at, landing, hops_to, saw_version, saw_status, saw_anchor, target, saw_next, saw_high, high_of, words_of_key, walk_at_asks, walk_at_turned, walk_asks, walk_turned, IsAbove, LeadsOn, WasFree, IsWalkAt, KnowsFirst, IsWalk}
+use Rattle.data_list.specs.Walks.{loads_at, landing, hops_to, saw_version, saw_status, saw_anchor, target, saw_next, saw_high, high_of, walk_at_asks, walk_at_turned, walk_asks, walk_turned, IsAbove, LeadsOn, WasFree, IsWalkAt, KnowsFirst, IsWalk}
 use Rattle.data_list.specs.WalkStages.{live_sight, anchor_seen, leading_sight, walk_at_watching, walk_watching, view_stage, saw_stage, watching_stage, walk_at_stage, sight_in}
 use Rattle.version_lock.proofs.WordTests.{free_word, taken_word, worn_word, fresh_word}
 use Rattle.data_list.proofs.KeyLemmas.{name_kept_so}
@@ -50,18 +48,18 @@ pub walk_loose : (g n : ℕ) (at : WalkAt) → IsLoose (walk_at_stage g n at)
 walk_loose g n at = watching_loose g (walk_at_watching n at)
 
 -- the words that make an anchor
-pub anchor_is : (s : Spot) (low : KeyWords) → s 3 ≡ low.first → s 4 ≡ low.second → s 5 ≡ low.third → anchor_in s ≡ key_number low
+pub anchor_is : (s : Spot) (low : List ℕ) → s anchor_offset ≡ slice_index low 0 → s (anchor_offset + 1) ≡ slice_index low 1 → s (anchor_offset + 2) ≡ slice_index low 2 → anchor_in s ≡ number_of low
 unfolding anchor_in
 anchor_is s low a b c = λ k. three_words (a k) (b k) (c k)
 
 -- what is seen of the target puts the key there
-last_between : (key low high : KeyWords) (s t : Spot) → IsAbove key low → Sees (live_sight ((next_offset, 0) ∷ anchor_seen low)) s t → IsBetween s t (key_number key)
+last_between : (key low high : List ℕ) (s t : Spot) → IsAbove key low → Sees (live_sight ((next_offset, 0) ∷ anchor_seen low)) s t → IsBetween s t (number_of key)
 last_between key low high s t above see =
     let a = anchor_is s low see.seen.1.0 see.seen.1.1.0 see.seen.1.1.1.0 in
     record { low = omega arith; high = λ leads. absurd (leads see.seen.0) }
 
-inner_between : (key low high : KeyWords) (next : ℕ) (s t : Spot) → next ≢ 0 → IsAbove key low → key_number key < key_number high
-    → Sees (leading_sight low next (anchor_seen high)) s t → IsBetween s t (key_number key)
+inner_between : (key low high : List ℕ) (next : ℕ) (s t : Spot) → next ≢ 0 → IsAbove key low → number_of key < number_of high
+    → Sees (leading_sight low next (anchor_seen high)) s t → IsBetween s t (number_of key)
 inner_between key low high next s t some above under see =
     let a = anchor_is s low see.seen.1.0 see.seen.1.1.0 see.seen.1.1.1.0 in
     let beyond = see.beyond some in
@@ -72,11 +70,11 @@ pub not_same : (a b : ℕ) → a ≢ b → (a == b) ≡ false
 not_same a b other = elim (a == b) as (λ c. (a == b) ≡ c → c ≡ false) [ true ↦ λ is. absurd (other (eqb-true a b is)) | false ↦ λ is. refl ] refl
 
 -- what it saw of its target
-abbrev sighting : ℕ → KeyWords → Option Next → Sighting
-sighting version low next = record { version = version; low = words_in low; next = next }
+abbrev sighting : ℕ → List ℕ → Option Next → Sighting
+sighting version low next = record { version = version; low = low; next = next }
 
 -- these are the words of the anchor
-low_words : (s : Spot) (low : KeyWords) → Tells (anchor_seen low) s → (i : ℕ) → i < 3 → s (3 + i) ≡ slice_index (words_in low) i
+low_words : (s : Spot) (low : List ℕ) → Tells (anchor_seen low) s → (i : ℕ) → i < 3 → s (anchor_offset + i) ≡ slice_index low i
 low_words s low told zero small = told.0
 low_words s low told (suc zero) small = told.1.0
 low_words s low told (suc (suc zero)) small = told.1.1.0
@@ -211,10 +209,10 @@ module _ (walk : Walk) (sound : IsWalk walk) where
       ] refl
 
   -- it ends at its node, of whose anchor it saw the words
-  ends_here : (w : Watching) (action : Action) (x version : ℕ) (low : KeyWords) (next : Option Next)
+  ends_here : (w : Watching) (action : Action) (x version : ℕ) (low : List ℕ) (next : Option Next)
       → EndsAt l g (watching_stage g w) action x n (sighting version low next) (is_worn_word version g) → Watch l g w action x (Watches n version (sight_in (sighting version low next)))
       → ((s t : Spot) → Sees (sight_in (sighting version low next)) s t → Tells (anchor_seen low) s)
-      → IsTarget l g walk.key (record { node = n; version = version; low = words_in low; high = high_of next; hops = walk.hops; next = next }) → Leads w action x (target walk version low next)
+      → IsTarget l g walk.key (record { node = n; version = version; low = low; high = high_of next; hops = walk.hops; next = next }) → Leads w action x (target walk version low next)
   ends_here w action x version low next look step anchor is = (
     (look, is),
     record {
@@ -227,21 +225,21 @@ module _ (walk : Walk) (sound : IsWalk walk) where
   )
 
   at_third : (version first second x : ℕ) → WasFree g version → (n ≡ 0 → (first ≡ 0) × (second ≡ 0) × (x ≡ 0))
-      → Leads (Watches n version (live_sight ((3, first) ∷ (4, second) ∷ []))) (Load (word_address l n 5)) x (saw_anchor walk version (words_of_key first second x))
+      → Leads (Watches n version (live_sight ((anchor_offset, first) ∷ (anchor_offset + 1, second) ∷ []))) (Load (word_address l n (anchor_offset + 2))) x (saw_anchor walk version (first ∷ second ∷ x ∷ []))
   at_third version first second x free lowest =
-      let sight = live_sight ((3, first) ∷ (4, second) ∷ []) in
+      let sight = live_sight ((anchor_offset, first) ∷ (anchor_offset + 1, second) ∷ []) in
       let w : Watching = Watches n version sight in
-      let low = words_of_key first second x in
-      elim (ltb (key_number walk.key) (key_number low)) as (λ b. ltb (key_number walk.key) (key_number low) ≡ b → Leads w (Load (word_address l n 5)) x
+      let low = first ∷ second ∷ x ∷ [] in
+      elim (ltb (number_of walk.key) (number_of low)) as (λ b. ltb (number_of walk.key) (number_of low) ≡ b → Leads w (Load (word_address l n (anchor_offset + 2))) x
       (cond b (loads_at walk at.Prev) (loads_at walk (at.Next version low)))) [
-        | true ↦ λ under. on w (Load (word_address l n 5)) x at.Prev (wanders (watching_loose g w) (has 5 (omega arith)) tt) watch.lets_go (wanders (view_loose w) (has 5 (omega arith)) tt) tt
+        | true ↦ λ under. on w (Load (word_address l n (anchor_offset + 2))) x at.Prev (wanders (watching_loose g w) (has (anchor_offset + 2) (omega arith)) tt) watch.lets_go (wanders (view_loose w) (has (anchor_offset + 2) (omega arith)) tt) tt
             (λ zero. let low_is = lowest zero in let lt = ltb-true _ _ under in absurd (omega (arith, low_is.0, low_is.1, low_is.2)))
-        | false ↦ λ above. sees_on w (Load (word_address l n 5)) x version (live_sight (anchor_seen low)) (at.Next version low) (watch.watches (has 5 (omega arith)) (omega arith) refl refl
+        | false ↦ λ above. sees_on w (Load (word_address l n (anchor_offset + 2))) x version (live_sight (anchor_seen low)) (at.Next version low) (watch.watches (has (anchor_offset + 2) (omega arith)) (omega arith) refl refl
             (λ s t see e. record { seen = (see.seen.0, (see.seen.1.0, (e, tt))); leads = λ some. absurd (some refl); beyond = λ some. absurd (some refl) }))
             refl (free, ltb-false _ _ above) tt
       ] refl
 
-  at_next : (version : ℕ) (low : KeyWords) (x : ℕ) → WasFree g version → IsAbove walk.key low
+  at_next : (version : ℕ) (low : List ℕ) (x : ℕ) → WasFree g version → IsAbove walk.key low
       → Leads (Watches n version (live_sight (anchor_seen low))) (Load (word_address l n next_offset)) x (saw_next walk version low x)
   at_next version low x free above =
       let sight = live_sight (anchor_seen low) in
@@ -271,23 +269,23 @@ module _ (walk : Walk) (sound : IsWalk walk) where
         ] refl
       ] refl
 
-  at_high : (version : ℕ) (low : KeyWords) (next first second x : ℕ) → WasFree g version → IsAbove walk.key low → LeadsOn l next
-      → Leads (Watches n version (leading_sight low next ((3, first) ∷ (4, second) ∷ []))) (Load (word_address l next 5)) x (saw_high walk version low next (words_of_key first second x))
+  at_high : (version : ℕ) (low : List ℕ) (next first second x : ℕ) → WasFree g version → IsAbove walk.key low → LeadsOn l next
+      → Leads (Watches n version (leading_sight low next ((anchor_offset, first) ∷ (anchor_offset + 1, second) ∷ []))) (Load (word_address l next (anchor_offset + 2))) x (saw_high walk version low next (first ∷ second ∷ x ∷ []))
   at_high version low next first second x free above leads =
-      let sight = leading_sight low next ((3, first) ∷ (4, second) ∷ []) in
+      let sight = leading_sight low next ((anchor_offset, first) ∷ (anchor_offset + 1, second) ∷ []) in
       let w : Watching = Watches n version sight in
-      let action = Load (word_address l next 5) in
-      let high = words_of_key first second x in
-      let there : HasWordAt l next 5 = (leads.within, omega arith) in
-      let leads_to : Next = record { node = next; anchor = words_in high } in
-      elim (ltb (key_number walk.key) (key_number high)) as (λ b. ltb (key_number walk.key) (key_number high) ≡ b → Leads w action x (cond b (target walk version low (Some leads_to)) (hops_to walk next))) [
+      let action = Load (word_address l next (anchor_offset + 2)) in
+      let high = first ∷ second ∷ x ∷ [] in
+      let there : HasWordAt l next (anchor_offset + 2) = (leads.within, omega arith) in
+      let leads_to : Next = record { node = next; anchor = high } in
+      elim (ltb (number_of walk.key) (number_of high)) as (λ b. ltb (number_of walk.key) (number_of high) ≡ b → Leads w action x (cond b (target walk version low (Some leads_to)) (hops_to walk next))) [
         | true ↦ λ under.
             let seen : Sighting = sighting version low (Some leads_to) in
             let step : Watch l g w action x (Watches n version (sight_in seen)) = watch.watches_next there (omega arith) (omega arith) leads.some refl refl refl
             (λ s t see. see.leads leads.some)
             (λ s t see e. let beyond = see.beyond leads.some in
             record { seen = see.seen; leads = see.leads; beyond = λ some. (beyond.0, (beyond.1.0, ((omega arith, omega arith, e), tt))) }) in
-            ends_here w action x version low (Some leads_to) (ends l g n next 5 x sight seen there step) step (λ s t see. see.seen.1)
+            ends_here w action x version low (Some leads_to) (ends l g n next (anchor_offset + 2) x sight seen there step) step (λ s t see. see.seen.1)
             (record {
               here = sound.node;
               seen = record { free = free; live = refl; between = λ s t see. inner_between walk.key low high next s t leads.some above (ltb-true _ _ under) see };
@@ -303,24 +301,24 @@ module _ (walk : Walk) (sound : IsWalk walk) where
   walk_leads at.Version x here first told = at_version x (told.known n sound.node refl)
   walk_leads (at.Status version) x here first told = at_status version x here (λ zero. told.first_live (ap (λ k. Load (status_address l k)) zero))
   walk_leads (at.First version) x here first told =
-      sees_on (Watches n version (live_sight [])) (Load (word_address l n 3)) x version (live_sight ((3, x) ∷ [])) (at.Second version x) (watch.watches (has 3 (omega arith)) (omega arith) refl refl
+      sees_on (Watches n version (live_sight [])) (Load (word_address l n anchor_offset)) x version (live_sight ((anchor_offset, x) ∷ [])) (at.Second version x) (watch.watches (has anchor_offset (omega arith)) (omega arith) refl refl
       (λ s t see e. record { seen = (e, tt); leads = λ some. absurd (some refl); beyond = λ some. absurd (some refl) })) refl here
-      (λ zero. told.first_anchor 3 (omega arith) (omega arith) (ap (λ k. Load (word_address l k 3)) zero))
+      (λ zero. told.first_anchor anchor_offset (omega arith) (omega arith) (ap (λ k. Load (word_address l k anchor_offset)) zero))
   walk_leads (at.Second version word) x here first told =
-      sees_on (Watches n version (live_sight ((3, word) ∷ []))) (Load (word_address l n 4)) x version (live_sight ((3, word) ∷ (4, x) ∷ [])) (at.Third version word x) (watch.watches (has 4 (omega arith)) (omega arith) refl refl
+      sees_on (Watches n version (live_sight ((anchor_offset, word) ∷ []))) (Load (word_address l n (anchor_offset + 1))) x version (live_sight ((anchor_offset, word) ∷ (anchor_offset + 1, x) ∷ [])) (at.Third version word x) (watch.watches (has (anchor_offset + 1) (omega arith)) (omega arith) refl refl
       (λ s t see e. record { seen = (see.seen.0, (e, tt)); leads = λ some. absurd (some refl); beyond = λ some. absurd (some refl) })) refl here
-      (λ zero. (first zero, told.first_anchor 4 (omega arith) (omega arith) (ap (λ k. Load (word_address l k 4)) zero)))
+      (λ zero. (first zero, told.first_anchor (anchor_offset + 1) (omega arith) (omega arith) (ap (λ k. Load (word_address l k (anchor_offset + 1))) zero)))
   walk_leads (at.Third version word second) x here first told =
-      at_third version word second x here (λ zero. ((first zero).0, (first zero).1, told.first_anchor 5 (omega arith) (omega arith) (ap (λ k. Load (word_address l k 5)) zero)))
+      at_third version word second x here (λ zero. ((first zero).0, (first zero).1, told.first_anchor (anchor_offset + 2) (omega arith) (omega arith) (ap (λ k. Load (word_address l k (anchor_offset + 2))) zero)))
   walk_leads (at.Next version low) x here first told = at_next version low x here.0 here.1
   walk_leads (at.HighFirst version low next) x here first told =
-      let there : HasWordAt l next 3 = (here.2.within, omega arith) in
-      sees_on (Watches n version (live_sight ((next_offset, next) ∷ anchor_seen low))) (Load (word_address l next 3)) x version (leading_sight low next ((3, x) ∷ [])) (at.HighSecond version low next x)
+      let there : HasWordAt l next anchor_offset = (here.2.within, omega arith) in
+      sees_on (Watches n version (live_sight ((next_offset, next) ∷ anchor_seen low))) (Load (word_address l next anchor_offset)) x version (leading_sight low next ((anchor_offset, x) ∷ [])) (at.HighSecond version low next x)
       (watch.watches_next there (omega arith) (omega arith) here.2.some refl refl refl (λ s t see. see.seen.0)
       (λ s t see e. record { seen = see.seen; leads = λ some. see.seen.0; beyond = λ some. ((omega arith, omega arith, e), tt) })) refl here tt
   walk_leads (at.HighSecond version low next word) x here first told =
-      let there : HasWordAt l next 4 = (here.2.within, omega arith) in
-      sees_on (Watches n version (leading_sight low next ((3, word) ∷ []))) (Load (word_address l next 4)) x version (leading_sight low next ((3, word) ∷ (4, x) ∷ [])) (at.HighThird version low next word x)
+      let there : HasWordAt l next (anchor_offset + 1) = (here.2.within, omega arith) in
+      sees_on (Watches n version (leading_sight low next ((anchor_offset, word) ∷ []))) (Load (word_address l next (anchor_offset + 1))) x version (leading_sight low next ((anchor_offset, word) ∷ (anchor_offset + 1, x) ∷ [])) (at.HighThird version low next word x)
       (watch.watches_next there (omega arith) (omega arith) here.2.some refl refl refl (λ s t see. see.seen.0)
       (λ s t see e. let beyond = see.beyond here.2.some in record { seen = see.seen; leads = see.leads; beyond = λ some. (beyond.0, ((omega arith, omega arith, e), tt)) })) refl here tt
   walk_leads (at.HighThird version low next word second) x here first told = at_high version low next word second x here.0 here.1 here.2

@@ -1,5 +1,5 @@
 -- A walk that makes all its loads one after another.
-use Rattle.std.specs.Prelude.{◌≡◌, ℕ, List, Option, Some, None, Result, Ok, Err}
+use Rattle.std.specs.Prelude.{◌≡◌, ℕ, ◌+◌, List, Option, Some, None, Result, Ok, Err, [], ◌∷◌}
 use Rattle.pm_words.specs.declared.again.Again.{Again}
 use Rattle.pm_words.specs.declared.layout.Layout.{Layout}
 use Rattle.pm_words.specs.declared.action.Action.TheVariants.{Load}
@@ -7,15 +7,15 @@ use Rattle.pm_words.specs.declared.machine.Turn.{Turn}
 use Rattle.pm_words.specs.declared.machine.Turn.TheVariants.{Go, Done}
 use Rattle.pm_words.specs.Images.{Row}
 use Rattle.pm_words.specs.Rows.{acted, got}
+use Rattle.data_node.specs.Lists.{anchor_offset}
 use Rattle.call_stages.specs.Kinds.{word_address}
 use Rattle.machine_runs.specs.Runs.{Bursts, MayGo}
-use Rattle.data_list.specs.declared.key.KeyWords.{KeyWords}
 use Rattle.data_list.specs.declared.target.Target.{Target}
 use Rattle.data_list.specs.declared.target.Walked.{Walked}
 use Rattle.data_list.specs.declared.target.Walked.TheVariants as walked
 use Rattle.data_list.specs.declared.walk.Walk.{Walk}
 use Rattle.data_list.specs.declared.walk.WalkAt.{WalkAt}
-use Rattle.data_list.specs.Walks.{walk_asks, walk_turned, walk_takes, walk_left, hops_to, words_of_key}
+use Rattle.data_list.specs.Walks.{walk_asks, walk_turned, walk_takes, walk_left, hops_to}
 
 -- from there on it may do what it asks for
 abbrev pub MayWalk : Row → Walk → WalkAt → Type 0
@@ -59,12 +59,14 @@ HopsOn turn walk (Err why) = turn ≡ Done (walked.Again why)
 -- the words behind loads of a node's anchor, and the anchor
 abbrev pub anchor_loaded : Layout → ℕ → Layout → List ℕ → List ℕ
 anchor_loaded l node row words =
-    acted row (acted row (acted row words (Load (word_address l node 3))) (Load (word_address l node 4)))
-    (Load (word_address l node 5))
+    let one = acted row words (Load (word_address l node anchor_offset)) in
+    let two = acted row one (Load (word_address l node (anchor_offset + 1))) in
+    acted row two (Load (word_address l node (anchor_offset + 2)))
 
-abbrev pub anchor_at : Layout → ℕ → Layout → List ℕ → KeyWords
+abbrev pub anchor_at : Layout → ℕ → Layout → List ℕ → List ℕ
 anchor_at l node row words =
-    let one = acted row words (Load (word_address l node 3)) in
-    let two = acted row one (Load (word_address l node 4)) in
-    words_of_key (got row words (Load (word_address l node 3))) (got row one (Load (word_address l node 4)))
-    (got row two (Load (word_address l node 5)))
+    let one = acted row words (Load (word_address l node anchor_offset)) in
+    let two = acted row one (Load (word_address l node (anchor_offset + 1))) in
+    got row words (Load (word_address l node anchor_offset)) ∷
+    got row one (Load (word_address l node (anchor_offset + 1))) ∷
+    got row two (Load (word_address l node (anchor_offset + 2))) ∷ []

@@ -3,19 +3,10 @@ use Rattle.std.specs.Prelude.{◌≡◌, ◌↔◌, ℕ, ◌*◌, ◌==◌, ◌&
 use Rattle.std.specs.Prelude.{Option, Some, None, IsSome, IfSome, slice_index}
 use Rattle.cat_key.specs.declared.TheConstants.{WORDS}
 use Rattle.cat_key.specs.Names.{IsName, AreNameWords, words_of, bytes_of}
-use Rattle.data_node.specs.Lists.{three_words}
-use Rattle.data_list.specs.declared.key.KeyWords.{KeyWords}
 
--- The words as one number.
-abbrev pub key_number : KeyWords → ℕ
-key_number k = three_words k.first k.second k.third
-
--- They are taken from a list of three, and make it again.
-abbrev pub key_words : List ℕ → KeyWords
-key_words words = record { first = slice_index words 0; second = slice_index words 1; third = slice_index words 2 }
-
-abbrev pub words_in : KeyWords → List ℕ
-words_in k = k.first ∷ k.second ∷ k.third ∷ []
+-- The three words of a key, one by one.
+abbrev pub key_words : List ℕ → List ℕ
+key_words words = slice_index words 0 ∷ slice_index words 1 ∷ slice_index words 2 ∷ []
 
 -- This is the name whose words these are, and there is none exactly where they are no name's.
 pub record IsNameOf (words : List ℕ) (name : Option (List ℕ)) : Type 0 where
@@ -32,11 +23,13 @@ abbrev pub is_name : List ℕ → Bool
 is_name text = nat_le 1 (length text) && (nat_le (length text) (8 * WORDS) && are_name_bytes text)
 
 -- Whether these are the words of the text.
-abbrev pub keeps : KeyWords → List ℕ → Bool
-keeps k text = slice_index (words_of text) 0 == k.first && (slice_index (words_of text) 1 == k.second && slice_index
-    (words_of text) 2 == k.third)
+abbrev pub keeps : List ℕ → List ℕ → Bool
+keeps words text = slice_index (words_of text) 0 == slice_index words 0 &&
+    (slice_index (words_of text) 1 == slice_index words 1 && slice_index (words_of text) 2 == slice_index words 2)
 
 -- The name whose words these are, if they are some name's.
-unfoldable pub name_kept : KeyWords → Option (List ℕ)
-name_kept k =
-    if is_name (bytes_of (words_in k)) && keeps k (bytes_of (words_in k)) then Some (bytes_of (words_in k)) else None
+unfoldable pub name_kept : List ℕ → Option (List ℕ)
+name_kept words =
+    if is_name (bytes_of (key_words words)) && keeps words (bytes_of (key_words words))
+    then Some (bytes_of (key_words words))
+    else None

@@ -6,39 +6,38 @@ use Rattle.pm_words.specs.declared.machine.Turn.{Turn}
 use Rattle.pm_words.specs.declared.machine.Turn.TheVariants.{Go, Done}
 use Rattle.version_lock.specs.Versions.{kept_count, locked_word, is_worn_word, IsFree}
 use Rattle.data_node.specs.Spots.{Spot}
-use Rattle.data_node.specs.Lists.{IsBetween}
+use Rattle.data_node.specs.Lists.{IsBetween, number_of}
 use Rattle.call_stages.specs.declared.once.Once.TheVariants as once
 use Rattle.call_stages.specs.Stages.{Sees, Stage, Idle, Saw, Reads}
 use Rattle.call_stages.specs.Kinds.{Look, Told}
 use Rattle.call_stages.specs.Watches.{Watching, Watches, Watch, IsSeenAs}
-use Rattle.data_list.specs.declared.key.KeyWords.{KeyWords}
 use Rattle.data_list.specs.declared.target.Next.{Next}
 use Rattle.data_list.specs.declared.target.Sighting.{Sighting}
 use Rattle.data_list.specs.declared.target.Target.{Target}
 use Rattle.data_list.specs.declared.target.Walked.{Walked}
 use Rattle.data_list.specs.declared.target.Walked.TheVariants as walked
 use Rattle.data_list.specs.declared.walk.Walk.{Walk}
-use Rattle.data_list.specs.Keys.{key_number, key_words, words_in, IsNameOf}
+use Rattle.data_list.specs.Keys.{key_words, IsNameOf}
 use Rattle.data_list.specs.Walks.{LeadsOn, sighting_of, WasFree, IsWalk, walk_asks, walk_turned}
 use Rattle.data_list.specs.WalkStages.{walk_watching, walk_stage, view_stage, sight_in}
 
 -- What a walk saw of its target. While the version word stands, the key belongs there.
-pub record IsSighting (g : ℕ) (key : KeyWords) (seen : Sighting) : Type 0 where
+pub record IsSighting (g : ℕ) (key : List ℕ) (seen : Sighting) : Type 0 where
   pub free : WasFree g seen.version
   pub live : (sight_in seen).live ≡ true
-  pub between : (s t : Spot) → Sees (sight_in seen) s t → IsBetween s t (key_number key)
+  pub between : (s t : Spot) → Sees (sight_in seen) s t → IsBetween s t (number_of key)
 
 -- The end of the range of a node that leads there, told as a name if its words are one.
 abbrev pub Ends : Option Next → Option (List ℕ) → Type 0
 Ends None high = high ≡ None
-Ends (Some next) high = IsNameOf (words_in (key_words next.anchor)) high
+Ends (Some next) high = IsNameOf (key_words next.anchor) high
 
 -- What a walk tells of its target.
-pub record IsTarget (l : Layout) (g : ℕ) (key : KeyWords) (target : Target) : Type 0 where
+pub record IsTarget (l : Layout) (g : ℕ) (key : List ℕ) (target : Target) : Type 0 where
   pub here : target.node < l.nodes
   pub seen : IsSighting g key (sighting_of target)
-  pub above : key_number (key_words target.low) ≤ key_number key  -- the key isn't below its range,
-  pub below : IfSome target.next (λ next. key_number key < key_number (key_words next.anchor))  -- nor past it
+  pub above : number_of target.low ≤ number_of key  -- the key isn't below its range,
+  pub below : IfSome target.next (λ next. number_of key < number_of next.anchor)  -- nor past it
   pub next : IfSome target.next (λ next. LeadsOn l next.node)
   pub high : Ends target.next target.high
 
@@ -50,7 +49,7 @@ EndsAt l g stage action x n seen false =
 
 -- A turn of a walk in the layout l and the generation g to this key, at this stage, whose action gave x: it is a look,
 -- and the walk that goes on is sound and has the same fields.
-abbrev pub Walks : Layout → ℕ → KeyWords → Stage → Action → ℕ → Turn Walk Walked → Type 0
+abbrev pub Walks : Layout → ℕ → List ℕ → Stage → Action → ℕ → Turn Walk Walked → Type 0
 Walks l g key stage action x (Go walk) =
     Look l g stage action x (walk_stage walk) None × IsWalk walk × (walk.layout ≡ l) × (walk.generation ≡ g) ×
     (walk.key ≡ key)
@@ -65,15 +64,15 @@ WalksAreLooks = (walk : Walk) (x : ℕ) → IsWalk walk → Told walk.layout wal
 
 -- What a walk that relied on that has of its target by its last load, which gave x: it relies on what it saw of it, by
 -- which the key belongs there, and these are the words of its anchor.
-pub record IsWatched (l : Layout) (g : ℕ) (key : KeyWords) (watching : Watching) (action : Action) (x : ℕ)
+pub record IsWatched (l : Layout) (g : ℕ) (key : List ℕ) (watching : Watching) (action : Action) (x : ℕ)
     (target : Target) : Type 0 where
   pub here : target.node < l.nodes
   pub free : IsFree target.version g
   pub watch : Watch l g watching action x (Watches target.node target.version (sight_in (sighting_of target)))
-  pub seen : IsSeenAs (key_number key) target.low (sight_in (sighting_of target))
+  pub seen : IsSeenAs (number_of key) target.low (sight_in (sighting_of target))
 
 -- A turn of a walk to this key that relied on that, whose load gave x: it is a watch, also where it ends at its target.
-abbrev pub WalkWatches : Layout → ℕ → KeyWords → Watching → Action → ℕ → Turn Walk Walked → Type 0
+abbrev pub WalkWatches : Layout → ℕ → List ℕ → Watching → Action → ℕ → Turn Walk Walked → Type 0
 WalkWatches l g key watching action x (Go walk) = Watch l g watching action x (walk_watching walk)
 WalkWatches l g key watching action x (Done (walked.Again why)) = Unit {0}
 WalkWatches l g key watching action x (Done (walked.Target target)) = IsWatched l g key watching action x target

@@ -7,16 +7,15 @@ use Rattle.pm_words.specs.declared.machine.Turn.{Turn}
 use Rattle.pm_words.specs.declared.machine.Turn.TheVariants.{Go, Done}
 use Rattle.version_lock.specs.Versions.{IsFree}
 use Rattle.data_node.specs.Spots.{Spot}
-use Rattle.data_node.specs.Lists.{ListNode, next_offset, anchor_in, target_from, IsIn, IsChain, Rise}
+use Rattle.data_node.specs.Lists.{ListNode, next_offset, anchor_offset, number_of, anchor_in, target_from, IsIn}
+use Rattle.data_node.specs.Lists.{IsChain, Rise}
 use Rattle.call_stages.specs.Orders.{AreInOrder}
-use Rattle.data_list.specs.declared.key.KeyWords.{KeyWords}
 use Rattle.data_list.specs.declared.target.Target.{Target}
 use Rattle.data_list.specs.declared.target.Walked.{Walked}
 use Rattle.data_list.specs.declared.target.Walked.TheVariants as walked
 use Rattle.data_list.specs.declared.walk.Walk.{Walk}
 use Rattle.data_list.specs.declared.walk.WalkAt.{WalkAt}
 use Rattle.data_list.specs.declared.walk.WalkAt.TheVariants as at
-use Rattle.data_list.specs.Keys.{key_number}
 use Rattle.data_list.specs.Walks.{walk_from, walk_turned}
 
 -- The words of the nodes, and their list.
@@ -90,13 +89,13 @@ ComesSoon = (l : Layout) (g : ℕ) (f : Nodes) (key n hops : ℕ) → IsQuietLis
 abbrev pub loaded : Nodes → ℕ → WalkAt → ℕ
 loaded f n at.Version = f.version n
 loaded f n (at.Status version) = f.status n
-loaded f n (at.First version) = f.now n 3
-loaded f n (at.Second version first) = f.now n 4
-loaded f n (at.Third version first second) = f.now n 5
+loaded f n (at.First version) = f.now n anchor_offset
+loaded f n (at.Second version first) = f.now n (anchor_offset + 1)
+loaded f n (at.Third version first second) = f.now n (anchor_offset + 2)
 loaded f n (at.Next version low) = f.now n next_offset
-loaded f n (at.HighFirst version low next) = f.now next 3
-loaded f n (at.HighSecond version low next first) = f.now next 4
-loaded f n (at.HighThird version low next first second) = f.now next 5
+loaded f n (at.HighFirst version low next) = f.now next anchor_offset
+loaded f n (at.HighSecond version low next first) = f.now next (anchor_offset + 1)
+loaded f n (at.HighThird version low next first second) = f.now next (anchor_offset + 2)
 loaded f n at.Prev = f.prev n
 
 -- It has loaded that the node is in use, and this version word.
@@ -116,37 +115,38 @@ abbrev pub HasSeen : Nodes → ℕ → ℕ → WalkAt → Type 0
 HasSeen f key n at.Version = Unit {0}
 HasSeen f key n (at.Status version) = version ≡ f.version n
 HasSeen f key n (at.First version) = SawLive f n version
-HasSeen f key n (at.Second version first) = SawLive f n version × (first ≡ f.now n 3)
+HasSeen f key n (at.Second version first) = SawLive f n version × (first ≡ f.now n anchor_offset)
 HasSeen f key n (at.Third version first second) =
-    SawLive f n version × (first ≡ f.now n 3) × (second ≡ f.now n 4)
+    SawLive f n version × (first ≡ f.now n anchor_offset) × (second ≡ f.now n (anchor_offset + 1))
 HasSeen f key n (at.Next version low) = SawLive f n version × (anchor_in (f.now n) ≤ key)
 HasSeen f key n (at.HighFirst version low next) = SawNext f key n version next
-HasSeen f key n (at.HighSecond version low next first) = SawNext f key n version next × (first ≡ f.now next 3)
+HasSeen f key n (at.HighSecond version low next first) =
+    SawNext f key n version next × (first ≡ f.now next anchor_offset)
 HasSeen f key n (at.HighThird version low next first second) =
-    SawNext f key n version next × (first ≡ f.now next 3) × (second ≡ f.now next 4)
+    SawNext f key n version next × (first ≡ f.now next anchor_offset) × (second ≡ f.now next (anchor_offset + 1))
 HasSeen f key n at.Prev =
     (f.status n ≡ gone_status) ⊎ ((f.status n ≡ live_status) × (key < anchor_in (f.now n)))
 
 -- How far a walk has come that makes so many hops in all.
 pub record IsOnWay (l : Layout) (f : Nodes) (hops : ℕ) (walk : Walk) : Type 0 where
   pub left : ℕ
-  pub comes : Comes l f (key_number walk.key) walk.node left
+  pub comes : Comes l f (number_of walk.key) walk.node left
   pub all : walk.hops + left ≡ hops
   pub few : hops < l.nodes
-  pub seen : HasSeen f (key_number walk.key) walk.node walk.at
+  pub seen : HasSeen f (number_of walk.key) walk.node walk.at
 
 -- After a turn: it is on its way, or at the target, and has made these hops.
-abbrev pub StaysOnWay : Layout → Nodes → ℕ → KeyWords → Turn Walk Walked → Type 0
+abbrev pub StaysOnWay : Layout → Nodes → ℕ → List ℕ → Turn Walk Walked → Type 0
 StaysOnWay l f hops key (Go walk) = IsOnWay l f hops walk
 StaysOnWay l f hops key (Done (walked.Target target)) =
-    (target.node ≡ target_from 0 f.list (key_number key)) × (target.hops ≡ hops) ×
+    (target.node ≡ target_from 0 f.list (number_of key)) × (target.hops ≡ hops) ×
     (target.version ≡ f.version target.node)
 StaysOnWay l f hops key (Done (walked.Again why)) = ⊥
 
 -- A walk that begins at a node from which one comes to the target is on its way.
 abbrev pub BeginsOnWay : Type 0
 BeginsOnWay = (l : Layout) (g : ℕ) (f : Nodes) (hops : ℕ) (walk : Walk) → IsQuietList l g f → 0 < l.nodes →
-    walk.hops ≡ 0 → walk.at ≡ at.Version → Comes l f (key_number walk.key) walk.node hops → IsOnWay l f hops walk
+    walk.hops ≡ 0 → walk.at ≡ at.Version → Comes l f (number_of walk.key) walk.node hops → IsOnWay l f hops walk
 
 -- While the words are f, each turn of a walk on its way leaves it on its way, or ends it at the target of its key.
 abbrev pub WalksComeThere : Type 0
@@ -163,7 +163,7 @@ pub data Answers (f : Nodes) : Walk → Walked → Type 0 where
 
 -- From a node from which one comes to the target by so many hops, a walk answers that target and those hops.
 abbrev pub WalksAnswer : Type 0
-WalksAnswer = (l : Layout) (g : ℕ) (f : Nodes) (hint hops : ℕ) (key : KeyWords) → IsQuietList l g f → 0 < l.nodes →
-    Comes l f (key_number key) hint hops → (target : Target) ×
+WalksAnswer = (l : Layout) (g : ℕ) (f : Nodes) (hint hops : ℕ) (key : List ℕ) → IsQuietList l g f → 0 < l.nodes →
+    Comes l f (number_of key) hint hops → (target : Target) ×
     Answers f (walk_from l g hint key) (walked.Target target) ×
-    (target.node ≡ target_from 0 f.list (key_number key)) × (target.hops ≡ hops)
+    (target.node ≡ target_from 0 f.list (number_of key)) × (target.hops ≡ hops)

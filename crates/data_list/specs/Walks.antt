@@ -1,5 +1,5 @@
 -- The walk to the node of a key, step by step.
-use Rattle.std.specs.Prelude.{◌≡◌, ◌≢◌, ℕ, ◌+◌, ◌-◌, ◌*◌, ◌<◌, ◌≤◌, ◌==◌, nat_lt, if◌then◌else◌, List}
+use Rattle.std.specs.Prelude.{◌≡◌, ◌≢◌, ℕ, ◌+◌, ◌-◌, ◌*◌, ◌<◌, ◌≤◌, ◌==◌, nat_lt, if◌then◌else◌, List, [], ◌∷◌}
 use Rattle.std.specs.Prelude.{Option, Some, None}
 use Rattle.pm_words.specs.Codes.{live_status, gone_status}
 use Rattle.pm_words.specs.declared.layout.Layout.{Layout}
@@ -10,10 +10,9 @@ use Rattle.pm_words.specs.declared.machine.Turn.{Turn}
 use Rattle.pm_words.specs.declared.machine.Turn.TheVariants.{Go, Done}
 use Rattle.pm_words.specs.Layouts.{IsLayout}
 use Rattle.version_lock.specs.Versions.{generation_of, IsFree, is_free_word}
-use Rattle.data_node.specs.Lists.{next_offset}
+use Rattle.data_node.specs.Lists.{next_offset, anchor_offset, number_of}
 use Rattle.call_stages.specs.Kinds.{word_address, version_address, status_address, prev_address}
 use Rattle.call_stages.specs.Kinds.{Told}
-use Rattle.data_list.specs.declared.key.KeyWords.{KeyWords}
 use Rattle.data_list.specs.declared.target.Next.{Next}
 use Rattle.data_list.specs.declared.target.Sighting.{Sighting}
 use Rattle.data_list.specs.declared.target.Target.{Target}
@@ -22,9 +21,9 @@ use Rattle.data_list.specs.declared.target.Walked.TheVariants as walked
 use Rattle.data_list.specs.declared.walk.Walk.{Walk}
 use Rattle.data_list.specs.declared.walk.WalkAt.{WalkAt}
 use Rattle.data_list.specs.declared.walk.WalkAt.TheVariants as at
-use Rattle.data_list.specs.Keys.{key_number, key_words, words_in, name_kept}
+use Rattle.data_list.specs.Keys.{name_kept}
 
-abbrev pub walk_from : Layout → ℕ → ℕ → KeyWords → Walk
+abbrev pub walk_from : Layout → ℕ → ℕ → List ℕ → Walk
 walk_from layout generation hint key = record {
   layout = layout;
   generation = generation;
@@ -37,13 +36,13 @@ walk_from layout generation hint key = record {
 abbrev pub walk_at_asks : Layout → ℕ → WalkAt → Action
 walk_at_asks l n at.Version = Load (version_address l n)
 walk_at_asks l n (at.Status version) = Load (status_address l n)
-walk_at_asks l n (at.First version) = Load (word_address l n 3)
-walk_at_asks l n (at.Second version first) = Load (word_address l n 4)
-walk_at_asks l n (at.Third version first second) = Load (word_address l n 5)
+walk_at_asks l n (at.First version) = Load (word_address l n anchor_offset)
+walk_at_asks l n (at.Second version first) = Load (word_address l n (anchor_offset + 1))
+walk_at_asks l n (at.Third version first second) = Load (word_address l n (anchor_offset + 2))
 walk_at_asks l n (at.Next version low) = Load (word_address l n next_offset)
-walk_at_asks l n (at.HighFirst version low next) = Load (word_address l next 3)
-walk_at_asks l n (at.HighSecond version low next first) = Load (word_address l next 4)
-walk_at_asks l n (at.HighThird version low next first second) = Load (word_address l next 5)
+walk_at_asks l n (at.HighFirst version low next) = Load (word_address l next anchor_offset)
+walk_at_asks l n (at.HighSecond version low next first) = Load (word_address l next (anchor_offset + 1))
+walk_at_asks l n (at.HighThird version low next first second) = Load (word_address l next (anchor_offset + 2))
 walk_at_asks l n at.Prev = Load (prev_address l n)
 
 abbrev pub walk_asks : Walk → Action
@@ -79,22 +78,22 @@ saw_status walk version status =
     if status == live_status then loads_at walk (at.First version)
     else (if status == gone_status then loads_at walk at.Prev else hops_to walk 0)
 
-abbrev pub saw_anchor : Walk → ℕ → KeyWords → Turn Walk Walked
+abbrev pub saw_anchor : Walk → ℕ → List ℕ → Turn Walk Walked
 saw_anchor walk version low =
-    if nat_lt (key_number walk.key) (key_number low) then loads_at walk at.Prev else loads_at walk (at.Next version low)
+    if nat_lt (number_of walk.key) (number_of low) then loads_at walk at.Prev else loads_at walk (at.Next version low)
 
 -- the first name past the range of a node that leads there
 abbrev pub high_of : Option Next → Option (List ℕ)
 high_of None = None
-high_of (Some next) = name_kept (key_words next.anchor)
+high_of (Some next) = name_kept next.anchor
 
 -- the node that it is at is its target
-abbrev pub target : Walk → ℕ → KeyWords → Option Next → Turn Walk Walked
+abbrev pub target : Walk → ℕ → List ℕ → Option Next → Turn Walk Walked
 target walk version low next =
     Done (walked.Target (record {
       node = walk.node;
       version = version;
-      low = words_in low;
+      low = low;
       high = high_of next;
       hops = walk.hops;
       next = next;
@@ -104,40 +103,37 @@ target walk version low next =
 abbrev pub sighting_of : Target → Sighting
 sighting_of target = record { version = target.version; low = target.low; next = target.next }
 
-abbrev pub saw_next : Walk → ℕ → KeyWords → ℕ → Turn Walk Walked
+abbrev pub saw_next : Walk → ℕ → List ℕ → ℕ → Turn Walk Walked
 saw_next walk version low next =
     if next == 0 then target walk version low None
     else (if nat_lt next walk.layout.nodes then loads_at walk (at.HighFirst version low next) else hops_to walk 0)
 
-abbrev pub saw_high : Walk → ℕ → KeyWords → ℕ → KeyWords → Turn Walk Walked
+abbrev pub saw_high : Walk → ℕ → List ℕ → ℕ → List ℕ → Turn Walk Walked
 saw_high walk version low next high =
-    if nat_lt (key_number walk.key) (key_number high) then target walk version low (Some (record {
+    if nat_lt (number_of walk.key) (number_of high) then target walk version low (Some (record {
       node = next;
-      anchor = words_in high;
+      anchor = high;
     })) else hops_to walk next
-
-abbrev pub words_of_key : ℕ → ℕ → ℕ → KeyWords
-words_of_key first second third = record { first = first; second = second; third = third }
 
 abbrev pub walk_at_turned : Walk → WalkAt → ℕ → Turn Walk Walked
 walk_at_turned walk at.Version got = saw_version walk got
 walk_at_turned walk (at.Status version) got = saw_status walk version got
 walk_at_turned walk (at.First version) got = loads_at walk (at.Second version got)
 walk_at_turned walk (at.Second version first) got = loads_at walk (at.Third version first got)
-walk_at_turned walk (at.Third version first second) got = saw_anchor walk version (words_of_key first second got)
+walk_at_turned walk (at.Third version first second) got = saw_anchor walk version (first ∷ second ∷ got ∷ [])
 walk_at_turned walk (at.Next version low) got = saw_next walk version low got
 walk_at_turned walk (at.HighFirst version low next) got = loads_at walk (at.HighSecond version low next got)
 walk_at_turned walk (at.HighSecond version low next first) got = loads_at walk (at.HighThird version low next first got)
 walk_at_turned walk (at.HighThird version low next first second) got =
-    saw_high walk version low next (words_of_key first second got)
+    saw_high walk version low next (first ∷ second ∷ got ∷ [])
 walk_at_turned walk at.Prev got = hops_to walk got
 
 abbrev pub walk_turned : Walk → ℕ → Turn Walk Walked
 walk_turned walk got = walk_at_turned walk walk.at got
 
 -- the key is at least the anchor
-abbrev pub IsAbove : KeyWords → KeyWords → Type 0
-IsAbove key low = key_number low ≤ key_number key
+abbrev pub IsAbove : List ℕ → List ℕ → Type 0
+IsAbove key low = number_of low ≤ number_of key
 
 -- the next node is one of the layout's, and isn't node 0
 pub record LeadsOn (l : Layout) (next : ℕ) : Type 0 where
@@ -149,7 +145,7 @@ pub record WasFree (g version : ℕ) : Type 0 where
   pub known : generation_of version ≤ g
   pub free : IsFree version g
 
-abbrev pub IsWalkAt : Layout → ℕ → KeyWords → WalkAt → Type 0
+abbrev pub IsWalkAt : Layout → ℕ → List ℕ → WalkAt → Type 0
 IsWalkAt l g key at.Version = Unit {0}
 IsWalkAt l g key (at.Status version) = WasFree g version
 IsWalkAt l g key (at.First version) = WasFree g version

@@ -5,11 +5,9 @@
 //! of a node stands only as long as that node's version word does, which it therefore loads first.
 #![tactic(auto)]
 
-mod key;
 pub mod laws;
 mod target;
 mod walk;
 
-pub use key::KeyWords;
 pub use target::{Next, Sighting, Target, Walked};
 pub use walk::{Walk, WalkAt};

@@ -31,6 +31,19 @@ pub struct Next {
     pub anchor: [u64; WORDS],
 }
 
+impl Next {
+    ghost use Rattle.std.specs.Prelude.{◌≡◌};
+    ghost use Rattle.data_list.specs.Keys.{name_kept};
+
+    /// The name that the words of its anchor keep, or `None` where they are no name's.
+    pub fn name(&self) -> Option<Name>
+        ensures { result ≡ name_kept self.now.anchor }
+    {
+        let [first, second, third] = self.anchor;
+        Name::of_words([first, second, third])
+    }
+}
+
 /// What a walk loaded of its target. A call relies on it as long as the version word stands.
 #[derive(Clone, Copy)]
 pub struct Sighting {

@@ -16,9 +16,9 @@
 
 ghost use Rattle.std.specs.Prelude.{◌≡◌, ℕ, ◌+◌, ◌*◌, ◌^◌, ◌<◌, ◌≤◌};
 
-use crate::key::KeyWords;
 use crate::target::{Next, Target, Walked};
 use cat_key::WORDS;
+use data_node::is_below;
 use pm_words::codes::status::{GONE, LIVE};
 use pm_words::offsets::{node, volatile};
 use pm_words::{Action, Again, Layout, Machine, Memory, Steps, Turn};
@@ -30,7 +30,7 @@ use version_lock::is_free;
 pub struct Walk {
     pub layout: Layout,
     pub generation: u64,
-    pub key: KeyWords,
+    pub key: [u64; WORDS],
     pub node: u64,
     pub hops: u64,
     pub at: WalkAt,
@@ -58,23 +58,23 @@ pub enum WalkAt {
     },
     Next {
         version: u64,
-        low: KeyWords,
+        low: [u64; WORDS],
     },
     /// The anchor of the next node, word by word.
     HighFirst {
         version: u64,
-        low: KeyWords,
+        low: [u64; WORDS],
         next: u64,
     },
     HighSecond {
         version: u64,
-        low: KeyWords,
+        low: [u64; WORDS],
         next: u64,
         first: u64,
     },
     HighThird {
         version: u64,
-        low: KeyWords,
+        low: [u64; WORDS],
         next: u64,
         first: u64,
         second: u64,
@@ -124,12 +124,12 @@ impl Machine for Walk {
 }
 
 impl Walk {
-    ghost use Rattle.std.specs.Prelude.{◌≡◌, ℕ, ◌+◌, ◌*◌, ◌^◌, ◌<◌, ◌≤◌};
+    ghost use Rattle.std.specs.Prelude.{◌≡◌, ℕ, ◌+◌, ◌*◌, ◌^◌, ◌<◌, ◌≤◌, List};
+    ghost use Rattle.data_node.specs.Lists.{anchor_offset};
     ghost use Rattle.pm_words.specs.Layouts.{IsLayout};
     ghost use Rattle.pm_words.specs.Locations.{node_words};
     ghost use Rattle.pm_words.specs.Turns.{GoesBelow};
     ghost use Rattle.call_stages.specs.Kinds.{word_address};
-    ghost use Rattle.data_list.specs.Keys.{key_words};
     ghost use Rattle.data_list.specs.declared.walk.WalkAt.TheVariants as WalkAt;
     ghost use Rattle.pm_words.specs.Turns.{AdvancesTo};
     ghost use Rattle.pm_words.specs.declared.machine.Turn.TheVariants.{Done};
@@ -138,20 +138,19 @@ impl Walk {
     ghost use Rattle.data_list.specs.Walks.{loads_at};
     ghost use Rattle.data_list.specs.Walks.{landing, hops_to, saw_version, saw_status, saw_anchor, saw_next, saw_high};
     ghost use Rattle.data_list.specs.Arrivals.{MayWalk, WalkBursts, ComesTo, Leads, HopsOn, anchor_loaded, anchor_at};
-    ghost use Rattle.data_list.specs.declared.key.KeyWords.{KeyWords};
     ghost use Rattle.pm_words.specs.Locations.{row_words};
 
     /// A walk to the node of a key, in this generation, that begins at the node `hint`.
     pub fn new(layout: Layout, generation: u64, hint: u64, key: [u64; WORDS]) -> Walk
         requires layout { IsLayout layout }
         requires hint { hint < layout.nodes }
-        ensures new { result ≡ walk_from layout generation hint (key_words key) }
+        ensures new { result ≡ walk_from layout generation hint key }
         ensures sound { IsWalk result }
     {
         Walk {
             layout,
             generation,
-            key: KeyWords::of(key),
+            key,
             node: hint,
             hops: 0,
             at: WalkAt::Version,
@@ -197,7 +196,7 @@ impl Walk {
                 version,
                 first,
                 second,
-            } => self.saw_anchor(version, KeyWords::of([first, second, got])),
+            } => self.saw_anchor(version, [first, second, got]),
             WalkAt::Next { version, low } => self.saw_next(version, low, got),
             WalkAt::HighFirst { version, low, next } => self.saw_high_first(
                 version, low, next, got,
@@ -214,7 +213,7 @@ impl Walk {
                 next,
                 first,
                 second,
-            } => self.saw_high(version, low, next, KeyWords::of([first, second, got])),
+            } => self.saw_high(version, low, next, [first, second, got]),
             WalkAt::Prev => self.hops_to(got),
         }
     }
@@ -272,7 +271,7 @@ impl Walk {
             → Leads memory.old memory.new self.now (WalkAt.First version) version result steps.old steps.new }
     {
         let low = self.loads_anchor(self.node, memory, steps);
-        if self.key.is_below(low) {
+        if is_below(&self.key, &low) {
             return Some(self.leads_back(memory, steps));
         }
         self.leads_next(memory, steps)
@@ -280,8 +279,8 @@ impl Walk {
 
     /// The same of one whose anchor the key isn't below.
     fn leads_next<L: Ledger>(&self, memory: &mut Memory, steps: &mut Steps<L>) -> Option<u64>
-        requires { (version : ℕ) × (low : KeyWords) × MayWalk memory.old self.now (WalkAt.Next version low) }
-        ensures { (version : ℕ) (low : KeyWords) → MayWalk memory.old self.now (WalkAt.Next version low)
+        requires { (version : ℕ) × (low : List ℕ) × MayWalk memory.old self.now (WalkAt.Next version low) }
+        ensures { (version : ℕ) (low : List ℕ) → MayWalk memory.old self.now (WalkAt.Next version low)
             → Leads memory.old memory.new self.now (WalkAt.Next version low) version result steps.old steps.new }
     {
         let next = memory.act(Action::Load(self.address(self.node, node::NEXT)), steps);
@@ -296,14 +295,14 @@ impl Walk {
 
     /// The next node, unless the key is below its anchor.
     fn passes<L: Ledger>(&self, next: u64, memory: &mut Memory, steps: &mut Steps<L>) -> Option<u64>
-        requires { (version : ℕ) × (low : KeyWords) ×
+        requires { (version : ℕ) × (low : List ℕ) ×
             MayWalk memory.old self.now (WalkAt.HighFirst version low next) }
-        ensures { (version : ℕ) (low : KeyWords) → MayWalk memory.old self.now (WalkAt.HighFirst version low next)
+        ensures { (version : ℕ) (low : List ℕ) → MayWalk memory.old self.now (WalkAt.HighFirst version low next)
             → Leads memory.old memory.new self.now (WalkAt.HighFirst version low next) version result steps.old
             steps.new }
     {
         let high = self.loads_anchor(next, memory, steps);
-        if self.key.is_below(high) {
+        if is_below(&self.key, &high) {
             return None;
         }
         Some(next)
@@ -326,21 +325,21 @@ impl Walk {
         node: u64,
         memory: &mut Memory,
         steps: &mut Steps<L>,
-    ) -> KeyWords
+    ) -> [u64; WORDS]
         requires layout { IsLayout self.now.layout }
         requires node { node < self.now.layout.nodes }
-        requires within { word_address self.now.layout node 5 < row_words memory.old.layout }
+        requires within { word_address self.now.layout node (anchor_offset + 2) < row_words memory.old.layout }
         ensures row { memory.new ≡ record memory.old {
           words = anchor_loaded self.now.layout node memory.old.layout memory.old.words;
         } }
         ensures anchor { result ≡ anchor_at self.now.layout node memory.old.layout memory.old.words }
         ensures steps { steps.new ≡ steps.old + 3 }
     {
-        KeyWords {
-            first: memory.act(Action::Load(self.address(node, node::ANCHOR)), steps),
-            second: memory.act(Action::Load(self.address(node, node::ANCHOR + 1)), steps),
-            third: memory.act(Action::Load(self.address(node, node::ANCHOR + 2)), steps),
-        }
+        [
+            memory.act(Action::Load(self.address(node, node::ANCHOR)), steps),
+            memory.act(Action::Load(self.address(node, node::ANCHOR + 1)), steps),
+            memory.act(Action::Load(self.address(node, node::ANCHOR + 2)), steps),
+        ]
     }
 
     /// It goes on there.
@@ -393,17 +392,17 @@ impl Walk {
     }
 
     /// The node that it is at is its target.
-    fn is_at_target(&self, version: u64, low: KeyWords, next: Option<Next>) -> Option<Walked>
+    fn is_at_target(&self, version: u64, low: [u64; WORDS], next: Option<Next>) -> Option<Walked>
         ensures { AdvancesTo (target self.now version low next) self.now result }
     {
         let high = match next {
-            Some(next) => KeyWords::of(next.anchor).name(),
+            Some(next) => next.name(),
             None => None,
         };
         Some(Walked::Target(Target {
             node: self.node,
             version,
-            low: low.words(),
+            low,
             high,
             hops: self.hops,
             next,
@@ -453,17 +452,17 @@ impl Walk {
         })
     }
 
-    fn saw_anchor(&mut self, version: u64, low: KeyWords) -> Option<Walked>
+    fn saw_anchor(&mut self, version: u64, low: [u64; WORDS]) -> Option<Walked>
         ensures { AdvancesTo (saw_anchor self.old version low) self.new result }
     {
-        if self.key.is_below(low) {
+        if is_below(&self.key, &low) {
             self.loads_at(WalkAt::Prev)
         } else {
             self.loads_at(WalkAt::Next { version, low })
         }
     }
 
-    fn saw_next(&mut self, version: u64, low: KeyWords, next: u64) -> Option<Walked>
+    fn saw_next(&mut self, version: u64, low: [u64; WORDS], next: u64) -> Option<Walked>
         requires layout { IsLayout self.old.layout }
         requires hops { self.old.hops < 2 * self.old.layout.nodes }
         ensures { AdvancesTo (saw_next self.old version low next) self.new result }
@@ -480,7 +479,7 @@ impl Walk {
     fn saw_high_first(
         &mut self,
         version: u64,
-        low: KeyWords,
+        low: [u64; WORDS],
         next: u64,
         first: u64,
     ) -> Option<Walked>
@@ -497,7 +496,7 @@ impl Walk {
     fn saw_high_second(
         &mut self,
         version: u64,
-        low: KeyWords,
+        low: [u64; WORDS],
         next: u64,
         first: u64,
         second: u64,
@@ -513,15 +512,21 @@ impl Walk {
         })
     }
 
-    fn saw_high(&mut self, version: u64, low: KeyWords, next: u64, high: KeyWords) -> Option<Walked>
+    fn saw_high(
+        &mut self,
+        version: u64,
+        low: [u64; WORDS],
+        next: u64,
+        high: [u64; WORDS],
+    ) -> Option<Walked>
         requires layout { IsLayout self.old.layout }
         requires hops { self.old.hops < 2 * self.old.layout.nodes }
         ensures { AdvancesTo (saw_high self.old version low next high) self.new result }
     {
-        if self.key.is_below(high) {
+        if is_below(&self.key, &high) {
             let next = Next {
                 node: next,
-                anchor: high.words(),
+                anchor: high,
             };
             self.is_at_target(version, low, Some(next))
         } else {

@@ -4,7 +4,7 @@ use Rattle.std.specs.Prelude.{◌/◌, nat_lt, slice_index, slice_set, Option, S
 use Rattle.std.proofs.lemmas.Bool.{eqb-true, eqb-false, ltb-false}
 use Rattle.std.proofs.lemmas.List.{append_assoc, append-nil, length-append}
 use Rattle.std.proofs.lemmas.List.Elements.{All-nil, All-push, Contains-append_left, Contains-append_right}
-use Rattle.pm_words.specs.Codes.{free_status, gone_status, live_status}
+use Rattle.pm_words.specs.Codes.{free_status, gone_status, live_status, empty_state}
 use Rattle.pm_words.specs.declared.again.Again.{Again}
 use Rattle.pm_words.specs.declared.again.Again.TheVariants as again
 use Rattle.pm_words.specs.declared.fence.Fence.{Fence}
@@ -23,9 +23,8 @@ use Rattle.data_list.specs.declared.target.Walked.TheVariants as walked
 use Rattle.data_list.specs.declared.walk.Walk.{Walk}
 use Rattle.data_list.specs.declared.walk.WalkAt.{WalkAt}
 use Rattle.data_list.specs.declared.walk.WalkAt.TheVariants as walk_at
-use Rattle.data_list.specs.Keys.{key_number, words_in}
 use Rattle.data_list.specs.Hops.{HopsAt}
-use Rattle.data_list.specs.Walks.{hops_to, landing, loads_at, sighting_of, target as walk_target, walk_at_turned, walk_turned, words_of_key}
+use Rattle.data_list.specs.Walks.{hops_to, landing, loads_at, sighting_of, target as walk_target, walk_at_turned, walk_turned}
 use Rattle.data_list.proofs.HopLaw.{walks_hop}
 use Rattle.smo_log.specs.declared.take.Take.{Take}
 use Rattle.smo_log.specs.declared.take.TakeAt.{TakeAt}
@@ -98,6 +97,7 @@ use Rattle.split_merge.specs.declared.merging.Merged.{Merged}
 use Rattle.split_merge.specs.Merges.{merge_turned}
 use Rattle.data_node.specs.declared.slots.TheConstants.{PRINT_WORDS}
 use Rattle.data_node.specs.Bits.{candidate_bits, lowest_clear, lowest_live, without_live}
+use Rattle.data_node.specs.Lists.{number_of}
 use Rattle.cat_key.specs.declared.TheConstants.{WORDS}
 use Rattle.index_core.specs.declared.party.CoreCall.{CoreCall}
 use Rattle.index_core.specs.declared.party.CoreCall.TheVariants as core_call
@@ -112,7 +112,7 @@ at_end told x = Contains-append_right told (x ∷ []) x (0, omega arith, refl)
 -- ---- the look for a log line
 
 starts_full : (told : List ℕ) → EndsFull told 0
-starts_full told = record { before = told; states = []; is = sym (append-nil told); count = refl; full = All-nil (λ (state : ℕ). state ≢ 0) }
+starts_full told = record { before = told; states = []; is = sym (append-nil told); count = refl; full = All-nil (λ (state : ℕ). state ≢ empty_state) }
 
 one_full : (told : List ℕ) (n x : ℕ) → EndsFull told n → x ≢ 0 → EndsFull (told ++ x ∷ []) (n + 1)
 one_full told n x ends some = record {
@@ -120,7 +120,7 @@ one_full told n x ends some = record {
   states = ends.states ++ x ∷ [];
   is = ap (λ (l : List ℕ). l ++ x ∷ []) ends.is ∙ append_assoc ends.before ends.states (x ∷ []);
   count = let count = ends.count in let long = length-append ends.states (x ∷ []) in omega arith;
-  full = All-push (λ (state : ℕ). state ≢ 0) ends.states x ends.full some;
+  full = All-push (λ (state : ℕ). state ≢ empty_state) ends.states x ends.full some;
 }
 
 all_full : (told : List ℕ) → EndsFull told 8 → FoundNoLine told
@@ -324,7 +324,7 @@ module _ (walk : Walk) (told : List ℕ) (x : ℕ) where
   walk_told (walk_at.First version) has = still version has
   walk_told (walk_at.Second version first) has = still version has
   walk_told (walk_at.Third version first second) has =
-      elim (nat_lt (key_number walk.key) (key_number (words_of_key first second x))) as (λ b. WalkTold walk_told_then (cond b (loads_at walk walk_at.Prev) (loads_at walk (walk_at.Next version (words_of_key first second x))))) [
+      elim (nat_lt (number_of walk.key) (number_of (first ∷ second ∷ x ∷ []))) as (λ b. WalkTold walk_told_then (cond b (loads_at walk walk_at.Prev) (loads_at walk (walk_at.Next version (first ∷ second ∷ x ∷ []))))) [
         | true ↦ tt
         | false ↦ still version has
       ]
@@ -339,7 +339,7 @@ module _ (walk : Walk) (told : List ℕ) (x : ℕ) where
   walk_told (walk_at.HighFirst version low next) has = still version has
   walk_told (walk_at.HighSecond version low next first) has = still version has
   walk_told (walk_at.HighThird version low next first second) has =
-      elim (nat_lt (key_number walk.key) (key_number (words_of_key first second x))) as (λ b. WalkTold walk_told_then (cond b (walk_target walk version low (Some (record { node = next; anchor = words_in (words_of_key first second x) }))) (hops_to walk next))) [
+      elim (nat_lt (number_of walk.key) (number_of (first ∷ second ∷ x ∷ []))) as (λ b. WalkTold walk_told_then (cond b (walk_target walk version low (Some (record { node = next; anchor = first ∷ second ∷ x ∷ [] }))) (hops_to walk next))) [
         | true ↦ still version has
         | false ↦ hops_so next
       ]

@@ -8,6 +8,7 @@ use Rattle.index_law.proofs.Weights.{evict_weighs}
 use Rattle.index_core.specs.Indexes.{Index, IsIndex, world}
 use Rattle.index_core.specs.CrashLaws.{is_chosen, evicted_by, crash_image, ChosenKeep, ChosenWeigh, CrashLeaves, CrashKeepsGeneration}
 use Rattle.std.specs.Prelude.{Option, Some, None, IfSome}
+use Rattle.image_rules.specs.Rules.{generation_offset}
 use Rattle.call_stages.specs.Stages.{placed_in}
 use Rattle.node_ops.specs.CallStages.{stage_of}
 use Rattle.node_ops.specs.RunningSteps.{running_call}
@@ -44,7 +45,7 @@ pub crash_leaves : CrashLeaves
 crash_leaves s is = crash_is s (crash_image s) s.states is refl refl
 
 pub crash_keeps_generation : CrashKeepsGeneration
-crash_keeps_generation s is = durable_row-at s.layout s.words (Header 5) ∙ is.lawful.durable_front.generation
+crash_keeps_generation s is = durable_row-at s.layout s.words (Header generation_offset) ∙ is.lawful.durable_front.generation
 
 pub placed_are_timely : PlacedAreTimely
 placed_are_timely s i state machine is there flies = by_place (placed_in (stage_of machine)) refl

@@ -12,6 +12,7 @@ use Rattle.pm_words.specs.Locations.{Location, Updater, Volatile, Cached, HasLoc
 use Rattle.pm_words.specs.Rows.{IsRow, acted, got}
 use Rattle.pm_words.proofs.Apart.{at-set_other}
 use Rattle.pm_words.specs.Offsets.{stamp_offset, status_offset}
+use Rattle.data_node.specs.Lines.{state_offset}
 use Rattle.call_stages.specs.declared.once.Once.{Once}
 use Rattle.call_stages.specs.declared.once.Placed.{Placed}
 use Rattle.call_stages.specs.Stages.{Stage}
@@ -139,7 +140,7 @@ module _ (r : RowTerms) (ghosts : Ghosts) (words : List ℕ) (row : IsRow r.layo
   only_frees (has_changed {e = e} {word = word} {s = c} {a = a} step) told is =
       inl (leaves_statuses e word c Changed a (is (λ e. cc)) (subst (λ (x : ℕ). ChangeStep l (aim_of e word) c a x Changed) told step))
   only_frees (stamps {e = e} here) told is = inl (stamped e.node r.stamp here)
-  only_frees (empties {j = j} here) told is = inl (apart (Cached (line_word 0 j)) empty_state (omega arith, omega arith, omega arith) (λ e. cc))
+  only_frees (empties {j = j} here) told is = inl (apart (Cached (line_word state_offset j)) empty_state (omega arith, omega arith, omega arith) (λ e. cc))
   only_frees {s = s} (passes_node {n = n} here other) told is = loads (volatile_at l n status_offset) s
   only_frees {s = s} (sees_gone {n = n} here gone) told is = loads (volatile_at l n status_offset) s
   only_frees {s = s} (passes_stamp {n = n} here why) told is = loads (volatile_at l n stamp_offset) s

@@ -4,6 +4,7 @@ use Rattle.std.proofs.Common.{⊎_elim, length, refl, sym, ◌∙◌, subst, ari
 use Rattle.std.proofs.lemmas.Bool.{cases_eq, eqb-true}
 use Rattle.pm_words.specs.Codes.{free_status, empty_state}
 use Rattle.pm_words.specs.Locations.{Cached}
+use Rattle.data_node.specs.Lines.{state_offset}
 use Rattle.updater.specs.updater_row_law.specs.Columns.{line_count, line_word}
 use Rattle.updater.specs.updater_row_law.proofs.RowColumns.{column-here}
 use Rattle.updater.specs.Events.{how_many}
@@ -52,14 +53,14 @@ has_line : (s : Index) (caller : ℕ) → caller < s.layout.callers → (j : ℕ
 has_line s caller here j small is =
     let l = s.layout in
     let k = 8 * caller + j in
-    let tie : line_state (world s) k ≡ line_in l s.words (k / 8) (k % 8) 0 =
-    column-here l s.words (line_count l) (λ n. Cached (line_word 0 n)) k (omega arith) ∙ sym (line-here l s.words (k / 8) (k % 8) 0 (omega arith, omega arith, omega arith)) in
+    let tie : line_state (world s) k ≡ line_in l s.words (k / 8) (k % 8) state_offset =
+    column-here l s.words (line_count l) (λ n. Cached (line_word state_offset n)) k (omega arith) ∙ sym (line-here l s.words (k / 8) (k % 8) state_offset (omega arith, omega arith, omega arith)) in
     let its_caller : k / 8 ≡ caller = omega arith in
     let its_number : k % 8 ≡ j = omega arith in
     record {
       number = j;
       within = small;
-      empty = sym ((λ i. line_in l s.words (its_caller i) (its_number i) 0)) ∙ sym tie ∙ eqb-true (line_state (world s) k) empty_state is;
+      empty = sym ((λ i. line_in l s.words (its_caller i) (its_number i) state_offset)) ∙ sym tie ∙ eqb-true (line_state (world s) k) empty_state is;
     }
 
 -- a node that is FREE, among the first so many, or none

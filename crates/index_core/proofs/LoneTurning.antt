@@ -41,6 +41,7 @@ use Rattle.lone_hops_law.specs.lone_updater_law.specs.Laws.{LoneTurning, GoesOn}
 use Rattle.lone_hops_law.specs.lone_updater_law.specs.LoneTurns.{line_state, frees_node, status_then, AreEmptyOrReady}
 use Rattle.lone_hops_law.specs.lone_updater_law.specs.LoneTurns.{IsIdle, IsLoneTurn}
 use Rattle.pm_words.specs.declared.layout.Layout.{Layout}
+use Rattle.data_node.specs.Lines.{state_offset}
 use Rattle.index_law.specs.Facts.{Facts}
 use Rattle.index_law.specs.Worlds.{Party, World, facts}
 use Rattle.index_law.specs.Weights.{gone_weight, index_weight, weight_sum}
@@ -72,10 +73,10 @@ quiet_is_idle_for_turns s is quiet = record {
   where
     lines : AreEmptyOrReady (world s)
     lines j here =
-        let same : line_state (world s) j ≡ line_in s.layout s.words (j / 8) (j % 8) 0 =
-        column-here s.layout s.words (line_count s.layout) (λ k. Cached (line_word 0 k)) j here ∙ sym (line-here s.layout s.words (j / 8) (j % 8) 0 (omega arith, omega arith, omega arith)) in
+        let same : line_state (world s) j ≡ line_in s.layout s.words (j / 8) (j % 8) state_offset =
+        column-here s.layout s.words (line_count s.layout) (λ k. Cached (line_word state_offset k)) j here ∙ sym (line-here s.layout s.words (j / 8) (j % 8) state_offset (omega arith, omega arith, omega arith)) in
         ⊎_elim
-        (λ (none : NeedsNoParty (line_in s.layout s.words (j / 8) (j % 8) 0)). ⊎_elim (λ empty. inl (same ∙ empty)) (λ ready. inr (same ∙ ready)) none)
+        (λ (none : NeedsNoParty (line_in s.layout s.words (j / 8) (j % 8) state_offset)). ⊎_elim (λ empty. inl (same ∙ empty)) (λ ready. inr (same ∙ ready)) none)
         (λ (hand : IsInHand (footed s) (j / 8) (j % 8)). absurd (let none = idle_lines s quiet.calls hand.number (Some hand.line) hand.there in cc))
         (is.tended (j / 8) (j % 8) (omega arith) (omega arith))
 

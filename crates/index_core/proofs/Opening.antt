@@ -14,6 +14,7 @@ use Rattle.pm_words.specs.Locations.{Header, Volatile, Cached, at}
 use Rattle.version_lock.specs.declared.TheConstants.{LAST_COUNT}
 use Rattle.data_node.specs.Lists.{ListNode}
 use Rattle.pm_words.specs.Offsets.{stamp_offset}
+use Rattle.image_rules.specs.Rules.{generation_offset}
 use Rattle.index_law.specs.Anchors.{anchors_of, gone_nodes}
 use Rattle.index_law.specs.Facts.{Facts}
 use Rattle.index_law.specs.Footed.{AreFree}
@@ -76,7 +77,7 @@ module _ (l : Layout) (list : List ListNode) (o : Columns) (words : List ℕ) (b
         layered = opening_is_layered l list o words (map_of base) (map party_of (idle_states n)) (map line_of (idle_states n)) (map debt_of (idle_states n)) (map turn_of (idle_states n)) 0 first.0 is (idle_free n) (idle_since n)
             (λ j u there. at_rest u (rest_turns (idle_states n) (idle_turn n) j u there)) first.1;
         parties = idle-length n;
-        states = λ i state there. subst (IsPartyState l (at l words (Cached (Header 5))) i) (sym (idle-each n i state there)) (record { caller = refl; machine = tt; op = tt; own = tt; turn = tt });
+        states = λ i state there. subst (IsPartyState l (at l words (Cached (Header generation_offset))) i) (sym (idle-each n i state there)) (record { caller = refl; machine = tt; op = tt; own = tt; turn = tt });
         ordered = λ i place state machine write there flies stands caller. absurd (let none : None ≡ Some write = stands in cc);
         bounded = record {
           limits = λ i e m there flies. absurd (let both : None ≡ Some m = sym (idle_machine n i e there) ∙ flies in cc);
@@ -84,7 +85,7 @@ module _ (l : Layout) (list : List ListNode) (o : Columns) (words : List ℕ) (b
           late = λ p q v w there here less far. absurd (let none : None ≡ Some v = there in cc);
         };
         named = λ place. subst HasNames (ap (after_all (map_of base)) (sym (take_all place [] (omega arith)))) rest.named;
-        rechecks = checks_none l (at l words (Cached (Header 5))) [] (idle_states n) (idle_recheck n);
+        rechecks = checks_none l (at l words (Cached (Header generation_offset))) [] (idle_states n) (idle_recheck n);
         permuted = permuted.0;
         relying = permuted.1;
       }
@@ -95,7 +96,7 @@ module _ (l : Layout) (list : List ListNode) (o : Columns) (words : List ℕ) (b
   abbrev f : Facts
   f = facts (world (opened_index (row_with l words) base []))
 
-  fewest : (m : ℕ) → m ≤ l.nodes → fewest_locks (at l words (Cached (Header 5))) f.version m ≡ LAST_COUNT
+  fewest : (m : ℕ) → m ≤ l.nodes → fewest_locks (at l words (Cached (Header generation_offset))) f.version m ≡ LAST_COUNT
   fewest zero few = refl
   fewest (suc m) few =
       let none = (unlocked.untaken m (omega arith)).count in

@@ -18,6 +18,7 @@ use Rattle.version_lock.specs.Versions.{IsWorn, is_worn_word}
 use Rattle.version_lock.proofs.WordTests.{worn_word, fresh_word}
 use Rattle.data_node.specs.Lists.{ListNode, next_offset, target_from, key_of}
 use Rattle.data_node.proofs.ListLemmas.{target_in}
+use Rattle.data_node.specs.Lines.{state_offset}
 use Rattle.call_stages.specs.declared.once.Once.{Once}
 use Rattle.call_stages.specs.declared.once.Once.TheVariants as once
 use Rattle.call_stages.specs.declared.once.Placed.{Placed}
@@ -304,10 +305,10 @@ module _ (s s1 s2 : Index) (i : ℕ) (c : CoreCall) (answer : Once Placed) (turn
     lines = λ caller here lacks.
         let l = s2.layout in
         let j = 8 * caller in
-        let tie : line_state (world s2) j ≡ line_in l s2.words (j / 8) (j % 8) 0 =
-        column-here l s2.words (line_count l) (λ k. Cached (line_word 0 k)) j (omega arith) ∙ sym (line-here l s2.words (j / 8) (j % 8) 0 (omega arith, omega arith, omega arith)) in
+        let tie : line_state (world s2) j ≡ line_in l s2.words (j / 8) (j % 8) state_offset =
+        column-here l s2.words (line_count l) (λ k. Cached (line_word state_offset k)) j (omega arith) ∙ sym (line-here l s2.words (j / 8) (j % 8) state_offset (omega arith, omega arith, omega arith)) in
         let place : Path (ℕ × ℕ) (j / 8, j % 8) (caller, 0) = λ k. (let one : (8 * caller) / 8 ≡ caller = omega arith in one k, let none : (8 * caller) % 8 ≡ 0 = omega arith in none k) in
-        lacks 0 (omega arith) (sym (ap (λ (q : ℕ × ℕ). line_in l s2.words q.0 q.1 0) place) ∙ sym tie ∙ u.lone.empty j);
+        lacks 0 (omega arith) (sym (ap (λ (q : ℕ × ℕ). line_in l s2.words q.0 q.1 state_offset) place) ∙ sym tie ∙ u.lone.empty j);
     freed = λ n here comes. ⊎_elim
         (λ (free : f2.status n ≡ free_status). inl free)
         (λ (gone : (f2.status n ≡ gone_status) × (stamp_in (world s2) n ≤ 1)).

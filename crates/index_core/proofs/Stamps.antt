@@ -54,7 +54,7 @@ beside_leaves_stamp l words n here {a = a} (on_permutation on) =
     ∙ at-set_other l words (Volatile at_word.node at_word.offset) (Volatile n stamp_offset) at_word.word (at_word.here, at_word.most) (here, omega arith) (λ e. let no : 2 ≡ at_word.offset = ap offset_of e in omega arith)
 
 -- so whatever a call may do leaves all of them
-may_leaves_stamps : (l : Layout) (words : List ℕ) (s : Stage) (a : Action) → MayDo l s a → volatile_field l (acted l words a) 2 ≡ volatile_field l words 2
+may_leaves_stamps : (l : Layout) (words : List ℕ) (s : Stage) (a : Action) → MayDo l s a → volatile_field l (acted l words a) stamp_offset ≡ volatile_field l words stamp_offset
 may_leaves_stamps l words s a may = column-same l words (acted l words a) l.nodes (λ n. Volatile n stamp_offset) (λ n here. elim may [
   | inl allowed ↦
       nodes_leave_others l words s a (Volatile n stamp_offset) (here, omega arith) (record { clock = λ e. cc; status = λ m e. let no : 2 ≡ 0 = ap offset_of e in omega arith; cached = λ m o e. cc; durable = λ m o e. cc }) allowed

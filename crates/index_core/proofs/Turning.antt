@@ -238,7 +238,7 @@ module _ (s : Index) (i : ℕ) (state : PartyState) (making : MakeTurn) (is : Is
   row_at stage is_at busy =
       subst (RowLawful (terms_of (world s) (making_turning making)) (ghosts_of (world s) layer.holder) s.words) is_at (row_is (λ rests. busy (sym is_at ∙ rests)))
 
-  status_is : (n : ℕ) → n < s.layout.nodes → (facts (world s)).status n ≡ volatile_field s.layout s.words 0 n
+  status_is : (n : ℕ) → n < s.layout.nodes → (facts (world s)).status n ≡ volatile_field s.layout s.words status_offset n
   status_is n here = status_in-here s.layout s.words n here ∙ sym (column-here s.layout s.words s.layout.nodes (λ k. Volatile k status_offset) n here)
 
   -- which node it makes FREE, and from when on it may

@@ -1,6 +1,6 @@
 -- Why a call was turned back, by the numbers that its own steps gave.
 use Rattle.std.specs.Prelude.{◌≡◌, ◌≢◌, ℕ, ◌+◌, ◌-◌, ◌*◌, ◌⊎◌, List, [], ◌∷◌, ◌++◌, length, All, Contains}
-use Rattle.pm_words.specs.Codes.{free_status}
+use Rattle.pm_words.specs.Codes.{free_status, empty_state}
 use Rattle.pm_words.specs.declared.again.Again.{Again}
 use Rattle.pm_words.specs.declared.again.Again.TheVariants as again
 use Rattle.pm_words.specs.declared.layout.Layout.{Layout}
@@ -16,7 +16,7 @@ pub record FoundNoLine (told : List ℕ) : Type 0 where
   pub rest : List ℕ
   pub is : told ≡ before ++ (states ++ rest)
   pub all : length states ≡ 8
-  pub none : All (λ (state : ℕ). state ≢ 0) states
+  pub none : All (λ (state : ℕ). state ≢ empty_state) states
 
 -- Of so many nodes, one after another, it loaded the version word and the status. None is FREE, but for such as have no
 -- lock left.

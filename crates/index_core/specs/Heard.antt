@@ -4,6 +4,7 @@ use Rattle.std.specs.Prelude.{Option, Some, None}
 use Rattle.pm_words.specs.declared.layout.Layout.{Layout}
 use Rattle.pm_words.specs.declared.machine.Turn.{Turn}
 use Rattle.pm_words.specs.declared.machine.Turn.TheVariants.{Go, Done}
+use Rattle.pm_words.specs.Codes.{empty_state}
 use Rattle.call_stages.specs.declared.once.Once.{Once}
 use Rattle.call_stages.specs.declared.once.Placed.{Placed}
 use Rattle.call_stages.specs.declared.view.View.{View}
@@ -59,7 +60,7 @@ pub record EndsFull (told : List ℕ) (n : ℕ) : Type 0 where
   pub states : List ℕ
   pub is : told ≡ before ++ states
   pub count : length states ≡ n
-  pub full : All (λ (state : ℕ). state ≢ 0) states
+  pub full : All (λ (state : ℕ). state ≢ empty_state) states
 
 abbrev pub TakeHasAt : List ℕ → ℕ → TakeAt → Type 0
 TakeHasAt told index take_at.State = EndsFull told index

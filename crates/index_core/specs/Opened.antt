@@ -8,6 +8,7 @@ use Rattle.pm_words.specs.Images.{Row}
 use Rattle.pm_words.specs.Locations.{Header, Cached, at}
 use Rattle.version_lock.specs.declared.TheConstants.{LAST_COUNT}
 use Rattle.data_node.specs.Lists.{ListNode}
+use Rattle.image_rules.specs.Rules.{generation_offset}
 use Rattle.index_law.specs.Anchors.{anchors_in, anchors_of, gone_nodes}
 use Rattle.index_law.specs.Worlds.{facts}
 use Rattle.index_opening_law.specs.image_recovery_law.specs.Columns.{Columns}
@@ -22,7 +23,7 @@ use Rattle.index_core.specs.Lone.{IsQuiet, locks_left}
 abbrev pub opened_index : Row → List Pair → List Write → Index
 opened_index row base history = record {
   layout = row.layout;
-  generation = at row.layout row.words (Cached (Header 5));
+  generation = at row.layout row.words (Cached (Header generation_offset));
   words = row.words;
   states = idle_states (parties_of row.layout);
   base = base;

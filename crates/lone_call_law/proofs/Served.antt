@@ -4,6 +4,7 @@ use Rattle.std.proofs.lemmas.List.{set-get_or}
 use Rattle.pm_words.specs.declared.layout.Layout.{Layout}
 use Rattle.pm_words.specs.declared.machine.Turn.TheVariants.{Done}
 use Rattle.pm_words.specs.Rows.{acted}
+use Rattle.pm_words.specs.Offsets.{version_offset}
 use Rattle.data_node.specs.Lists.{target_from, key_of}
 use Rattle.call_stages.specs.declared.once.Once.TheVariants as once
 use Rattle.index_law.specs.Facts.{version_in, list_in}
@@ -74,7 +75,7 @@ module _ (l : Layout) (words0 words name : List ℕ) (fresh : made_at l words0 (
   reading_ends reading reading_at.Check x answer sound named stands is =
       let done = done_words (record reading { at = reading_at.Check }) x answer is in (
         subst (λ (a : PartWords). a.compared ≡ 0) done.1 (way_free reading.way reading.call reading.hold.locked (length (order_in (record reading { at = reading_at.Check }))) named stands).1,
-        set-get_or words (call_address reading.call 0) 0,
+        set-get_or words (call_address reading.call version_offset) 0,
       )
   reading_ends reading reading_at.Unlock x answer sound named stands is =
       absurd (subst IsFreely sound.here.made (way_free reading.way reading.call reading.hold.locked 0 named stands).0)

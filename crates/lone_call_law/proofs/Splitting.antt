@@ -48,6 +48,7 @@ use Rattle.index_law.specs.Facts.{version_in, status_in}
 use Rattle.index_law.specs.Lines.{line_in}
 use Rattle.index_law.proofs.Rows.{version_in-here, status_in-here, version_in-alike, spot_in-alike, status_in-alike}
 use Rattle.data_node.specs.Lists.{next_offset}
+use Rattle.data_node.specs.Lines.{state_offset}
 use Rattle.pm_words.specs.Offsets.{status_offset, version_offset}
 use Rattle.index_law.proofs.Noting.{line-alike, line-here}
 use Rattle.lone_call_law.specs.There.{IsUnmoved}
@@ -64,7 +65,7 @@ drained_unmoved l words0 words n c j offset y low index small unmoved =
       versions = λ m other. version_in-alike l words stored m (λ there. at-set_other l words (Durable (Line c j offset)) (Cached (Node m version_offset)) y (low, index, small) (there, omega arith) (λ e. cc)) ∙ unmoved.versions m other;
       statuses = λ m. status_in-alike l words stored m (λ there. at-set_other l words (Durable (Line c j offset)) (Volatile m status_offset) y (low, index, small) (there, omega arith) (λ e. cc)) ∙ unmoved.statuses m;
       nexts = λ m. spot_in-alike l words stored m next_offset (λ there _. at-set_other l words (Durable (Line c j offset)) (Cached (Node m next_offset)) y (low, index, small) there (λ e. cc)) ∙ unmoved.nexts m;
-      lines = λ d k. line-alike l words stored d k 0 (λ there. at-set_other l words (Durable (Line c j offset)) (Cached (Line d k 0)) y (low, index, small) there (λ e. cc)) ∙ unmoved.lines d k;
+      lines = λ d k. line-alike l words stored d k state_offset (λ there. at-set_other l words (Durable (Line c j offset)) (Cached (Line d k state_offset)) y (low, index, small) there (λ e. cc)) ∙ unmoved.lines d k;
     })
 
 loaded : (l : Layout) (words0 words : List ℕ) (n address : ℕ) → IsUnmoved l words0 words n → IsUnmoved l words0 (acted l words (Load address)) n
@@ -88,7 +89,7 @@ module _ (take : Take) (sound : IsTake take) (words0 words : List ℕ) (n : ℕ)
   take_unmoved = of take.at sound.here
     where
       of : (at : TakeAt) → IsTakeAt at → IsUnmoved l words0 (acted l words (take_at_asks l (take_line take) at)) n
-      of take_at.State here = loaded l words0 words n (numbered_address l (take_line take) 0) unmoved
+      of take_at.State here = loaded l words0 words n (numbered_address l (take_line take) state_offset) unmoved
       of (take_at.Fence fence) here = fenced fence.at
         where
           fenced : (at : FenceAt) → IsUnmoved l words0 (acted l words (fence_at_asks (numbered_address l (take_line take) fence.word) at)) n
@@ -97,11 +98,11 @@ module _ (take : Take) (sound : IsTake take) (words0 words : List ℕ) (n : ℕ)
               drained_unmoved l words0 words n (take_line take / 8) (take_line take % 8) fence.word value (let is = own_caller in omega arith) (let is = own_index in let small = sound.index in omega arith) here.word unmoved
 
   -- what it is told of a state
-  pub take_told : (x : ℕ) → x ≡ got l words (take_asks take) → take.at ≡ take_at.State → x ≡ line_in l words0 take.caller take.index 0
+  pub take_told : (x : ℕ) → x ≡ got l words (take_asks take) → take.at ≡ take_at.State → x ≡ line_in l words0 take.caller take.index state_offset
   take_told x told is =
       told ∙ ap (λ (at : TakeAt). got l words (take_at_asks l (take_line take) at)) is
-      ∙ (λ k. location.at l words (Cached (Line (own_caller k) (own_index k) 0)))
-      ∙ sym (line-here l words take.caller take.index 0 (low, sound.index, omega arith)) ∙ unmoved.lines take.caller take.index
+      ∙ (λ k. location.at l words (Cached (Line (own_caller k) (own_index k) state_offset)))
+      ∙ sym (line-here l words take.caller take.index state_offset (low, sound.index, omega arith)) ∙ unmoved.lines take.caller take.index
 
 worn_or_fresh : (v g : ℕ) → IsWorn v g ⊎ (IsWorn v g → ⊥)
 worn_or_fresh v g = elim (is_worn_word v g) as (λ b. is_worn_word v g ≡ b → IsWorn v g ⊎ (IsWorn v g → ⊥)) [
@@ -139,7 +140,7 @@ module _ (split : Split) (sound : IsSplit split) (words0 words : List ℕ) (read
   heard_else m other = ap (λ b. cond b w (version_in layout words0 m)) (ne_eqb m n other)
 
   -- a look for a line finds one, or each is in use
-  taken_on : (next index : ℕ) (now : List ℕ) → IsUnmoved layout words0 now n → (turn : Turn Take Taken) → TakeHeeds caller (λ number. line_in layout words0 caller number 0) index turn → Goes now (split_taken split next turn)
+  taken_on : (next index : ℕ) (now : List ℕ) → IsUnmoved layout words0 now n → (turn : Turn Take Taken) → TakeHeeds caller (λ number. line_in layout words0 caller number state_offset) index turn → Goes now (split_taken split next turn)
   taken_on next index now unmoved (Go take) heeds = (unmoved, heeds)
   taken_on next index now unmoved (Done (taken.Line line)) heeds = (unmoved, record { number = index; within = heeds.1; empty = heeds.2 }, claims_begin layout g (heard_in layout words0 n w 0))
   taken_on next index now unmoved (Done taken.Full) heeds = (unmoved, heeds)
@@ -228,17 +229,17 @@ module _ (split : Split) (sound : IsSplit split) (words0 words : List ℕ) (read
   splits_there : (at : SplitAt) → IsSplitAt split.view n w at → SplitStands layout g words0 words n w caller at → Told layout g (split_at_asks split at) x → (HoldsAlone at → version_in layout words n ≡ w)
       → x ≡ got layout words (split_at_asks split at) → Goes (acted layout words (split_at_asks split at)) (split_at_turned split at x)
   splits_there at.Next is stands tells mine loads =
-      (loaded layout words0 words n (word_address layout n 2) stands, λ index lt. absurd (let no : index < 0 = lt in omega arith))
+      (loaded layout words0 words n (word_address layout n next_offset) stands, λ index lt. absurd (let no : index < 0 = lt in omega arith))
   splits_there (at.Take next take) is stands tells mine loads =
       let same = is.2 in
       let unmoved = subst (λ (k : Layout). IsUnmoved k words0 words n) (sym same) stands.0 in
       let own_loads : x ≡ got take.layout words (take_asks take) = subst (λ (k : Layout). x ≡ got k words (take_asks take)) (sym same) loads in
       let now = subst (λ (k : Layout). IsUnmoved k words0 (acted k words (take_asks take)) n) same (take_unmoved take is.1 words0 words n unmoved) in
-      let states : take.at ≡ take_at.State → x ≡ line_in layout words0 caller take.index 0 =
-      λ state. subst (λ (q : Layout × ℕ). x ≡ line_in q.0 words0 q.1 take.index 0) (λ k. (same k, is.3 k)) (take_told take is.1 words0 words n unmoved x own_loads state) in
+      let states : take.at ≡ take_at.State → x ≡ line_in layout words0 caller take.index state_offset =
+      λ state. subst (λ (q : Layout × ℕ). x ≡ line_in q.0 words0 q.1 take.index state_offset) (λ k. (same k, is.3 k)) (take_told take is.1 words0 words n unmoved x own_loads state) in
       taken_on next take.index (acted layout words (take_asks take)) now (take_turned take x)
-      (subst (λ (c : ℕ). TakeHeeds c (λ number. line_in layout words0 caller number 0) take.index (take_turned take x)) is.3
-      (takes_heed take (λ number. line_in layout words0 caller number 0) x is.1 states stands.1))
+      (subst (λ (c : ℕ). TakeHeeds c (λ number. line_in layout words0 caller number state_offset) take.index (take_turned take x)) is.3
+      (takes_heed take (λ number. line_in layout words0 caller number state_offset) x is.1 states stands.1))
   splits_there (at.Claim next line claim) is stands tells mine loads =
       let layout_is = is.3 in
       let generation_is = is.4 in

@@ -1,15 +1,14 @@
 -- The target of a walk in any lawful index in which the version word stands that the walk saw.
-use Rattle.std.proofs.Common.{◌≡◌, ◌≢◌, ℕ, ◌^◌, ◌<◌, ◌≤◌, true, inl, inr, List, [], ◌∷◌, Option, Some, None, sym, ap, ◌∙◌, subst, arith}
+use Rattle.std.proofs.Common.{◌≡◌, ◌≢◌, ℕ, ◌^◌, ◌<◌, ◌≤◌, true, inl, inr, List, [], ◌∷◌, Option, Some, None, sym, ap, ◌∙◌, subst, arith, ◌+◌}
 use Rattle.std.specs.Prelude.{◌↔◌, IsSome, IfSome, slice_index}
 use Rattle.std.specs.List.{AllByRecursion}
 use Rattle.cat_key.specs.Names.{IsName, words_of}
 use Rattle.cat_key.proofs.Packing.{length-words_of, words_tell_names}
 use Rattle.data_node.specs.Spots.{Spot}
-use Rattle.data_node.specs.Lists.{ListNode, next_offset, three_words, key_of, anchor_in, IsMember, IsIn, IsChain}
+use Rattle.data_node.specs.Lists.{ListNode, next_offset, three_words, key_of, anchor_in, IsMember, IsIn, IsChain, number_of, anchor_offset}
 use Rattle.call_stages.specs.Stages.{Sees}
-use Rattle.data_list.specs.declared.key.KeyWords.{KeyWords}
 use Rattle.data_list.specs.declared.target.Next.{Next}
-use Rattle.data_list.specs.Keys.{key_number, key_words, words_in, IsNameOf}
+use Rattle.data_list.specs.Keys.{IsNameOf, key_words}
 use Rattle.data_list.specs.Walks.{LeadsOn, sighting_of}
 use Rattle.data_list.specs.WalkStages.{leads_on, sight_in}
 use Rattle.data_list.specs.Laws.{Ends}
@@ -29,11 +28,11 @@ words_told : (a b c x y z : ℕ) → b < 2 ^ 64 → c < 2 ^ 64 → y < 2 ^ 64 �
 words_told a b c x y z fb fc fy fz same = (omega (arith, fb, fc, fy, fz), omega (arith, fb, fc, fy, fz), omega (arith, fb, fc, fy, fz))
 
 -- where the number of the words is a name's, they are that name's
-pub name_words : (k : KeyWords) (name : List ℕ) → IsName name → k.second < 2 ^ 64 → k.third < 2 ^ 64 → key_number k ≡ key_of name → words_of name ≡ words_in k
+pub name_words : (k : List ℕ) (name : List ℕ) → IsName name → slice_index k 1 < 2 ^ 64 → slice_index k 2 < 2 ^ 64 → number_of k ≡ key_of name → words_of name ≡ key_words k
 unfolding key_of
 name_words k name named small smaller same =
     let fits = word_fits name named.bytes in
-    let told = words_told (slice_index (words_of name) 0) (slice_index (words_of name) 1) (slice_index (words_of name) 2) k.first k.second k.third (fits 1) (fits 2) small smaller (sym same) in
+    let told = words_told (slice_index (words_of name) 0) (slice_index (words_of name) 1) (slice_index (words_of name) 2) (slice_index k 0) (slice_index k 1) (slice_index k 2) (fits 1) (fits 2) small smaller (sym same) in
     three (words_of name) k (length-words_of name) told.0 told.1 told.2
 
 -- and it is told as their name
@@ -60,23 +59,23 @@ module _ (w : World) (lawful : Lawful w) where
   fits n offset here some small = subst (λ x. x < 2 ^ 64) (sym (spot_in-here w.layout w.words n offset (here, omega arith) some)) (lawful.row.fits _)
 
   -- what was seen of the next node is so
-  leads : (n : ℕ) (low : KeyWords) (next : Option Next) (high : Option (List ℕ)) → IsListed f n → IfSome next (λ to. LeadsOn w.layout to.node) → Ends next high
+  leads : (n : ℕ) (low : List ℕ) (next : Option Next) (high : Option (List ℕ)) → IsListed f n → IfSome next (λ to. LeadsOn w.layout to.node) → Ends next high
       → Sees (leads_on low next) (f.now n) (f.now (f.now n next_offset)) → LeadsTo f n next high
   leads n low None high listed on ends see = (see.seen.0, ends)
   leads n low (Some next) high listed on ends see =
       let to = f.now n next_offset in
-      let k : KeyWords = key_words next.anchor in
+      let k : List ℕ = next.anchor in
       let beyond = see.beyond on.some in
       let is : to ≡ next.node = see.seen.0 in
       let member : IsMember f.list to = chain_closed f.now 0 f.list lawful.list.chain n listed (λ none. on.some (sym is ∙ none)) in
       let here : to < w.layout.nodes = all_member (λ m. m < w.layout.nodes) f.list to lawful.list.within member in
       let name = anchored f.now 0 f.list lawful.list.chain lawful.list.named to member in
-      let anchor : anchor_in (f.now to) ≡ key_number k = anchor_is (f.now to) k beyond.0.2 beyond.1.0.2 beyond.1.1.0.2 in
-      let second : k.second < 2 ^ 64 = subst (λ x. x < 2 ^ 64) beyond.1.0.2 (fits to 4 here (omega arith) (omega arith)) in
-      let third : k.third < 2 ^ 64 = subst (λ x. x < 2 ^ 64) beyond.1.1.0.2 (fits to 5 here (omega arith) (omega arith)) in (
+      let anchor : anchor_in (f.now to) ≡ number_of k = anchor_is (f.now to) k beyond.0.2 beyond.1.0.2 beyond.1.1.0.2 in
+      let second : slice_index k 1 < 2 ^ 64 = subst (λ x. x < 2 ^ 64) beyond.1.0.2 (fits to (anchor_offset + 1) here (omega arith) (omega arith)) in
+      let third : slice_index k 2 < 2 ^ 64 = subst (λ x. x < 2 ^ 64) beyond.1.1.0.2 (fits to (anchor_offset + 2) here (omega arith) (omega arith)) in (
         is,
         subst (IsIn f.list) is (inr member),
-        (name.0, name.1, tells_name (words_in k) high name.0 ends name.1 (name_words k name.0 name.1 second third (sym anchor ∙ name.2)), ap (λ m. anchor_in (f.now m)) (sym is) ∙ name.2),
+        (name.0, name.1, tells_name (key_words k) high name.0 ends name.1 (name_words k name.0 name.1 second third (sym anchor ∙ name.2)), ap (λ m. anchor_in (f.now m)) (sym is) ∙ name.2),
       )
 
   -- the range of a listed node, by its bounds
@@ -109,17 +108,17 @@ target_stands w i p key target lock lawful there is stage version =
     let sure : SureSaw l w.generation f n target.version lock (sight_in (sighting_of target)) = subst (Sure l w.generation f p.caller p.index p.since) stage (lawful.sure i p there) in
     let stands : Stands f n (sight_in (sighting_of target)) = sure.stands version in
     let listed : IsListed f n = stands.listed is.seen.live in
-    let low : anchor_in (f.now n) ≡ key_number (key_words target.low) = lowest (key_words target.low) target.next (f.now n) (f.now (f.now n next_offset)) stands.sees in
-    let next : LeadsTo f n target.next target.high = leads w lawful n (key_words target.low) target.next target.high listed is.next is.high stands.sees in
+    let low : anchor_in (f.now n) ≡ number_of target.low = lowest target.low target.next (f.now n) (f.now (f.now n next_offset)) stands.sees in
+    let next : LeadsTo f n target.next target.high = leads w lawful n target.low target.next target.high listed is.next is.high stands.sees in
     record {
       listed = listed;
       live = lawful.live.live n listed;
-      chosen = between_target f.now 0 f.list lawful.list.chain (rise_from l f lawful.list) n (key_number key) listed (is.seen.between _ _ stands.sees);
+      chosen = between_target f.now 0 f.list lawful.list.chain (rise_from l f lawful.list) n (number_of key) listed (is.seen.between _ _ stands.sees);
       low = low;
       next = next;
-      range = ranges w lawful n (key_number (key_words target.low)) target.next target.high listed low is.next next;
+      range = ranges w lawful n (number_of target.low) target.next target.high listed low is.next next;
     }
   where
-    lowest : (low : KeyWords) (next : Option Next) (s t : Spot) → Sees (leads_on low next) s t → anchor_in s ≡ key_number low
+    lowest : (low : List ℕ) (next : Option Next) (s t : Spot) → Sees (leads_on low next) s t → anchor_in s ≡ number_of low
     lowest low None s t see = anchor_is s low see.seen.1.0 see.seen.1.1.0 see.seen.1.1.1.0
     lowest low (Some next) s t see = anchor_is s low see.seen.1.0 see.seen.1.1.0 see.seen.1.1.1.0

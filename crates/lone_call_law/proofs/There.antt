@@ -11,7 +11,7 @@ use Rattle.pm_words.specs.declared.machine.Turn.TheVariants.{Go, Done}
 use Rattle.pm_words.specs.Rows.{acted, got}
 use Rattle.version_lock.specs.Versions.{kept_count, locked_word, IsWorn, is_worn_word}
 use Rattle.data_node.specs.Bits.{without_live, lowest_live, candidate_bits}
-use Rattle.data_node.specs.Lists.{target_from, key_of, next_offset}
+use Rattle.data_node.specs.Lists.{target_from, key_of, next_offset, anchor_offset, number_of}
 use Rattle.call_stages.specs.Kinds.{clock_address, version_address, status_address, word_address, prev_address}
 use Rattle.call_stages.specs.declared.once.Once.TheVariants as once
 use Rattle.data_list.specs.declared.target.Walked.{Walked}
@@ -19,7 +19,6 @@ use Rattle.data_list.specs.declared.target.Walked.TheVariants as walked
 use Rattle.data_list.specs.declared.walk.Walk.{Walk}
 use Rattle.data_list.specs.declared.walk.WalkAt.{WalkAt}
 use Rattle.data_list.specs.declared.walk.WalkAt.TheVariants as walk_at
-use Rattle.data_list.specs.Keys.{key_number, key_words}
 use Rattle.data_list.specs.Walks.{sighting_of, walk_from, walk_at_asks, walk_asks, walk_turned, IsWalkAt}
 use Rattle.data_list.specs.Still.{Nodes, Comes, loaded, StaysOnWay}
 use Rattle.version_lock.proofs.WordTests.{worn_word, fresh_word}
@@ -34,6 +33,7 @@ use Rattle.node_ops.specs.declared.lookup.LookupAt.{LookupAt}
 use Rattle.node_ops.specs.declared.lookup.LookupAt.TheVariants as at
 use Rattle.node_ops.specs.Calls.{IsCall, name_in, at_node, call_address}
 use Rattle.data_node.specs.Spots.{bitmap_offset, slot_offset}
+use Rattle.data_node.specs.Lines.{state_offset}
 use Rattle.node_ops.specs.LookupSteps.{came_by, is_spent, goes_to, ends, floored, walked_on, saw_directory}
 use Rattle.node_ops.specs.LookupSteps.{next_candidate, candidate_turned, lookup_at_asks, lookup_at_turned, IsFlooring}
 use Rattle.node_ops.specs.LookupSteps.{IsLookupAt}
@@ -91,26 +91,26 @@ pub told_loaded : (l : Layout) (g : ℕ) (words : List ℕ) (walk : Walk) (at : 
     → got l words (walk_at_asks l walk.node at) ≡ loaded (nodes_in l words) walk.node at
 told_loaded l g words walk walk_at.Version node here = sym (version_in-here l words walk.node node)
 told_loaded l g words walk (walk_at.Status version) node here = sym (status_in-here l words walk.node node)
-told_loaded l g words walk (walk_at.First version) node here = sym (spot_in-here l words walk.node 3 (node, omega arith) (omega arith))
-told_loaded l g words walk (walk_at.Second version first) node here = sym (spot_in-here l words walk.node 4 (node, omega arith) (omega arith))
-told_loaded l g words walk (walk_at.Third version first second) node here = sym (spot_in-here l words walk.node 5 (node, omega arith) (omega arith))
+told_loaded l g words walk (walk_at.First version) node here = sym (spot_in-here l words walk.node anchor_offset (node, omega arith) (omega arith))
+told_loaded l g words walk (walk_at.Second version first) node here = sym (spot_in-here l words walk.node (anchor_offset + 1) (node, omega arith) (omega arith))
+told_loaded l g words walk (walk_at.Third version first second) node here = sym (spot_in-here l words walk.node (anchor_offset + 2) (node, omega arith) (omega arith))
 told_loaded l g words walk (walk_at.Next version low) node here = sym (spot_in-here l words walk.node next_offset (node, omega arith) (omega arith))
-told_loaded l g words walk (walk_at.HighFirst version low next) node here = sym (spot_in-here l words next 3 (here.2.within, omega arith) (omega arith))
-told_loaded l g words walk (walk_at.HighSecond version low next first) node here = sym (spot_in-here l words next 4 (here.2.within, omega arith) (omega arith))
-told_loaded l g words walk (walk_at.HighThird version low next first second) node here = sym (spot_in-here l words next 5 (here.2.within, omega arith) (omega arith))
+told_loaded l g words walk (walk_at.HighFirst version low next) node here = sym (spot_in-here l words next anchor_offset (here.2.within, omega arith) (omega arith))
+told_loaded l g words walk (walk_at.HighSecond version low next first) node here = sym (spot_in-here l words next (anchor_offset + 1) (here.2.within, omega arith) (omega arith))
+told_loaded l g words walk (walk_at.HighThird version low next first second) node here = sym (spot_in-here l words next (anchor_offset + 2) (here.2.within, omega arith) (omega arith))
 told_loaded l g words walk walk_at.Prev node here = sym (prev_at l words walk.node node)
 
 -- a walk only loads
 pub walk_loads : (l : Layout) (words : List ℕ) (n : ℕ) (at : WalkAt) → acted l words (walk_at_asks l n at) ≡ words
 walk_loads l words n walk_at.Version = set-get_or words (version_address l n) 0
 walk_loads l words n (walk_at.Status version) = set-get_or words (status_address l n) 0
-walk_loads l words n (walk_at.First version) = set-get_or words (word_address l n 3) 0
-walk_loads l words n (walk_at.Second version first) = set-get_or words (word_address l n 4) 0
-walk_loads l words n (walk_at.Third version first second) = set-get_or words (word_address l n 5) 0
+walk_loads l words n (walk_at.First version) = set-get_or words (word_address l n anchor_offset) 0
+walk_loads l words n (walk_at.Second version first) = set-get_or words (word_address l n (anchor_offset + 1)) 0
+walk_loads l words n (walk_at.Third version first second) = set-get_or words (word_address l n (anchor_offset + 2)) 0
 walk_loads l words n (walk_at.Next version low) = set-get_or words (word_address l n next_offset) 0
-walk_loads l words n (walk_at.HighFirst version low next) = set-get_or words (word_address l next 3) 0
-walk_loads l words n (walk_at.HighSecond version low next first) = set-get_or words (word_address l next 4) 0
-walk_loads l words n (walk_at.HighThird version low next first second) = set-get_or words (word_address l next 5) 0
+walk_loads l words n (walk_at.HighFirst version low next) = set-get_or words (word_address l next anchor_offset) 0
+walk_loads l words n (walk_at.HighSecond version low next first) = set-get_or words (word_address l next (anchor_offset + 1)) 0
+walk_loads l words n (walk_at.HighThird version low next first second) = set-get_or words (word_address l next (anchor_offset + 2)) 0
 walk_loads l words n walk_at.Prev = set-get_or words (prev_address l n) 0
 
 -- a load leaves all words
@@ -125,7 +125,7 @@ stored_unmoved l words0 words n word here unmoved =
       versions = λ m other. version_in-alike l words stored m (λ there. at-set_other l words (Cached (Node n version_offset)) (Cached (Node m version_offset)) word (here, omega arith) (there, omega arith) (λ e. other (ap node_at e))) ∙ unmoved.versions m other;
       statuses = λ m. status_in-alike l words stored m (λ there. at-set_other l words (Cached (Node n version_offset)) (Volatile m status_offset) word (here, omega arith) (there, omega arith) (λ e. cc)) ∙ unmoved.statuses m;
       nexts = λ m. spot_in-alike l words stored m next_offset (λ there _. at-set_other l words (Cached (Node n version_offset)) (Cached (Node m next_offset)) word (here, omega arith) there (λ e. let no : 2 ≡ 0 = ap offset_at e in omega arith)) ∙ unmoved.nexts m;
-      lines = λ c j. line-alike l words stored c j 0 (λ there. at-set_other l words (Cached (Node n version_offset)) (Cached (Line c j 0)) word (here, omega arith) there (λ e. cc)) ∙ unmoved.lines c j;
+      lines = λ c j. line-alike l words stored c j state_offset (λ there. at-set_other l words (Cached (Node n version_offset)) (Cached (Line c j state_offset)) word (here, omega arith) there (λ e. cc)) ∙ unmoved.lines c j;
     }
 
 -- and as its lock is taken a node's version word alone changes
@@ -137,7 +137,7 @@ locked_unmoved l words0 words n old new here same =
       versions = λ m other. version_in-alike l words stored m (λ there. at-set_other l words (Cached (Node n version_offset)) (Cached (Node m version_offset)) word (here, omega arith) (there, omega arith) (λ e. other (ap node_at e)));
       statuses = λ m. status_in-alike l words stored m (λ there. at-set_other l words (Cached (Node n version_offset)) (Volatile m status_offset) word (here, omega arith) (there, omega arith) (λ e. cc));
       nexts = λ m. spot_in-alike l words stored m next_offset (λ there _. at-set_other l words (Cached (Node n version_offset)) (Cached (Node m next_offset)) word (here, omega arith) there (λ e. let no : 2 ≡ 0 = ap offset_at e in omega arith));
-      lines = λ c j. line-alike l words stored c j 0 (λ there. at-set_other l words (Cached (Node n version_offset)) (Cached (Line c j 0)) word (here, omega arith) there (λ e. cc));
+      lines = λ c j. line-alike l words stored c j state_offset (λ there. at-set_other l words (Cached (Node n version_offset)) (Cached (Line c j state_offset)) word (here, omega arith) there (λ e. cc));
     })
 
 module _ (call : Call) (sound : IsCall call) (words0 words : List ℕ) where
@@ -163,8 +163,8 @@ module _ (call : Call) (sound : IsCall call) (words0 words : List ℕ) where
   floored_there words' turns (Go next) can same answers = (same, record { turns = turns; answers = answers })
   floored_there words' turns (Done node) can same starts =
       let f : Nodes = nodes_in l words0 in
-      let walk : Walk = walk_from l g node (key_words call.name) in
-      let comes = each_comes l g f (key_number (key_words call.name)) node can.quiet (start_within can node starts) in (
+      let walk : Walk = walk_from l g node call.name in
+      let comes = each_comes l g f (number_of call.name) node can.quiet (start_within can node starts) in (
         same,
         record {
           hops = comes.0;
@@ -184,7 +184,7 @@ module _ (call : Call) (sound : IsCall call) (words0 words : List ℕ) where
       floored_there (acted l words (floor_asks floor)) turns (floor_turned floor x) can (lone_keeps l words floor ∙ same)
       (subst (λ (n : ℕ). IsSomeAnd (told_turn (floor_turned floor n) (answer_from turns w)) (StartsAt l words0 (name_in call))) loads answers)
 
-  walked_there : (words' : List ℕ) (hops : ℕ) (turn : Turn Walk Walked) → WalksBy l words0 (name_in call) hops → words' ≡ words0 → StaysOnWay l (nodes_in l words0) hops (key_words call.name) turn → Stands words' (walked_on call turn)
+  walked_there : (words' : List ℕ) (hops : ℕ) (turn : Turn Walk Walked) → WalksBy l words0 (name_in call) hops → words' ≡ words0 → StaysOnWay l (nodes_in l words0) hops call.name turn → Stands words' (walked_on call turn)
   walked_there words' hops (Go walk) walks same way = (same, record { hops = hops; walks = walks; way = way })
   walked_there words' hops (Done (walked.Again why)) walks same way = absurd way
   walked_there words' hops (Done (walked.Target target)) walks same way = by call.limit refl
@@ -237,8 +237,8 @@ module _ (call : Call) (sound : IsCall call) (words0 words : List ℕ) where
       ∙ told_loaded l g words0 walk walk.at node fields in
       let hops = stands.1.hops in
       let turn = walks_come_there l g (nodes_in l words0) hops walk still.quiet.quiet here.layout here.generation stands.1.way in
-      let keyed : StaysOnWay l (nodes_in l words0) hops (key_words call.name) (walk_turned walk x) =
-      subst (λ y. StaysOnWay l (nodes_in l words0) hops (key_words call.name) (walk_turned walk y)) (sym loads)
+      let keyed : StaysOnWay l (nodes_in l words0) hops call.name (walk_turned walk x) =
+      subst (λ y. StaysOnWay l (nodes_in l words0) hops call.name (walk_turned walk y)) (sym loads)
       (subst (λ k. StaysOnWay l (nodes_in l words0) hops k (walk_turned walk (loaded (nodes_in l words0) walk.node walk.at))) here.key turn) in
       walked_there (acted l words (walk_asks walk)) hops (walk_turned walk x) stands.1.walks (ap (acted l words) asks ∙ walk_loads l words walk.node walk.at ∙ stands.0) keyed
   at_there (at.Read sight) x here still stands told =

@@ -122,6 +122,7 @@ use Rattle.index_law.proofs.Noting.{line-alike}
 use Rattle.index_law.proofs.Rows.{spot_in-alike, status_in-alike, version_in-alike}
 use Rattle.node_ops.specs.Calls.{IsCall}
 use Rattle.data_node.specs.Spots.{bitmap_offset, slot_offset}
+use Rattle.data_node.specs.Lines.{state_offset}
 use Rattle.pm_words.specs.Offsets.{permutation_version_offset, status_offset, version_offset}
 
 -- a write that has come there holds the lock
@@ -286,7 +287,7 @@ module _ (l : Layout) (g : ℕ) (words0 words : List ℕ) (R : Again → Type 0)
 
   -- and it finds one, or each is in use
   del_taken_went : (call : Call) (hold : Hold) (bitmap : ℕ) (hit : Hit) (place limit : Option ℕ) (index : ℕ) → IsAtNode l words0 call → IsUnmoved l words0 words call.node → (turn : Turn Take Taken)
-      → TakeHeeds call.view.caller (λ number. line_in l words0 call.view.caller number 0) index turn → DelWent call place limit (del_taken call hold bitmap hit turn)
+      → TakeHeeds call.view.caller (λ number. line_in l words0 call.view.caller number state_offset) index turn → DelWent call place limit (del_taken call hold bitmap hit turn)
   del_taken_went call hold bitmap hit place limit index there unmoved (Go take) heeds = (there, unmoved, heeds)
   del_taken_went call hold bitmap hit place limit index there unmoved (Done (taken.Line line)) heeds = (there, record { number = index; within = heeds.1; empty = heeds.2 })
   del_taken_went call hold bitmap hit place limit index there unmoved (Done taken.Full) heeds = (there, unmoved, heeds)
@@ -414,7 +415,7 @@ put_went (put.Splitting call hold bitmap value split) words0 words x sound still
 
 -- a look for a line of a delete
 del_take_went : (call : Call) (hold : Hold) (bitmap : ℕ) (hit : Hit) (take : Take) (words0 words : List ℕ) (x : ℕ) (place limit : Option ℕ) (R : Again → Type 0) → IsTakeOf call.view take
-    → IsAtNode call.view.layout words0 call → IsUnmoved call.view.layout words0 words call.node → HasLooked (λ number. line_in call.view.layout words0 call.view.caller number 0) take.index take.at
+    → IsAtNode call.view.layout words0 call → IsUnmoved call.view.layout words0 words call.node → HasLooked (λ number. line_in call.view.layout words0 call.view.caller number state_offset) take.index take.at
     → x ≡ got call.view.layout words (take_asks take)
     → DelWent call.view.layout call.view.generation words0 (acted call.view.layout words (take_asks take)) R call place limit (del_taken call hold bitmap hit (take_turned take x))
 del_take_went call hold bitmap hit take words0 words x place limit R is there still looked told =
@@ -422,11 +423,11 @@ del_take_went call hold bitmap hit take words0 words x place limit R is there st
     let unmoved = subst (λ (k : Layout). IsUnmoved k words0 words call.node) (sym same) still in
     let own_told : x ≡ got take.layout words (take_asks take) = subst (λ (k : Layout). x ≡ got k words (take_asks take)) (sym same) told in
     let now = subst (λ (k : Layout). IsUnmoved k words0 (acted k words (take_asks take)) call.node) same (take_unmoved take is.here words0 words call.node unmoved) in
-    let states : take.at ≡ take_at.State → x ≡ line_in call.view.layout words0 call.view.caller take.index 0 =
-    λ state. subst (λ (q : Layout × ℕ). x ≡ line_in q.0 words0 q.1 take.index 0) (λ k. (same k, is.caller_is k)) (take_told take is.here words0 words call.node unmoved x own_told state) in
+    let states : take.at ≡ take_at.State → x ≡ line_in call.view.layout words0 call.view.caller take.index state_offset =
+    λ state. subst (λ (q : Layout × ℕ). x ≡ line_in q.0 words0 q.1 take.index state_offset) (λ k. (same k, is.caller_is k)) (take_told take is.here words0 words call.node unmoved x own_told state) in
     del_taken_went call.view.layout call.view.generation words0 (acted call.view.layout words (take_asks take)) R call hold bitmap hit place limit take.index there now (take_turned take x)
-    (subst (λ (c : ℕ). TakeHeeds c (λ number. line_in call.view.layout words0 call.view.caller number 0) take.index (take_turned take x)) is.caller_is
-    (takes_heed take (λ number. line_in call.view.layout words0 call.view.caller number 0) x is.here states looked))
+    (subst (λ (c : ℕ). TakeHeeds c (λ number. line_in call.view.layout words0 call.view.caller number state_offset) take.index (take_turned take x)) is.caller_is
+    (takes_heed take (λ number. line_in call.view.layout words0 call.view.caller number state_offset) x is.here states looked))
 
 del_went : (machine : Del) (words0 words : List ℕ) (x : ℕ) → IsDel machine
     → CanWalk (del_call machine).view.layout (del_call machine).view.generation words0
@@ -469,7 +470,7 @@ beyond_unmoved l words0 words n m offset y here most other unmoved =
       versions = λ k apart. version_in-alike l words stored k (λ there. at-set_other l words (Volatile m offset) (Cached (Node k version_offset)) y (here, most) (there, omega arith) (λ e. cc)) ∙ unmoved.versions k apart;
       statuses = λ k. status_in-alike l words stored k (λ there. at-set_other l words (Volatile m offset) (Volatile k status_offset) y (here, most) (there, omega arith) (λ e. other (sym (ap offset_of_volatile e)))) ∙ unmoved.statuses k;
       nexts = λ k. spot_in-alike l words stored k next_offset (λ there _. at-set_other l words (Volatile m offset) (Cached (Node k next_offset)) y (here, most) there (λ e. cc)) ∙ unmoved.nexts k;
-      lines = λ c j. line-alike l words stored c j 0 (λ there. at-set_other l words (Volatile m offset) (Cached (Line c j 0)) y (here, most) there (λ e. cc)) ∙ unmoved.lines c j;
+      lines = λ c j. line-alike l words stored c j state_offset (λ there. at-set_other l words (Volatile m offset) (Cached (Line c j state_offset)) y (here, most) there (λ e. cc)) ∙ unmoved.lines c j;
     }
 
 -- a look-up that came to its node has it as it was
@@ -629,11 +630,11 @@ module _ (call : Call) (seen : Sighting) (count : ℕ) (words0 words : List ℕ)
       ]
 
   -- it takes the lock, since nobody else does anything
-  locking_went : (locked x : ℕ) → ¬ IsMadeNow l words0 call → x ≡ got l words (Exchange (call_address call 0) seen.version locked)
-      → PartWent l call.view.generation words0 (acted l words (Exchange (call_address call 0) seen.version locked)) (part.Locking call seen count locked) (part_locked call seen count locked x)
+  locking_went : (locked x : ℕ) → ¬ IsMadeNow l words0 call → x ≡ got l words (Exchange (call_address call version_offset) seen.version locked)
+      → PartWent l call.view.generation words0 (acted l words (Exchange (call_address call version_offset) seen.version locked)) (part.Locking call seen count locked) (part_locked call seen count locked x)
   locking_went locked x new told =
       let same : x ≡ seen.version = told ∙ ap (λ (ws : List ℕ). slice_index ws (version_address l call.node)) come.1 ∙ sym (version_in-here l words0 call.node sound.node) ∙ sym come.2 in
-      subst (λ b. PartWent l call.view.generation words0 (acted l words (Exchange (call_address call 0) seen.version locked)) (part.Locking call seen count locked)
+      subst (λ b. PartWent l call.view.generation words0 (acted l words (Exchange (call_address call version_offset) seen.version locked)) (part.Locking call seen count locked)
       (cond b (Go (part_held call seen count locked)) (Done (once.Again (again.Moved call.node seen.version x))))) (sym (eq-eqb x seen.version same))
       ((come.0, locked_unmoved l words0 words call.node seen.version locked sound.node come.1), new)
 

@@ -18,6 +18,7 @@ use Rattle.call_stages.specs.declared.once.Once.TheVariants as once
 use Rattle.call_stages.specs.declared.once.Placed.{Placed}
 use Rattle.call_stages.specs.Stages.{Idle}
 use Rattle.cat_key.specs.Names.{IsName}
+use Rattle.data_node.specs.Lines.{state_offset}
 use Rattle.call_stages.specs.declared.view.View.{View}
 use Rattle.node_ops.specs.Calls.{new_call}
 use Rattle.node_ops.specs.declared.call.Call.{Call}
@@ -85,7 +86,7 @@ DelIsThere l words0 words (del.Single (single_del.Next call hold bitmap hit)) = 
     IsUnmoved l words0 words call.node
 DelIsThere l words0 words (del.Single (single_del.Taking call hold bitmap hit take)) =
     IsAtNode l words0 call × IsUnmoved l words0 words call.node ×
-    HasLooked (λ index. line_in l words0 call.view.caller index 0) take.index take.at
+    HasLooked (λ index. line_in l words0 call.view.caller index state_offset) take.index take.at
 DelIsThere l words0 words (del.Single (single_del.Refusing call hold bitmap hit)) =
     IsAtNode l words0 call × IsUnmoved l words0 words call.node × LacksLine l words0 call.view.caller
 DelIsThere l words0 words (del.Single (single_del.Clearing call hold bitmap hit line)) =

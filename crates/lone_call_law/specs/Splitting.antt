@@ -1,12 +1,13 @@
 -- Where the split of a full node stands that nobody disturbs: which log line it takes, and which node it claims.
 use Rattle.std.specs.Prelude.{◌≡◌, ◌≢◌, ℕ, ◌<◌, ◌==◌, if◌then◌else◌, List}
-use Rattle.pm_words.specs.Codes.{free_status, live_status}
+use Rattle.pm_words.specs.Codes.{free_status, live_status, empty_state}
 use Rattle.pm_words.specs.declared.layout.Layout.{Layout}
 use Rattle.pm_words.specs.declared.again.Again.{Again}
 use Rattle.pm_words.specs.declared.again.Again.TheVariants as again
 use Rattle.pm_words.specs.declared.machine.Turn.{Turn}
 use Rattle.pm_words.specs.declared.machine.Turn.TheVariants.{Go, Done}
 use Rattle.pm_words.specs.Rows.{acted, got}
+use Rattle.data_node.specs.Lines.{state_offset}
 use Rattle.version_lock.specs.Versions.{IsFree, IsWorn}
 use Rattle.call_stages.specs.Kinds.{Told}
 use Rattle.pm_alloc.specs.Events.{Heard, HasHeard}
@@ -25,11 +26,11 @@ use Rattle.lone_call_law.specs.There.{IsUnmoved}
 pub record HasLine (l : Layout) (words : List ℕ) (caller : ℕ) : Type 0 where
   pub number : ℕ
   pub within : number < 8
-  pub empty : line_in l words caller number 0 ≡ 0
+  pub empty : line_in l words caller number state_offset ≡ empty_state
 
 -- None of them is.
 abbrev pub LacksLine : Layout → List ℕ → ℕ → Type 0
-LacksLine l words caller = (number : ℕ) → number < 8 → line_in l words caller number 0 ≢ 0
+LacksLine l words caller = (number : ℕ) → number < 8 → line_in l words caller number state_offset ≢ empty_state
 
 -- Some node is FREE, and its lock can be taken.
 pub record HasFree (l : Layout) (g : ℕ) (words : List ℕ) : Type 0 where
@@ -61,7 +62,7 @@ IsLacking l g words caller _ = ⊥
 abbrev pub SplitStands : Layout → ℕ → List ℕ → List ℕ → ℕ → ℕ → ℕ → SplitAt → Type 0
 SplitStands l g words0 words n w caller at.Next = IsUnmoved l words0 words n
 SplitStands l g words0 words n w caller (at.Take next take) =
-    IsUnmoved l words0 words n × HasLooked (λ index. line_in l words0 caller index 0) take.index take.at
+    IsUnmoved l words0 words n × HasLooked (λ index. line_in l words0 caller index state_offset) take.index take.at
 SplitStands l g words0 words n w caller (at.Claim next line claim) =
     IsUnmoved l words0 words n × HasLine l words0 caller ×
     HasHeard l g (heard_in l words0 n w 0) claim.node claim.at

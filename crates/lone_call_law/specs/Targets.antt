@@ -5,12 +5,10 @@ use lib.ListN.{get_elem?}
 use Rattle.pm_words.specs.Codes.{live_status}
 use Rattle.pm_words.specs.declared.layout.Layout.{Layout}
 use Rattle.cat_key.specs.Names.{IsName}
-use Rattle.data_node.specs.Lists.{next_offset, target_from, key_of, anchor_in}
+use Rattle.data_node.specs.Lists.{next_offset, target_from, key_of, anchor_in, number_of}
 use Rattle.call_stages.specs.Stages.{Saw}
-use Rattle.data_list.specs.declared.key.KeyWords.{KeyWords}
 use Rattle.data_list.specs.declared.target.Next.{Next}
 use Rattle.data_list.specs.declared.target.Target.{Target}
-use Rattle.data_list.specs.Keys.{key_number, key_words}
 use Rattle.data_list.specs.Walks.{sighting_of}
 use Rattle.data_list.specs.WalkStages.{sight_in}
 use Rattle.data_list.specs.Laws.{IsTarget}
@@ -31,16 +29,16 @@ pub record IsListedSo (l : Layout) (f : Facts) (key : ℕ) (target : Target) : T
   pub listed : IsListed f target.node
   pub live : f.status target.node ≡ live_status
   pub chosen : target_from 0 f.list key ≡ target.node
-  pub low : anchor_in (f.now target.node) ≡ key_number (key_words target.low)
+  pub low : anchor_in (f.now target.node) ≡ number_of target.low
   pub next : LeadsTo f target.node target.next target.high
   pub range : (name : List ℕ) → range_of l f target.node name ≡ true ↔
-      ((key_number (key_words target.low) ≤ key_of name) × IfSome target.high (λ high. key_of name < key_of high))
+      ((number_of target.low ≤ key_of name) × IfSome target.high (λ high. key_of name < key_of high))
 
 -- The party i has come to this target, from which it may take the lock. As long as the version word stands that its
 -- walk saw, however many steps other parties have made, the target is listed so.
 abbrev pub TargetStands : Type 0
-TargetStands = (w : World) (i : ℕ) (p : Party) (key : KeyWords) (target : Target) (lock : ℕ) → Lawful w →
+TargetStands = (w : World) (i : ℕ) (p : Party) (key : List ℕ) (target : Target) (lock : ℕ) → Lawful w →
     get_elem? w.parties i ≡ some p →
     IsTarget w.layout w.generation key target →
     p.stage ≡ Saw target.node target.version lock (sight_in (sighting_of target)) →
-    (facts w).version target.node ≡ target.version → IsListedSo w.layout (facts w) (key_number key) target
+    (facts w).version target.node ≡ target.version → IsListedSo w.layout (facts w) (number_of key) target

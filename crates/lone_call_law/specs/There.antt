@@ -7,6 +7,7 @@ use Rattle.pm_words.specs.Locations.{Cached}
 use Rattle.pm_words.specs.Rows.{acted, got}
 use Rattle.version_lock.specs.Versions.{IsWorn}
 use Rattle.data_node.specs.Lists.{next_offset, target_from, key_of}
+use Rattle.data_node.specs.Lines.{state_offset}
 use Rattle.call_stages.specs.declared.once.Once.{Once}
 use Rattle.call_stages.specs.declared.once.Once.TheVariants as once
 use Rattle.call_stages.specs.declared.once.Placed.{Placed}
@@ -69,7 +70,7 @@ pub record IsUnmoved (l : Layout) (words0 words : List ℕ) (node : ℕ) : Type 
   pub versions : (m : ℕ) → m ≢ node → version_in l words m ≡ version_in l words0 m
   pub statuses : (m : ℕ) → status_in l words m ≡ status_in l words0 m
   pub nexts : (m : ℕ) → spot_in l words m next_offset ≡ spot_in l words0 m next_offset
-  pub lines : (c j : ℕ) → line_in l words c j 0 ≡ line_in l words0 c j 0
+  pub lines : (c j : ℕ) → line_in l words c j state_offset ≡ line_in l words0 c j state_offset
 
 -- The floor of the call, told words of the layer so many times, answers the node where the call begins to walk.
 pub record IsLanding (l : Layout) (words : List ℕ) (call : Call) (floor : Floor) : Type 0 where

@@ -13,6 +13,7 @@ use Rattle.pm_words.specs.Rows.{acted, got}
 use Rattle.pm_words.proofs.Kept.{action_address-drain}
 use Rattle.cat_history.specs.declared.op.Change.{Change}
 use Rattle.data_node.specs.Lists.{ListNode, next_offset, IsIn, IsChain, without_member}
+use Rattle.data_node.specs.Lines.{state_offset}
 use Rattle.call_stages.specs.declared.once.Once.{Once}
 use Rattle.call_stages.specs.declared.once.Placed.{Placed}
 use Rattle.call_stages.specs.Stages.{Stage, Filling, Gathered, Gone, Idle, Saw, Wears, Reads, Holds, Eyes, Splits}
@@ -372,7 +373,7 @@ module _ (name : List ℕ) (own : Option Change) (w0 : World) (z : Whole) (i : �
 
   line_prevs : (line after : Option HeldLine) (a : Action) (x : ℕ) → get_elem? z.lines i ≡ some line → Notes l line a x after → (n : ℕ) → prev_in l (acted l words a) n ≡ prev_in l words n
   line_prevs line after a x at_line (passes_line {c = c} {j = j} {offset = k} caller low within) n = ap (λ (v : List ℕ). prev_in l v n) (set-get_or words (line_address l c j k) 0)
-  line_prevs line after a x at_line (takes {c = c} {j = j} caller low zero) n = ap (λ (v : List ℕ). prev_in l v n) (set-get_or words (line_address l c j 0) 0)
+  line_prevs line after a x at_line (takes {c = c} {j = j} caller low zero) n = ap (λ (v : List ℕ). prev_in l v n) (set-get_or words (line_address l c j state_offset) 0)
   line_prevs line after a x at_line (looks_up {offset = k} {e = e} within learnt blind) n = ap (λ (v : List ℕ). prev_in l v n) (set-get_or words (line_address l e.caller e.number k) 0)
   line_prevs line after a x at_line (notes {y = y} {offset = k} {e = e} within fits marks soils tells kept) n =
       let here = (whole.joint.sure i e at_line).here in

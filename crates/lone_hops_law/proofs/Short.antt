@@ -4,6 +4,7 @@ use Rattle.pm_words.specs.Codes.{ready_state}
 use Rattle.pm_words.specs.declared.layout.Layout.{Layout}
 use Rattle.pm_words.specs.Locations.{Node, Cached, Volatile}
 use Rattle.data_node.specs.Lists.{anchor_in, members_from, IsIn, Rise}
+use Rattle.data_node.specs.Lines.{state_offset}
 use Rattle.pm_words.specs.Offsets.{prev_offset, status_offset, version_offset}
 use Rattle.data_list.specs.Still.{Nodes, AreQuiet}
 use Rattle.data_list.proofs.Comings.{comes_once}
@@ -80,7 +81,7 @@ short_stays_alike w words alike short key start floor =
     let same : layer_words l words Cached ≡ layer_words l w.words Cached = rows_alike l w.words words Cached Cached (λ v place. alike (Cached v) place.there tt) in
     let layer : layer_of l words ≡ layer_of l w.words = λ k. kept l (same k) in
     let states : line_state (record w { words = words }) ≡ line_state w =
-    column-same l w.words words (line_count l) (λ j. Cached (line_word 0 j)) (λ j here. alike (Cached (line_word 0 j)) (omega arith, omega arith, omega arith) tt) in
+    column-same l w.words words (line_count l) (λ j. Cached (line_word state_offset j)) (λ j here. alike (Cached (line_word state_offset j)) (omega arith, omega arith, omega arith) tt) in
     let ready : ready_lines (record w { words = words }) ≡ ready_lines w = λ k. how_many (λ j. states k j == ready_state) (line_count l) in
     let version : (n : ℕ) → version_in l words n ≡ version_in l w.words n =
     λ n. version_in-alike l w.words words n (λ here. alike (Cached (Node n version_offset)) (here, omega arith) tt) in

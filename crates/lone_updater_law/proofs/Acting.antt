@@ -4,6 +4,7 @@ use Rattle.std.proofs.lemmas.Bool.{cases_eq}
 use mathlib.Core.Option.{some}
 use lib.ListN.{get_elem?}
 use Rattle.pm_words.specs.Rows.{got}
+use Rattle.pm_words.specs.Codes.{ready_state}
 use Rattle.index_law.specs.Worlds.{World}
 use Rattle.updater_law.specs.Facts.{TurnTerms, TurnFacts}
 use Rattle.updater_law.specs.Lawful.{SureTurn}
@@ -33,7 +34,7 @@ resting_beside z i t is there busy = elim (cases_eq is.active.0 i) [
 ]
 
 -- a line that is read is READY
-read_ready : (c : TurnTerms) (f : TurnFacts) (j offset : ℕ) (seen : List ℕ) → SureTurn c f (reading_stage j offset seen) → f.line.state j ≡ 2
+read_ready : (c : TurnTerms) (f : TurnFacts) (j offset : ℕ) (seen : List ℕ) → SureTurn c f (reading_stage j offset seen) → f.line.state j ≡ ready_state
 read_ready c f j zero seen sure = sure
 read_ready c f j (suc zero) seen sure = sure
 read_ready c f j (suc (suc zero)) seen sure = sure.0

@@ -6,7 +6,7 @@ use Rattle.std.proofs.lemmas.Bool.{cases_eq}
 use Rattle.std.proofs.lemmas.List.{set-get_or, length-append}
 use mathlib.Core.Option.{some}
 use lib.ListN.{get_elem?}
-use Rattle.pm_words.specs.Codes.{ready_state}
+use Rattle.pm_words.specs.Codes.{ready_state, empty_state, open_state}
 use Rattle.pm_words.specs.declared.layout.Layout.{Layout}
 use Rattle.pm_words.specs.declared.action.Action.{Action}
 use Rattle.pm_words.specs.Locations.{Line, Cached, at, address_of}
@@ -15,6 +15,7 @@ use Rattle.pm_words.proofs.Kept.{action_address-drain}
 use Rattle.pm_words.specs.declared.again.Again.TheVariants as again
 use Rattle.cat_history.specs.declared.op.Change.{Change}
 use Rattle.data_node.specs.Spots.{Spot}
+use Rattle.data_node.specs.Lines.{state_offset}
 use Rattle.call_stages.specs.declared.once.Once.{Once}
 use Rattle.call_stages.specs.declared.once.Once.TheVariants as once
 use Rattle.call_stages.specs.declared.once.Placed.{Placed}
@@ -93,7 +94,7 @@ moment caller w0 w w' s (Some e) same = λ o. record {
 -- Where a stage leads, as far as the switch is meant.
 record LeadsOn (w : World) (line : Option HeldLine) (s t : Stage) : Type 0 where
   past : HasSwitched s → HasSwitched t
-  before : HasNotSwitched s → HasNotSwitched t ⊎ (HasSwitched t × HasLine line (λ e. (e.ready ≡ false) × (line_state w (line_number e) ≡ 1)))
+  before : HasNotSwitched s → HasNotSwitched t ⊎ (HasSwitched t × HasLine line (λ e. (e.ready ≡ false) × (line_state w (line_number e) ≡ open_state)))
 
 restaged : (caller : ℕ) (w0 w : World) (s t : Stage) (line : Option HeldLine) → LeadsOn w line s t → StandsSo caller w0 w s line → StandsSo caller w0 w t line
 restaged caller w0 w s t None leads = ⊎_elim
@@ -107,7 +108,7 @@ restaged caller w0 w s t (Some e) leads = λ o. record {
   opened = λ unready past. ⊎_elim
       (λ (not_yet : HasNotSwitched s). ⊎_elim
       (λ (still : HasNotSwitched t). absurd (not_both t still past))
-      (λ (made : HasSwitched t × ((e.ready ≡ false) × (line_state w (line_number e) ≡ 1))). made.1.1)
+      (λ (made : HasSwitched t × ((e.ready ≡ false) × (line_state w (line_number e) ≡ open_state))). made.1.1)
       (leads.before not_yet))
       (λ (was : HasSwitched s). o.opened unready was)
       (switched_or_not s);
@@ -116,7 +117,7 @@ restaged caller w0 w s t (Some e) leads = λ o. record {
 -- and with the line let go
 module _ (caller : ℕ) (w0 w : World) (s next : Stage) (layout : w.layout ≡ w0.layout) where
   state_is : (e : HeldLine) → SureLine w.layout w.words e → (x : ℕ) → ((t : Spot) → Tells e.seen t → t 0 ≡ x) → line_state w (line_number e) ≡ x
-  state_is e sure x tells = line_tie w.layout w.words e sure.here 0 (omega arith) ∙ tells (line_in w.layout w.words e.caller e.number) sure.seen
+  state_is e sure x tells = line_tie w.layout w.words e sure.here state_offset (omega arith) ∙ tells (line_in w.layout w.words e.caller e.number) sure.seen
 
   let_go : (line after : Option HeldLine) → KeepsOrLetsGo next line after → ((e : HeldLine) → line ≡ Some e → SureLine w.layout w.words e) → StandsSo caller w0 w s line → StandsSo caller w0 w s after
   let_go line after kept sure stands = ⊎_elim
@@ -128,7 +129,7 @@ module _ (caller : ℕ) (w0 w : World) (s next : Stage) (layout : w.layout ≡ w
       of None left sure stands = stands
       of (Some e) left sure o = ⊎_elim
           (λ (known : IsKnownEmpty e).
-          let zero_state : line_state w (line_number e) ≡ 0 = state_is e (sure e refl) 0 known in
+          let zero_state : line_state w (line_number e) ≡ empty_state = state_is e (sure e refl) 0 known in
           let never : HasSwitched s → ⊥ = λ past. open_or_ready past zero_state in
           let same : (j : ℕ) → line_state w j ≡ line_state w0 j = λ j. ⊎_elim
           (λ (own : j ≡ line_number e). ap (line_state w) own ∙ zero_state ∙ sym o.was_empty ∙ ap (line_state w0) (sym own))
@@ -147,7 +148,7 @@ module _ (caller : ℕ) (w0 w : World) (s next : Stage) (layout : w.layout ≡ w
           inr ((o.readied given.ready).1, record { line = line_number e; within = omega arith; own = omega arith; was_empty = o.was_empty; is = λ k j. is j k }))
           left
         where
-          open_or_ready : HasSwitched s → line_state w (line_number e) ≡ 0 → ⊥
+          open_or_ready : HasSwitched s → line_state w (line_number e) ≡ empty_state → ⊥
           open_or_ready past zero_state = at e.ready refl
             where
               at : (b : Bool) → e.ready ≡ b → ⊥
@@ -196,7 +197,7 @@ module _ (name : List ℕ) (own : Option Change) (w0 : World) (z : Layered) (i :
         o'.written)
         o.written
 
-    has_open : (line : Option HeldLine) (node : Grip) → ((e : HeldLine) → line ≡ Some e → SureLine l words e) → HasLine line (λ e. IsOpenOf e node) → HasLine line (λ e. (e.ready ≡ false) × (line_state w (line_number e) ≡ 1))
+    has_open : (line : Option HeldLine) (node : Grip) → ((e : HeldLine) → line ≡ Some e → SureLine l words e) → HasLine line (λ e. IsOpenOf e node) → HasLine line (λ e. (e.ready ≡ false) × (line_state w (line_number e) ≡ open_state))
     has_open None node sure none = absurd none
     has_open (Some e) node sure is_open = (is_open.unready, state_is p.caller w0 w p.stage t o.layout e (sure e refl) 1 is_open.open_state)
 
@@ -233,8 +234,8 @@ module _ (name : List ℕ) (own : Option Change) (w0 : World) (z : Layered) (i :
     }
 
   -- ---- on its line
-  one_more : (e : HeldLine) (words' : List ℕ) (t : Stage) (state : ℕ) → line_field l words' Cached 0 ≡ set_at (line_field l words Cached 0) (line_number e) state → (j : ℕ) → j ≢ line_number e → line_field l words' Cached 0 j ≡ line_field l words Cached 0 j
-  one_more e words' t state changed j apart = ap (λ (f : ℕ → ℕ). f j) changed ∙ other (line_field l words Cached 0) (line_number e) j state apart
+  one_more : (e : HeldLine) (words' : List ℕ) (t : Stage) (state : ℕ) → line_field l words' Cached state_offset ≡ set_at (line_field l words Cached state_offset) (line_number e) state → (j : ℕ) → j ≢ line_number e → line_field l words' Cached state_offset j ≡ line_field l words Cached state_offset j
+  one_more e words' t state changed j apart = ap (λ (f : ℕ → ℕ). f j) changed ∙ other (line_field l words Cached state_offset) (line_number e) j state apart
 
   false_true : {b : Bool} → b ≡ true → b ≡ false → ⊥
   false_true is isnt = cc
@@ -249,7 +250,7 @@ module _ (name : List ℕ) (own : Option Change) (w0 : World) (z : Layered) (i :
 
   marked : (e : HeldLine) (sure : SureLine l words e) (offset y : ℕ) (small : offset < 8) (seen dirty : List (ℕ × ℕ)) (ready : Bool) → Marks e offset y seen ready
       → IsInStep p.stage (Some (record e { seen = seen; dirty = dirty; hand = None; ready = ready })) → IsOwnLine p.caller w0 w p.stage e
-      → (w' : World) → line_state w' ≡ line_field l (stored l words row e sure offset y small) Cached 0 → IsOwnLine p.caller w0 w' p.stage (record e { seen = seen; dirty = dirty; hand = None; ready = ready })
+      → (w' : World) → line_state w' ≡ line_field l (stored l words row e sure offset y small) Cached state_offset → IsOwnLine p.caller w0 w' p.stage (record e { seen = seen; dirty = dirty; hand = None; ready = ready })
   marked e sure offset y small seen dirty ready (fills some_offset unready empty) in_step q w' state =
       let same : line_state w' ≡ line_state w = state ∙ field_else l words row e sure offset y small 0 (omega arith) (λ first. some_offset (sym first)) in
       record {
@@ -260,21 +261,21 @@ module _ (name : List ℕ) (own : Option Change) (w0 : World) (z : Layered) (i :
         opened = λ _ past. ap (λ (f : ℕ → ℕ). f (line_number e)) same ∙ q.opened unready past;
       }
   marked e sure offset y small seen dirty ready (opens unready empty) in_step q w' state =
-      let changed : line_state w' ≡ set_at (line_state w) (line_number e) 1 = state ∙ ap (λ (n : Lines). n.state) (state_lines l words row e sure 0 1 small refl) in
+      let changed : line_state w' ≡ set_at (line_state w) (line_number e) open_state = state ∙ ap (λ (n : Lines). n.state) (state_lines l words row e sure state_offset open_state small refl) in
       record {
         own = q.own;
         was_empty = q.was_empty;
-        others = λ j apart. ap (λ (f : ℕ → ℕ). f j) changed ∙ other (line_state w) (line_number e) j 1 apart ∙ q.others j apart;
+        others = λ j apart. ap (λ (f : ℕ → ℕ). f j) changed ∙ other (line_state w) (line_number e) j open_state apart ∙ q.others j apart;
         readied = λ ready. absurd (both ready refl);
-        opened = λ _ past. ap (λ (f : ℕ → ℕ). f (line_number e)) changed ∙ here (line_state w) (line_number e) (line_number e) 1 refl;
+        opened = λ _ past. ap (λ (f : ℕ → ℕ). f (line_number e)) changed ∙ here (line_state w) (line_number e) (line_number e) open_state refl;
       }
-  marked e sure offset y small seen dirty ready (readies unready durable open_state blind) in_step q w' state =
-      let changed : line_state w' ≡ set_at (line_state w) (line_number e) 2 = state ∙ ap (λ (n : Lines). n.state) (state_lines l words row e sure 0 2 small refl) in
+  marked e sure offset y small seen dirty ready (readies unready durable was_open blind) in_step q w' state =
+      let changed : line_state w' ≡ set_at (line_state w) (line_number e) ready_state = state ∙ ap (λ (n : Lines). n.state) (state_lines l words row e sure state_offset ready_state small refl) in
       record {
         own = q.own;
         was_empty = q.was_empty;
-        others = λ j apart. ap (λ (f : ℕ → ℕ). f j) changed ∙ other (line_state w) (line_number e) j 2 apart ∙ q.others j apart;
-        readied = λ _. (ap (λ (f : ℕ → ℕ). f (line_number e)) changed ∙ here (line_state w) (line_number e) (line_number e) 2 refl, readied_past p.stage (record { caller = e.caller; number = e.number; seen = seen; dirty = dirty; hand = None; ready = true }) refl in_step);
+        others = λ j apart. ap (λ (f : ℕ → ℕ). f j) changed ∙ other (line_state w) (line_number e) j ready_state apart ∙ q.others j apart;
+        readied = λ _. (ap (λ (f : ℕ → ℕ). f (line_number e)) changed ∙ here (line_state w) (line_number e) (line_number e) ready_state refl, readied_past p.stage (record { caller = e.caller; number = e.number; seen = seen; dirty = dirty; hand = None; ready = true }) refl in_step);
         opened = λ unready_now. absurd (both refl unready_now);
       }
 
@@ -282,11 +283,11 @@ module _ (name : List ℕ) (own : Option Change) (w0 : World) (z : Layered) (i :
   taken_line c j x = record { caller = c; number = j; seen = (0, x) ∷ []; dirty = (0, 8) ∷ []; hand = None; ready = false }
 
   -- the line that it takes was EMPTY from the beginning
-  took : (c j x : ℕ) → c < l.callers → j < 8 → x ≡ 0 → x ≡ at l words (Cached (Line c j 0)) → c ≡ p.caller → (e : HeldLine) → e ≡ taken_line c j x
+  took : (c j x : ℕ) → c < l.callers → j < 8 → x ≡ 0 → x ≡ at l words (Cached (Line c j state_offset)) → c ≡ p.caller → (e : HeldLine) → e ≡ taken_line c j x
       → IsInStep p.stage (Some e) → StandsSo p.caller w0 w p.stage None → (w' : World) → line_state w' ≡ line_state w → IsOwnLine p.caller w0 w' p.stage e
   took c j x caller low zero told mine e is in_step stands w' same = subst (IsOwnLine p.caller w0 w' p.stage) (sym is) (⊎_elim
       (λ (q : HasNotSwitched p.stage × KeepsLines w0 w).
-      let state : line_state w (line_number (taken_line c j x)) ≡ 0 = line_tie l words (taken_line c j x) (caller, low) 0 (omega arith) ∙ line-here l words c j 0 (caller, low, omega arith) ∙ sym told ∙ zero in
+      let state : line_state w (line_number (taken_line c j x)) ≡ empty_state = line_tie l words (taken_line c j x) (caller, low) state_offset (omega arith) ∙ line-here l words c j state_offset (caller, low, omega arith) ∙ sym told ∙ zero in
       record {
         own = mine;
         was_empty = sym (ap (λ (f : ℕ → ℕ). f (line_number (taken_line c j x))) q.1) ∙ state;
@@ -308,12 +309,12 @@ module _ (name : List ℕ) (own : Option Change) (w0 : World) (z : Layered) (i :
   line_goes : (line after : Option HeldLine) (a : Action) (x : ℕ) → get_elem? z.whole.lines i ≡ some line → Notes l line a x after → x ≡ got l words a → IfSome after (λ e. e.caller ≡ p.caller) → IsInStep p.stage after
       → StandsSo p.caller w0 w p.stage line → StandsSo p.caller w0 (stepped w i p a p.stage) p.stage after
   line_goes line after a x at_line (passes_line {c = c} {j = j} {offset = n} caller low within) told mine in_step stands =
-      moment p.caller w0 w (stepped w i p a p.stage) p.stage None (ap (λ (v : List ℕ). line_field l v Cached 0) (set-get_or words (line_address l c j n) 0)) stands
+      moment p.caller w0 w (stepped w i p a p.stage) p.stage None (ap (λ (v : List ℕ). line_field l v Cached state_offset) (set-get_or words (line_address l c j n) 0)) stands
   line_goes line after a x at_line (takes {c = c} {j = j} caller low zero) told mine in_step stands =
-      took c j x caller low zero told mine _ refl in_step stands (stepped w i p a p.stage) (ap (λ (v : List ℕ). line_field l v Cached 0) (set-get_or words (line_address l c j 0) 0))
+      took c j x caller low zero told mine _ refl in_step stands (stepped w i p a p.stage) (ap (λ (v : List ℕ). line_field l v Cached state_offset) (set-get_or words (line_address l c j state_offset) 0))
   line_goes line after a x at_line (looks_up {offset = n} {e = e} {seen = seen} within learnt blind) told mine in_step stands =
       let q : IsOwnLine p.caller w0 (stepped w i p a p.stage) p.stage e =
-      moment p.caller w0 w (stepped w i p a p.stage) p.stage (Some e) (ap (λ (v : List ℕ). line_field l v Cached 0) (set-get_or words (line_address l e.caller e.number n) 0)) stands in
+      moment p.caller w0 w (stepped w i p a p.stage) p.stage (Some e) (ap (λ (v : List ℕ). line_field l v Cached state_offset) (set-get_or words (line_address l e.caller e.number n) 0)) stands in
       record { own = q.own; was_empty = q.was_empty; others = q.others; readied = q.readied; opened = q.opened }
   line_goes line after a x at_line (notes {y = y} {offset = n} {e = e} {seen = seen} {dirty = dirty} {ready = ready} within fits marks soils tells keeps) told mine in_step stands =
       marked e (is.whole.joint.sure i e at_line) n y within seen dirty ready marks in_step stands (stepped w i p a p.stage) refl
@@ -321,7 +322,7 @@ module _ (name : List ℕ) (own : Option Change) (w0 : World) (z : Layered) (i :
       let sure = is.whole.joint.sure i e at_line in
       let same : acted l words a ≡ drained l words row e sure n y within = ap (λ (q : ℕ). slice_set words q y) (action_address-drain l (Line e.caller e.number n) y) in
       let q : IsOwnLine p.caller w0 (stepped w i p a p.stage) p.stage e =
-      moment p.caller w0 w (stepped w i p a p.stage) p.stage (Some e) (ap (λ (v : List ℕ). line_field l v Cached 0) same ∙ ap (λ (rest : Rest). rest.line.state) (drained_path l words row e sure n y within)) stands in
+      moment p.caller w0 w (stepped w i p a p.stage) p.stage (Some e) (ap (λ (v : List ℕ). line_field l v Cached state_offset) same ∙ ap (λ (rest : Rest). rest.line.state) (drained_path l words row e sure n y within)) stands in
       record { own = q.own; was_empty = q.was_empty; others = q.others; readied = q.readied; opened = q.opened }
 
   -- ---- all steps
@@ -396,7 +397,7 @@ log_goes name own w0 z i p f next a x is o o' at_line owing stage stands (foot.o
     let same : acted l words a ≡ words = set-get_or words (address_of l (Cached v)) 0 in
     record {
       layer = layer_on name own w0 z i p is o (acted l words a) (ap (λ (ws : List ℕ). (rest_in l ws).layer) same) stands.layer;
-      lines = moment p.caller w0 z.whole.world (stepped z.whole.world i p a s) s line (ap (λ (ws : List ℕ). line_field l ws Cached 0) same) stands.lines;
+      lines = moment p.caller w0 z.whole.world (stepped z.whole.world i p a s) s line (ap (λ (ws : List ℕ). line_field l ws Cached state_offset) same) stands.lines;
     }
 log_goes name own w0 z i p f next a x is o o' at_line owing stage stands (foot.on_permutation {stage = s} {line = line} none on) told in_step =
     let l = z.whole.world.layout in

@@ -1,6 +1,7 @@
 -- Which nodes are GONE still after a turn that was alone.
 use Rattle.std.proofs.Common.{◌≡◌, ◌<◌, ◌⊎◌, not, Bool, true, false, cond, inl, inr, refl, sym, subst, ap, ◌∙◌, arith}
 use Rattle.std.proofs.lemmas.Bool.{and_cases, eqb-false, leb-false}
+use Rattle.pm_words.specs.Codes.{gone_status}
 use Rattle.version_lock.specs.Versions.{IsWorn}
 use Rattle.version_lock.proofs.WordTests.{worn_word}
 use Rattle.index_law.specs.Facts.{Facts}
@@ -18,7 +19,7 @@ gone_are_held_back before stamp release answer now n is here gone = by (frees_no
     by : (b : Bool) → frees_node before.whole.world stamp release n ≡ b → IsWorn ((facts now.whole.world).version n) now.whole.world.generation ⊎ (release < stamp_in now.whole.world n)
     by true frees = absurd (let no : 2 ≡ 0 = sym gone ∙ is.statuses n here ∙ ap (λ b. cond b 0 ((facts before.whole.world).status n)) frees in omega arith)
     by false stays =
-        let was : (facts before.whole.world).status n ≡ 2 = sym (ap (λ b. cond b 0 ((facts before.whole.world).status n)) stays) ∙ sym (is.statuses n here) ∙ gone in
+        let was : (facts before.whole.world).status n ≡ gone_status = sym (ap (λ b. cond b 0 ((facts before.whole.world).status n)) stays) ∙ sym (is.statuses n here) ∙ gone in
         elim (and_cases _ _ stays) [
           | inl other ↦ absurd (eqb-false _ _ other was)
           | inr both ↦ elim (and_cases _ _ both) [

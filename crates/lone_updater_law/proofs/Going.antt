@@ -8,13 +8,13 @@ use Rattle.pm_words.specs.declared.machine.Turn.{Turn}
 use Rattle.pm_words.specs.declared.machine.Turn.TheVariants.{Go, Done}
 use Rattle.pm_words.specs.Locations.{Volatile, Cached}
 use Rattle.pm_words.specs.Rows.{acted, got}
-use Rattle.pm_words.specs.Offsets.{stamp_offset}
+use Rattle.pm_words.specs.Offsets.{stamp_offset, version_offset}
+use Rattle.data_node.specs.Lines.{state_offset}
 use Rattle.version_lock.specs.Versions.{is_worn_word}
 use Rattle.call_stages.specs.Stages.{Idle}
 use Rattle.call_stages.specs.Watches.{Nothing}
 use Rattle.data_list.specs.declared.target.Target.{Target}
 use Rattle.data_list.specs.declared.target.Walked.TheVariants as walked
-use Rattle.data_list.specs.declared.key.KeyWords.{KeyWords}
 use Rattle.data_list.specs.declared.target.Walked.{Walked}
 use Rattle.data_list.specs.declared.walk.Walk.{Walk}
 use Rattle.data_list.specs.Still.{Nodes, AreQuiet, StaysOnWay}
@@ -77,7 +77,7 @@ module _ (before w : World) (stamp release : ℕ) (tally : Tally) (x : ℕ) (nod
   abbrev words : List ℕ
   words = w.words
 
-  goes_or_finds : (f : Nodes) (hops : ℕ) (key : KeyWords) (turn : Turn Walk Walked) → StaysOnWay w.layout f hops key turn → GoesOrFinds turn
+  goes_or_finds : (f : Nodes) (hops : ℕ) (key : List ℕ) (turn : Turn Walk Walked) → StaysOnWay w.layout f hops key turn → GoesOrFinds turn
   goes_or_finds f hops key (Go walk) way = tt
   goes_or_finds f hops key (Done (walked.Target found)) way = tt
   goes_or_finds f hops key (Done (walked.Again why)) way = way
@@ -89,7 +89,7 @@ module _ (before w : World) (stamp release : ℕ) (tally : Tally) (x : ℕ) (nod
   knows : (at : WorkAt) → IsWorkAt t tally at → HasDone before stamp release (marks_in w) (work_at_stage t at) → HasHeard t (heard_from before stamp release entry target) tally at → WalkStands l words at
       → x ≡ got l words (work_at_asks t at) → Knows before stamp release t words at x
   knows (at.State line) here done heard walk told = record {
-    so = told ∙ sym (column-here l words (line_count l) (λ k. Cached (line_word 0 k)) line here.within) ∙ done.rest line (omega arith);
+    so = told ∙ sym (column-here l words (line_count l) (λ k. Cached (line_word state_offset k)) line here.within) ∙ done.rest line (omega arith);
     busy = λ e. cc;
   }
   knows (at.Reading read) here done heard walk told = record { so = tt; busy = λ e. cc }
@@ -174,7 +174,7 @@ module _ (before : Layered) (stamp release i : ℕ) (tally : Tally) (state : Wor
     others_then : (j : ℕ) (u : Turning) → get_elem? later.turns j ≡ some u → ((j ≡ i) × (next ≡ u)) ⊎ ((j ≢ i) × IsAtRest u)
     others_then j u at_u = elim (at_set z.turns i j next u at_u) [ inl mine ↦ inl mine | inr other ↦ inr (other.0, is.others j u other.1 other.0) ]
 
-    worn_same : (n : ℕ) → is_worn_word (node_field w.layout w.words 0 n) w.generation ≡ is_worn_word ((facts before.whole.world).version n) before.whole.world.generation
+    worn_same : (n : ℕ) → is_worn_word (node_field w.layout w.words version_offset n) w.generation ≡ is_worn_word ((facts before.whole.world).version n) before.whole.world.generation
     worn_same n =
         ap (λ v. is_worn_word v w.generation) (version_tie w.layout w.words n ∙ ap (λ (f : Facts). f.version n) is.kept.facts)
         ∙ ap (is_worn_word ((facts before.whole.world).version n)) (ap (λ (q : Whole). q.world.generation) is.kept.whole)

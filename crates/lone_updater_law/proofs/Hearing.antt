@@ -3,7 +3,7 @@ use Rattle.std.proofs.Common.{◌≡◌, ◌≢◌, ℕ, zero, suc, ◌<◌, ◌
 use Rattle.std.proofs.Common.{ap, ◌∙◌}
 use Rattle.std.specs.Prelude.{nat_le}
 use Rattle.std.proofs.lemmas.Bool.{eq-eqb, ne_eqb, and_right}
-use Rattle.pm_words.specs.Codes.{free_status}
+use Rattle.pm_words.specs.Codes.{free_status, gone_status}
 use Rattle.pm_words.specs.declared.machine.Turn.{Turn}
 use Rattle.pm_words.specs.declared.machine.Turn.TheVariants.{Go, Done}
 use Rattle.version_lock.specs.Versions.{is_worn_word}
@@ -151,7 +151,7 @@ module _ (before : World) (stamp release : ℕ) where
   }
     where
       one : (n : ℕ) → events.is_freed (terms_in before stamp release) (from entry target) n ≡ frees_node before stamp release n
-      one n = ap (λ b. (facts before).status n == 2 && ((not b && nat_le (stamp_then before stamp n) release) && not (is_worn_word ((facts before).version n) before.generation)))
+      one n = ap (λ b. (facts before).status n == gone_status && ((not b && nat_le (stamp_then before stamp n) release) && not (is_worn_word ((facts before).version n) before.generation)))
           (ne_eqb (stamp_then before stamp n) 0 (then_some before stamp some n))
 
       freed_is : events.is_freed (terms_in before stamp release) (from entry target) ≡ frees_node before stamp release

@@ -4,13 +4,14 @@ use Rattle.std.proofs.Common.{inl, inr, refl, sym, subst, ap, ◌∙◌, arith}
 use Rattle.std.specs.Prelude.{nat_lt, nat_le}
 use Rattle.std.proofs.lemmas.Bool.{cases_eq, cases_lt, eq-eqb, ne_eqb, le-leb, lt-leb, ltb-false}
 use Rattle.std.proofs.lemmas.List.{set-get_or}
-use Rattle.pm_words.specs.Codes.{merge_kind}
+use Rattle.pm_words.specs.Codes.{merge_kind, empty_state, free_status, gone_status, ready_state}
 use Rattle.pm_words.specs.declared.layout.Layout.{Layout}
 use Rattle.pm_words.specs.declared.action.Action.{Action}
 use Rattle.pm_words.specs.declared.action.Action.TheVariants.{Load}
 use Rattle.pm_words.specs.Locations.{Volatile, Cached, Node}
 use Rattle.pm_words.specs.Rows.{IsRow, acted, got}
 use Rattle.pm_words.specs.Offsets.{stamp_offset, status_offset, version_offset}
+use Rattle.data_node.specs.Lines.{state_offset}
 use Rattle.version_lock.specs.Versions.{is_worn_word}
 use Rattle.index_law.specs.Worlds.{World, facts}
 use Rattle.index_layer_law.specs.search_layer.specs.ChangeStages.{Changing, Changed, ChangeStep}
@@ -40,7 +41,7 @@ use Rattle.lone_updater_law.specs.LoneTurns.{line_state, stamp_in, stamp_then, f
 use Rattle.lone_updater_law.specs.Marks.{Marks, HasEmptied, IsSwept, HasSwept, HasUnstamped, HasDone}
 
 abbrev pub row_marks : Layout → List ℕ → Marks
-row_marks l words = record { state = line_field l words Cached 0; status = volatile_field l words 0; stamp = volatile_field l words 2 }
+row_marks l words = record { state = line_field l words Cached state_offset; status = volatile_field l words status_offset; stamp = volatile_field l words stamp_offset }
 
 abbrev marks_of : TurnFacts → Marks
 marks_of f = record { state = f.line.state; status = f.status; stamp = f.stamp }
@@ -77,7 +78,7 @@ module _ (before : World) (stamp : ℕ) where
   ]
 
   -- the lines, with one more that wasn't READY
-  passed : (m : Marks) (j : ℕ) → (line_state before j ≡ 0) ⊎ (line_state before j ≡ 2) → m.state j ≢ 2 → HasEmptied before stamp m j → HasEmptied before stamp m (suc j)
+  passed : (m : Marks) (j : ℕ) → (line_state before j ≡ empty_state) ⊎ (line_state before j ≡ ready_state) → m.state j ≢ ready_state → HasEmptied before stamp m j → HasEmptied before stamp m (suc j)
   passed m j either unready lines = record {
     empty = λ k lt. elim (cases_eq k j) [
       | inl e ↦ ap m.state e ∙ elim either [ inl none ↦ lines.rest j (omega arith) ∙ none | inr two ↦ absurd (unready (lines.rest j (omega arith) ∙ two)) ]
@@ -89,10 +90,10 @@ module _ (before : World) (stamp : ℕ) where
   }
 
   -- and with one more that is emptied
-  emptied : (m : Marks) (j : ℕ) → HasEmptied before stamp m j → HasEmptied before stamp (record m { state = set_at m.state j 0 }) (suc j)
+  emptied : (m : Marks) (j : ℕ) → HasEmptied before stamp m j → HasEmptied before stamp (record m { state = set_at m.state j empty_state }) (suc j)
   emptied m j lines = record {
-    empty = λ k lt. elim (cases_eq k j) [ inl e ↦ here m.state j k 0 e | inr ne ↦ other m.state j k 0 ne ∙ lines.empty k (omega (arith, ne)) ];
-    rest = λ k le. other m.state j k 0 (λ e. omega arith) ∙ lines.rest k (omega arith);
+    empty = λ k lt. elim (cases_eq k j) [ inl e ↦ here m.state j k empty_state e | inr ne ↦ other m.state j k empty_state ne ∙ lines.empty k (omega (arith, ne)) ];
+    rest = λ k le. other m.state j k empty_state (λ e. omega arith) ∙ lines.rest k (omega arith);
     statuses = lines.statuses;
     stamps = lines.stamps;
   }
@@ -120,19 +121,19 @@ module _ (before : World) (stamp release : ℕ) where
   worn n = is_worn_word ((facts before).version n) before.generation
 
   -- which nodes it doesn't free, and which it does
-  not_gone : (n : ℕ) → status n ≢ 2 → frees_node before stamp release n ≡ false
+  not_gone : (n : ℕ) → status n ≢ gone_status → frees_node before stamp release n ≡ false
   not_gone n other_status = ap (λ b. b && (nat_le (stamp_then before stamp n) release && not (worn n))) (ne_eqb (status n) 2 other_status)
 
-  both_gone : (n : ℕ) → status n ≡ 2 → frees_node before stamp release n ≡ (nat_le (stamp_then before stamp n) release && not (worn n))
+  both_gone : (n : ℕ) → status n ≡ gone_status → frees_node before stamp release n ≡ (nat_le (stamp_then before stamp n) release && not (worn n))
   both_gone n gone = ap (λ b. b && (nat_le (stamp_then before stamp n) release && not (worn n))) (eq-eqb (status n) 2 gone)
 
-  is_late : (n : ℕ) → status n ≡ 2 → release < stamp_then before stamp n → frees_node before stamp release n ≡ false
+  is_late : (n : ℕ) → status n ≡ gone_status → release < stamp_then before stamp n → frees_node before stamp release n ≡ false
   is_late n gone late = both_gone n gone ∙ ap (λ b. b && not (worn n)) (lt-leb (stamp_then before stamp n) release late)
 
-  is_worn : (n : ℕ) → status n ≡ 2 → stamp_then before stamp n ≤ release → worn n ≡ true → frees_node before stamp release n ≡ false
+  is_worn : (n : ℕ) → status n ≡ gone_status → stamp_then before stamp n ≤ release → worn n ≡ true → frees_node before stamp release n ≡ false
   is_worn n gone early is = both_gone n gone ∙ ap (λ b. b && not (worn n)) (le-leb (stamp_then before stamp n) release early) ∙ ap not is
 
-  is_free : (n : ℕ) → status n ≡ 2 → stamp_then before stamp n ≤ release → worn n ≡ false → frees_node before stamp release n ≡ true
+  is_free : (n : ℕ) → status n ≡ gone_status → stamp_then before stamp n ≤ release → worn n ≡ false → frees_node before stamp release n ≡ true
   is_free n gone early fresh = both_gone n gone ∙ ap (λ b. b && not (worn n)) (le-leb (stamp_then before stamp n) release early) ∙ ap not fresh
 
   -- the nodes, with one more that stays
@@ -157,27 +158,27 @@ module _ (before : World) (stamp release : ℕ) where
     ahead = λ i lt. let was = nodes.ahead i (omega arith) in record { status = was.status; stamped = λ gone. other m.stamp n i 0 (λ e. omega arith) ∙ was.stamped gone };
   }
 
-  made_free : (m : Marks) (n : ℕ) → HasUnstamped before stamp release m n → HasSwept before stamp release (record m { status = set_at m.status n 0 }) (suc n)
+  made_free : (m : Marks) (n : ℕ) → HasUnstamped before stamp release m n → HasSwept before stamp release (record m { status = set_at m.status n free_status }) (suc n)
   made_free m n nodes = record {
     empty = nodes.empty;
     left = λ i lt. elim (cases_eq i n) [
       | inl e ↦ record {
-        status = here m.status n i 0 e ∙ sym (ap (λ k. cond (frees_node before stamp release k) 0 (status k)) e ∙ ap (λ b. cond b 0 (status n)) nodes.freed);
-        stamped = λ gone. absurd (let zero : set_at m.status n 0 i ≡ 0 = here m.status n i 0 e in let no : 0 ≡ 2 = sym zero ∙ gone in omega arith);
+        status = here m.status n i free_status e ∙ sym (ap (λ k. cond (frees_node before stamp release k) 0 (status k)) e ∙ ap (λ b. cond b 0 (status n)) nodes.freed);
+        stamped = λ gone. absurd (let zero : set_at m.status n free_status i ≡ free_status = here m.status n i free_status e in let no : 0 ≡ 2 = sym zero ∙ gone in omega arith);
       }
       | inr ne ↦
           let was = nodes.left i (omega (arith, ne)) in
-          let same = other m.status n i 0 ne in
+          let same = other m.status n i free_status ne in
           record { status = same ∙ was.status; stamped = λ gone. was.stamped (sym same ∙ gone) }
     ];
     ahead = λ i lt.
         let was = nodes.ahead i (omega arith) in
-        let same = other m.status n i 0 (λ e. omega arith) in
+        let same = other m.status n i free_status (λ e. omega arith) in
         record { status = same ∙ was.status; stamped = λ gone. was.stamped (sym same ∙ gone) };
   }
 
 module _ (before : World) (stamp release : ℕ) (l : Layout) (g : ℕ) (some : stamp ≢ 0) (nodes : l.nodes ≡ before.layout.nodes)
-    (states : (j : ℕ) → (line_state before j ≡ 0) ⊎ (line_state before j ≡ 2)) (beyond : (j : ℕ) → line_count l ≤ j → line_state before j ≡ 0) where
+    (states : (j : ℕ) → (line_state before j ≡ empty_state) ⊎ (line_state before j ≡ ready_state)) (beyond : (j : ℕ) → line_count l ≤ j → line_state before j ≡ empty_state) where
   abbrev pub r : RowTerms
   r = record { layout = l; generation = g; stamp = stamp; release = release }
 
@@ -195,17 +196,17 @@ module _ (before : World) (stamp release : ℕ) (l : Layout) (g : ℕ) (some : s
     ahead = λ n le. record { status = lines.statuses n; stamped = λ gone. has_stamp n gone (lines.stamps n) };
   }
     where
-      empty : (k : ℕ) → f.line.state k ≡ 0
+      empty : (k : ℕ) → f.line.state k ≡ empty_state
       empty k = elim (cases_lt k (line_count l)) [ inl below ↦ lines.empty k below | inr above ↦ lines.rest k (omega arith) ∙ beyond k (omega arith) ]
 
-      some_stamp : (n : ℕ) → f.status n ≡ 2 → f.stamp n ≢ 0
+      some_stamp : (n : ℕ) → f.status n ≡ gone_status → f.stamp n ≢ 0
       some_stamp n gone bare = elim (law.owned n gone bare) [
-        | inl ready ↦ let none : f.line.state ready.line ≡ 0 = empty ready.line in let two : f.line.state ready.line ≡ 2 = ready.state in omega arith
+        | inl ready ↦ let none : f.line.state ready.line ≡ empty_state = empty ready.line in let two : f.line.state ready.line ≡ ready_state = ready.state in omega arith
         | inr (inl held) ↦ let no : false ≡ true = sym (free n) ∙ held in absurd cc
         | inr (inr mine) ↦ mine
       ]
 
-      has_stamp : (n : ℕ) → f.status n ≡ 2 → (f.stamp n ≡ stamp_in before n) ⊎ ((stamp_in before n ≡ 0) × (f.stamp n ≡ stamp)) → f.stamp n ≡ stamp_then before stamp n
+      has_stamp : (n : ℕ) → f.status n ≡ gone_status → (f.stamp n ≡ stamp_in before n) ⊎ ((stamp_in before n ≡ 0) × (f.stamp n ≡ stamp)) → f.stamp n ≡ stamp_then before stamp n
       has_stamp n gone (inl old) = old ∙ sym (then_old before stamp n (λ none. some_stamp n gone (old ∙ none)))
       has_stamp n gone (inr new) = new.1 ∙ sym (then_new before stamp n new.0)
 
@@ -225,18 +226,18 @@ module _ (before : World) (stamp release : ℕ) (l : Layout) (g : ℕ) (some : s
         | false ↦ λ last. let past = ltb-false (n + 1) l.nodes last in subst (HasSwept before stamp release m) (omega (arith, nodes)) done
       ] refl
 
-  module _ (ghosts later : Ghosts) (words : List ℕ) (row : IsRow l words) (worn_same : (n : ℕ) → is_worn_word (node_field l words 0 n) g ≡ is_worn_word ((facts before).version n) before.generation) where
+  module _ (ghosts later : Ghosts) (words : List ℕ) (row : IsRow l words) (worn_same : (n : ℕ) → is_worn_word (node_field l words version_offset n) g ≡ is_worn_word ((facts before).version n) before.generation) where
     abbrev m : Marks
     m = row_marks l words
 
     -- what a load tells
     state_told : (j x : ℕ) → j < line_count l → x ≡ got l words (Load (line_at l j 0)) → m.state j ≡ x
-    state_told j x lt told = column-here l words (line_count l) (λ i. Cached (line_word 0 i)) j lt ∙ sym told
+    state_told j x lt told = column-here l words (line_count l) (λ i. Cached (line_word state_offset i)) j lt ∙ sym told
 
     volatile_told : (n o x : ℕ) → n < l.nodes → x ≡ got l words (Load (volatile_at l n o)) → volatile_field l words o n ≡ x
     volatile_told n o x lt told = column-here l words l.nodes (λ k. Volatile k o) n lt ∙ sym told
 
-    version_told : (n x : ℕ) → n < l.nodes → x ≡ got l words (Load (version_at l n)) → node_field l words 0 n ≡ x
+    version_told : (n x : ℕ) → n < l.nodes → x ≡ got l words (Load (version_at l n)) → node_field l words version_offset n ≡ x
     version_told n x lt told = column-here l words l.nodes (λ k. Cached (Node k version_offset)) n lt ∙ sym told
 
     -- a load leaves the row
@@ -262,10 +263,10 @@ module _ (before : World) (stamp release : ℕ) (l : Layout) (g : ℕ) (some : s
         stores (λ k. HasEmptied before stamp k e.line) (acted l words a) _ (layer_facts r ghosts words (acted l words a) keeps.others) done
 
     -- of a GONE node that it has come to
-    gone_was : (n : ℕ) → m.status n ≡ 2 → HasSwept before stamp release m n → (facts before).status n ≡ 2
+    gone_was : (n : ℕ) → m.status n ≡ gone_status → HasSwept before stamp release m n → (facts before).status n ≡ gone_status
     gone_was n gone done = sym (done.ahead n (omega arith)).status ∙ gone
 
-    stamp_is : (n : ℕ) → m.status n ≡ 2 → HasSwept before stamp release m n → m.stamp n ≡ stamp_then before stamp n
+    stamp_is : (n : ℕ) → m.status n ≡ gone_status → HasSwept before stamp release m n → m.stamp n ≡ stamp_then before stamp n
     stamp_is n gone done = (done.ahead n (omega arith)).stamped gone
 
     pub done_after : {s : RowStage} {a : Action} {x : ℕ} {t : RowStage} → RowStep r s a x t → s ≢ Resting → Handles s t → x ≡ got l words a → RowLawful r ghosts words s

@@ -16,7 +16,9 @@ use Rattle.cat_key.proofs.Packing.{name_bytes}
 use Rattle.version_lock.specs.Versions.{generation_of}
 use Rattle.data_node.specs.Lists.{next_offset, anchor_in}
 use Rattle.data_node.proofs.KeyLemmas.{zero_anchor}
+use Rattle.data_node.specs.Lines.{state_offset}
 use Rattle.pm_words.specs.Offsets.{stamp_offset, status_offset, version_offset}
+use Rattle.pm_words.specs.Codes.{ready_state}
 use Rattle.call_stages.specs.Kinds.{HasWordAt, Told}
 use Rattle.call_stages.specs.Lines.{IsEntry}
 use Rattle.data_list.specs.Walks.{walk_asks}
@@ -96,10 +98,10 @@ word_of_line : (l : Layout) (words : List ℕ) (line offset : ℕ) → line < li
 word_of_line l words line offset within small = sym (line-here l words (line / 8) (line % 8) offset (omega arith, omega arith, small))
 
 -- a READY line says a node of the layout and an anchor
-ready_entry : (l : Layout) (words : List ℕ) (line : ℕ) → AreFit l words → line < line_count l → line_field l words Cached 0 line ≡ 2 → IsEntry l (line_in l words (line / 8) (line % 8))
+ready_entry : (l : Layout) (words : List ℕ) (line : ℕ) → AreFit l words → line < line_count l → line_field l words Cached state_offset line ≡ ready_state → IsEntry l (line_in l words (line / 8) (line % 8))
 ready_entry l words line fit within ready =
-    let state : line_in l words (line / 8) (line % 8) 0 ≡ 2 =
-    sym (word_of_line l words line 0 within (omega arith)) ∙ sym (column-here l words (line_count l) (λ k. Cached (line_word 0 k)) line within) ∙ ready in
+    let state : line_in l words (line / 8) (line % 8) state_offset ≡ ready_state =
+    sym (word_of_line l words line state_offset within (omega arith)) ∙ sym (column-here l words (line_count l) (λ k. Cached (line_word state_offset k)) line within) ∙ ready in
     elim (fit (line / 8) (line % 8) (line_in l words (line / 8) (line % 8)) (λ offset. inr refl)) [
       | inl empty ↦ absurd (let no : 0 ≡ 2 = sym empty ∙ state in omega arith)
       | inr entry ↦ entry
@@ -111,7 +113,7 @@ place_of _ = 0
 
 module _ (l : Layout) (words : List ℕ) where
   -- a load of a line, which is READY if that isn't its state
-  line_told : (line offset : ℕ) → AreFit l words → line < line_count l → offset < 8 → (0 < offset → line_field l words Cached 0 line ≡ 2)
+  line_told : (line offset : ℕ) → AreFit l words → line < line_count l → offset < 8 → (0 < offset → line_field l words Cached state_offset line ≡ ready_state)
       → ToldOfLine l (Load (numbered_address l line offset)) (got l words (Load (numbered_address l line offset)))
   line_told line offset fit within small ready = record {
     node = λ other here is.
@@ -157,7 +159,7 @@ module _ (l : Layout) where
 
 -- the line that it reads is READY
 abbrev pub ReadsReady : Layout → List ℕ → WorkAt → Type 0
-ReadsReady l words state = (read : ReadLine) → state ≡ at.Reading read → line_field l words Cached 0 read.line ≡ 2
+ReadsReady l words state = (read : ReadLine) → state ≡ at.Reading read → line_field l words Cached state_offset read.line ≡ ready_state
 
 pub told_of_line : (terms : Terms) (tally : Tally) (at : WorkAt) (words : List ℕ) → IsTerms terms → IsWorkAt terms tally at → AreFit terms.layout words → ReadsReady terms.layout words at
     → ToldOfLine terms.layout (work_at_asks terms at) (got terms.layout words (work_at_asks terms at))

@@ -10,6 +10,9 @@ use Rattle.pm_words.specs.declared.action.Action.{Action}
 use Rattle.pm_words.specs.Locations.{Cached, at}
 use Rattle.pm_words.specs.Rows.{IsRow, CanAct, acted, got}
 use Rattle.pm_words.proofs.Kept.{acted_row}
+use Rattle.pm_words.specs.Codes.{empty_state, ready_state}
+use Rattle.pm_words.specs.Offsets.{version_offset}
+use Rattle.data_node.specs.Lines.{state_offset}
 use Rattle.version_lock.specs.Versions.{is_free_word}
 use Rattle.version_lock.proofs.WordTests.{free_is}
 use Rattle.call_stages.specs.Stages.{Idle}
@@ -49,11 +52,11 @@ marks_tie w =
     ap (λ (f : TurnFacts). record { state = f.line.state; status = f.status; stamp = f.stamp }) (sym (facts_tie w (λ n. 0) t))
 
 -- past the last line there is none
-pub past_lines : (w : World) (j : ℕ) → line_count w.layout ≤ j → line_state w j ≡ 0
+pub past_lines : (w : World) (j : ℕ) → line_count w.layout ≤ j → line_state w j ≡ empty_state
 unfolding rows.column
-past_lines w j past = ap (λ b. cond b (at w.layout w.words (Cached (line_word 0 j))) 0) (le-ltb j (line_count w.layout) past)
+past_lines w j past = ap (λ b. cond b (at w.layout w.words (Cached (line_word state_offset j))) 0) (le-ltb j (line_count w.layout) past)
 
-pub each_state : (z : Layered) → IsIdle z → (j : ℕ) → (line_state z.whole.world j ≡ 0) ⊎ (line_state z.whole.world j ≡ 2)
+pub each_state : (z : Layered) → IsIdle z → (j : ℕ) → (line_state z.whole.world j ≡ empty_state) ⊎ (line_state z.whole.world j ≡ ready_state)
 each_state z is j = elim (cases_lt j (line_count z.whole.world.layout)) [ inl here ↦ is.lines j here | inr past ↦ inl (past_lines z.whole.world j (omega arith)) ]
 
 no_version : (l : Layout) (words : List ℕ) (n : ℕ) → nat_lt n l.nodes ≡ false → version_in l words n ≡ 0
@@ -61,7 +64,7 @@ unfolding version_in
 no_version l words n past = rw past refl
 
 -- with all parties idle no node is held
-pub none_held : (w : World) → Lawful w → Each (λ p. p.stage ≡ Idle) w.parties → (n : ℕ) → not (is_free_word (node_field w.layout w.words 0 n) w.generation) ≡ false
+pub none_held : (w : World) → Lawful w → Each (λ p. p.stage ≡ Idle) w.parties → (n : ℕ) → not (is_free_word (node_field w.layout w.words version_offset n) w.generation) ≡ false
 none_held w lawful idle n = ap (λ v. not (is_free_word v w.generation)) (version_tie w.layout w.words n) ∙ ap not (by (nat_lt n w.layout.nodes) refl)
   where
     by : (b : Bool) → nat_lt n w.layout.nodes ≡ b → is_free_word (version_in w.layout w.words n) w.generation ≡ true

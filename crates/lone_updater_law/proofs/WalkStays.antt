@@ -8,10 +8,10 @@ use Rattle.pm_words.specs.declared.layout.Layout.{Layout}
 use Rattle.pm_words.specs.declared.machine.Turn.{Turn}
 use Rattle.pm_words.specs.declared.machine.Turn.TheVariants.{Go, Done}
 use Rattle.pm_words.specs.Rows.{acted, got}
+use Rattle.data_node.specs.Lists.{number_of}
 use Rattle.data_list.specs.declared.target.Walked.{Walked}
 use Rattle.data_list.specs.declared.target.Walked.TheVariants as walked
 use Rattle.data_list.specs.declared.walk.Walk.{Walk}
-use Rattle.data_list.specs.Keys.{key_words, key_number}
 use Rattle.data_list.specs.Walks.{walk_from, walk_asks, walk_at_asks, walk_turned, IsWalkAt}
 use Rattle.data_list.specs.Still.{Nodes, AreQuiet, IsOnWay, loaded, StaysOnWay}
 use Rattle.data_list.proofs.Comings.{each_comes}
@@ -108,8 +108,8 @@ module _ (work : Work) (after : List ℕ) where
   at_landing line entry (Done hint) quiet sound =
       let f : Nodes = nodes_in l after in
       let some : 0 < l.nodes = t_some sound.0.terms in
-      let walk : Walk = walk_from l t.generation hint (key_words entry.anchor) in
-      let comes = each_comes l t.generation f (key_number walk.key) hint quiet sound.0.here.2.sound.node in
+      let walk : Walk = walk_from l t.generation hint entry.anchor in
+      let comes = each_comes l t.generation f (number_of walk.key) hint quiet sound.0.here.2.sound.node in
       ((comes.0, begins_on_way l t.generation f comes.0 walk quiet.quiet some refl refl comes.1), tt)
     where
       t_some : IsTerms t → 0 < l.nodes

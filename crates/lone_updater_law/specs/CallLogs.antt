@@ -3,7 +3,7 @@ use Rattle.std.specs.Prelude.{◌≡◌, ◌≢◌, ℕ, ◌+◌, ◌*◌, ◌/�
 use Rattle.call_stages.specs.declared.once.Once.{Once}
 use Rattle.call_stages.specs.declared.once.Once.TheVariants as once
 use Rattle.call_stages.specs.declared.once.Placed.{Placed}
-use Rattle.pm_words.specs.Codes.{empty_state, ready_state}
+use Rattle.pm_words.specs.Codes.{empty_state, ready_state, open_state}
 use Rattle.pm_words.specs.declared.again.Again.TheVariants as again
 use Rattle.call_stages.specs.Stages.{Stage, Idle, Tells}
 use Rattle.call_stages.specs.Lines.{HeldLine}
@@ -80,7 +80,7 @@ pub record IsOwnLine (caller : ℕ) (w0 w : World) (s : Stage) (e : HeldLine) : 
   pub was_empty : line_state w0 (line_number e) ≡ empty_state
   pub others : (j : ℕ) → j ≢ line_number e → line_state w j ≡ line_state w0 j
   pub readied : e.ready ≡ true → (line_state w (line_number e) ≡ ready_state) × HasSwitched s
-  pub opened : e.ready ≡ false → HasSwitched s → line_state w (line_number e) ≡ 1
+  pub opened : e.ready ≡ false → HasSwitched s → line_state w (line_number e) ≡ open_state
 
 abbrev pub StandsSo : ℕ → World → World → Stage → Option HeldLine → Type 0
 StandsSo caller w0 w s None = (HasNotSwitched s × KeepsLines w0 w) ⊎ (HasSwitched s × MakesReady caller w0 w)

@@ -4,8 +4,10 @@ use mathlib.Core.Option.{some}
 use lib.ListN.{get_elem?}
 use Rattle.pm_words.specs.Codes.{free_status, gone_status, empty_state, ready_state}
 use Rattle.pm_words.specs.Locations.{Cached}
+use Rattle.pm_words.specs.Offsets.{stamp_offset}
 use Rattle.version_lock.specs.Versions.{is_worn_word, IsWorn}
 use Rattle.data_node.specs.Lists.{anchor_in}
+use Rattle.data_node.specs.Lines.{state_offset}
 use Rattle.call_stages.specs.Stages.{Idle}
 use Rattle.index_law.specs.Facts.{IsListed}
 use Rattle.index_law.specs.Worlds.{World, facts}
@@ -21,10 +23,10 @@ use Rattle.index_layer_law.specs.Laws.{IsAtRest}
 
 -- The state of a log line, by its number among those of all callers, and the stamp of a node.
 abbrev pub line_state : World → ℕ → ℕ
-line_state w = line_field w.layout w.words Cached 0
+line_state w = line_field w.layout w.words Cached state_offset
 
 abbrev pub stamp_in : World → ℕ → ℕ
-stamp_in w = volatile_field w.layout w.words 2
+stamp_in w = volatile_field w.layout w.words stamp_offset
 
 -- Each log line is EMPTY or READY: none is OPEN.
 abbrev pub AreEmptyOrReady : World → Type 0

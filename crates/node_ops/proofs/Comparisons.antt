@@ -12,7 +12,7 @@ use Rattle.pm_words.specs.Rows.{CanAct, acted, got}
 use Rattle.pm_words.specs.Turns.{GoesBelow}
 use Rattle.pm_words.specs.declared.machine.Turn.{Turn}
 use Rattle.data_node.specs.Bits.{candidate_bits, without_live, lowest_live}
-use Rattle.data_node.specs.Spots.{slot_offset}
+use Rattle.data_node.specs.Spots.{slot_offset, bitmap_offset}
 use Rattle.data_node.proofs.BitLemmas.{lowest_live-some, without_live-same}
 use Rattle.node_ops.specs.declared.call.Call.{Call}
 use Rattle.node_ops.specs.declared.lookup.Hold.{Hold}
@@ -244,7 +244,7 @@ module _ {old now : Row} (call : Call) (hold : Hold) (directory : Directory) (sl
 
 -- it loads the bitmap
 module _ (call : Call) (hold : Hold) {old : Row} (may : MayLookFrom old (goes_to call (at.Bitmap hold))) {address : ℕ}
-    (is : address ≡ call_address call 1) where
+    (is : address ≡ call_address call bitmap_offset) where
   pub bitmap_can : CanAct old.layout old.words (Load address)
   bitmap_can = look_can (record { call = call; at = at.Bitmap hold }) may (ap (λ (a : ℕ). Load a) is)
 

@@ -11,6 +11,7 @@ use Rattle.data_node.specs.Spots.{updated, bitmap_offset, Means}
 use Rattle.data_node.proofs.BitLemmas.{without_live_below}
 use Rattle.data_node.proofs.SpotLemmas.{remove_absent}
 use Rattle.data_node.proofs.StoreLemmas.{means_cleared}
+use Rattle.data_node.specs.Lines.{state_offset}
 use Rattle.call_stages.specs.declared.once.Once.{Once}
 use Rattle.call_stages.specs.declared.once.Placed.{Placed}
 use Rattle.call_stages.specs.Stages.{Held, Stage, Idle}
@@ -60,6 +61,7 @@ use Rattle.node_ops.specs.declared.finish.FinishAt.TheVariants as finish_at
 use Rattle.pm_words.specs.declared.fence.Fence.{Fence}
 use Rattle.pm_words.specs.declared.action.Action.TheVariants.{Load}
 use Rattle.pm_words.specs.Fences.{fence_next}
+use Rattle.pm_words.specs.Codes.{empty_state}
 use Rattle.node_ops.specs.DelSteps.{IsDel, IsTakeOf, IsUnplaced, IsMerging, names_left, del_call, del_asks, del_turned, del_looked, del_hit, del_taken, del_finished, del_merged, cleared}
 use Rattle.node_ops.proofs.MergeFacts.{placed_still, goes_on_stage}
 use Rattle.node_ops.specs.RunningSteps.{running_turned, wrapped}
@@ -217,7 +219,7 @@ of_take take P all = at take.at
   where
     at : (at : TakeAt) → IfSome (take_at_held (take_line take) at) P
     at take_at.State = tt
-    at (take_at.Fence fence) = all (fenced false (take_line take) ((0, 0) ∷ []) fence) refl refl
+    at (take_at.Fence fence) = all (fenced false (take_line take) ((state_offset, empty_state) ∷ []) fence) refl refl
 
 take_owner : (take : Take) → IsTake take → caller_of (take_line take) ≡ take.caller
 take_owner take is = let index : take.index < 8 = is.index in omega arith

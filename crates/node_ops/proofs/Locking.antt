@@ -8,6 +8,7 @@ use Rattle.pm_words.specs.declared.machine.Turn.{Turn}
 use Rattle.pm_words.specs.Images.{Row}
 use Rattle.pm_words.specs.Rows.{CanAct, acted, got}
 use Rattle.pm_words.specs.Turns.{GoesBelow}
+use Rattle.pm_words.specs.Offsets.{version_offset}
 use Rattle.version_lock.specs.Versions.{IsLockWord, IsWorn, is_worn_word, kept_count, locked_word}
 use Rattle.version_lock.proofs.WordTests.{worn_words_told}
 use Rattle.data_list.specs.declared.target.Sighting.{Sighting}
@@ -158,9 +159,9 @@ by_spent call hold spent = cond spent (goes_to call (at.Spent hold)) (goes_to ca
 
 -- it tries to lock its node
 module _ (call : Call) (seen : Sighting) (locked : ℕ) {old : Row}
-    (may : MayLookFrom old (goes_to call (at.Lock seen locked))) {address : ℕ} (is : address ≡ call_address call 0)
+    (may : MayLookFrom old (goes_to call (at.Lock seen locked))) {address : ℕ} (is : address ≡ call_address call version_offset)
   where
-    asks_lock : Exchange address seen.version locked ≡ Exchange (call_address call 0) seen.version locked
+    asks_lock : Exchange address seen.version locked ≡ Exchange (call_address call version_offset) seen.version locked
     asks_lock = ap (λ (a : ℕ). Exchange a seen.version locked) is
 
     pub lock_can : CanAct old.layout old.words (Exchange address seen.version locked)
@@ -206,8 +207,8 @@ module _ {old now : Row} (call : Call) (hold : Hold) {from : Turn Lookup Looked}
   pub spent_locked : IsLockWord hold.locked
   spent_locked = (look_sound (record { call = call; at = at.Spent hold }) on.may).here.0
 
-  module _ {address freed : ℕ} (is : address ≡ call_address call 0) (frees : freed ≡ hold.locked + 1) where
-    asks_freed : Store address freed ≡ Store (call_address call 0) (hold.locked + 1)
+  module _ {address freed : ℕ} (is : address ≡ call_address call version_offset) (frees : freed ≡ hold.locked + 1) where
+    asks_freed : Store address freed ≡ Store (call_address call version_offset) (hold.locked + 1)
     asks_freed k = Store (is k) (frees k)
 
     pub spent_can : CanAct now.layout now.words (Store address freed)

@@ -20,7 +20,8 @@ use Rattle.version_lock.specs.Versions.{kept_count, locked_word, is_worn_word}
 use Rattle.data_node.specs.Slots.{IsLive}
 use Rattle.data_node.specs.Bits.{without_live, lowest_live, candidate_bits}
 use Rattle.pm_words.specs.declared.layout.Layout.{Layout}
-use Rattle.data_node.specs.Lists.{three_words, key_of, IsBetween}
+use Rattle.pm_words.specs.Offsets.{version_offset}
+use Rattle.data_node.specs.Lists.{three_words, key_of, IsBetween, number_of}
 use Rattle.data_node.specs.Spots.{Spot, bitmap_offset, slot_offset, IsLiveIn, name_words, IsTidy, Means}
 use Rattle.data_node.proofs.BitLemmas.{lowest_live-some, lowest_live-none, without_live-other}
 use Rattle.data_node.proofs.SpotLemmas.{at_found, at_missing}
@@ -30,13 +31,11 @@ use Rattle.call_stages.specs.Stages.{Known, Knows, Sight, Sees, Stage, Idle, Saw
 use Rattle.call_stages.specs.Kinds as kinds
 use Rattle.call_stages.specs.Kinds.{reads_on, dates, notes}
 use Rattle.call_stages.specs.Kinds.{HasWordAt, clock_address, Told, Step, looks, locks, unlocks, misses, times, learns, decides, is_spent}
-use Rattle.data_list.specs.declared.key.KeyWords.{KeyWords}
 use Rattle.data_list.specs.declared.target.Sighting.{Sighting}
 use Rattle.data_list.specs.declared.target.Target.{Target}
 use Rattle.data_list.specs.declared.target.Walked.{Walked}
 use Rattle.data_list.specs.declared.target.Walked.TheVariants as walked
 use Rattle.data_list.specs.declared.walk.Walk.{Walk}
-use Rattle.data_list.specs.Keys.{key_number, key_words}
 use Rattle.data_list.specs.declared.walk.WalkAt.{WalkAt}
 use Rattle.data_list.specs.declared.walk.WalkAt.TheVariants as walk_at
 use Rattle.data_list.specs.Walks.{sighting_of, walk_from, walk_asks, walk_turned}
@@ -161,7 +160,7 @@ floor_leads kept call floor x here = at (floor_turned floor x)
     at : (turn : Turn Floor ℕ) → Leads kept call Idle (floor_asks floor) x (floored call turn)
     at (Go next) = reads
     at (Done node) = subst (λ (t : Stage). PlainStep call.view.layout call.view.generation Idle (floor_asks floor) x t None)
-        (sym (starts_idle call.limit (walk_from call.view.layout call.view.generation node (key_words call.name)) refl)) reads
+        (sym (starts_idle call.limit (walk_from call.view.layout call.view.generation node call.name) refl)) reads
 
 -- where it ends, that is at a node of the layout
 pub floor_after : (call : Call) (floor : Floor) (x : ℕ) → IsFlooring call floor → x < 2 ^ 64 → FloorAfter call.view.layout call.name (floor_left floor) (floor_turned floor x)
@@ -169,11 +168,11 @@ floor_after call floor x here fits = subst (λ (q : Layout × List ℕ). FloorAf
 
 -- each turn of the walk, as the call's
 pub own_walks : (call : Call) (walk : Walk) (x : ℕ) → IsWalking call walk → Told call.view.layout call.view.generation (walk_asks walk) x
-    → Walks call.view.layout call.view.generation (key_words call.name) (walk_stage walk) (walk_asks walk) x (walk_turned walk x)
+    → Walks call.view.layout call.view.generation call.name (walk_stage walk) (walk_asks walk) x (walk_turned walk x)
 own_walks call walk x here told =
     let at_generation = subst (λ (n : ℕ). Told call.view.layout n (walk_asks walk) x) (sym here.generation) told in
     let at_layout = subst (λ (l : Layout). Told l walk.generation (walk_asks walk) x) (sym here.layout) at_generation in
-    subst (λ (q : Layout × (ℕ × KeyWords)). Walks q.0 q.1.0 q.1.1 (walk_stage walk) (walk_asks walk) x (walk_turned walk x)) (λ i. (here.layout i, (here.generation i, here.key i)))
+    subst (λ (q : Layout × (ℕ × List ℕ)). Walks q.0 q.1.0 q.1.1 (walk_stage walk) (walk_asks walk) x (walk_turned walk x)) (λ i. (here.layout i, (here.generation i, here.key i)))
     (walks_are_looks walk x here.sound at_layout)
 
 -- as a read's
@@ -187,13 +186,13 @@ own_views call walk x here told =
 
 -- what it is told to be its target is one
 pub told_target : (call : Call) (walk : Walk) (x : ℕ) (target : Target) → IsWalking call walk → Told call.view.layout call.view.generation (walk_asks walk) x → walk_turned walk x ≡ Done (walked.Target target)
-    → IsTarget call.view.layout call.view.generation (key_words call.name) target
+    → IsTarget call.view.layout call.view.generation call.name target
 told_target call walk x target here told is =
-    let walks = subst (Walks call.view.layout call.view.generation (key_words call.name) (walk_stage walk) (walk_asks walk) x) is (own_walks call walk x here told) in
+    let walks = subst (Walks call.view.layout call.view.generation call.name (walk_stage walk) (walk_asks walk) x) is (own_walks call walk x here told) in
     walks.1
 
 -- the key of the walk is the name's
-pub key_is : (call : Call) → IsCall call → key_number (key_words call.name) ≡ key_of (name_in call)
+pub key_is : (call : Call) → IsCall call → number_of call.name ≡ key_of (name_in call)
 unfolding key_of
 key_is call sound = ap (λ (words : List ℕ). three_words (get_or words 0 0) (get_or words 1 0) (get_or words 2 0)) (sym sound.packed.whole)
 
@@ -272,7 +271,7 @@ module _ (kept : Sight) (call : Call) (sound : IsCall call) where
       ] refl
 
   walked_leads : (most : ℕ) (stage : Stage) (action : Action) (x : ℕ) (turn : Turn Walk Walked) → call.limit ≡ Some most
-      → Walks call.view.layout call.view.generation (key_words call.name) stage action x turn → Leads kept call stage action x (walked_on call turn)
+      → Walks call.view.layout call.view.generation call.name stage action x turn → Leads kept call stage action x (walked_on call turn)
   walked_leads most stage action x (Go walk) writes is =
       subst (λ (o : Option ℕ). PlainStep call.view.layout call.view.generation stage action x (walk_by o walk) None) (sym writes) (steps (looks is.0))
   walked_leads most stage action x (Done (walked.Again why)) writes is = looks is
@@ -310,10 +309,10 @@ module _ (kept : Sight) (call : Call) (sound : IsCall call) where
       (held_by o call.node seen.version kept (record (timed call (record { locked = seen.version; clock = x }) nothing) { limit = o })) None) (sym here.reads)
       (steps (looks (reads_on (dates sound.packed.named here.is.live (λ s t see. subst (IsBetween s t) (key_is call sound) (here.is.between s t see)) keeps))))
 
-  lock_leads : (seen : Sighting) (word x : ℕ) → IsSighting call.view.generation (key_words call.name) seen
-      → Leads kept call (Saw call.node seen.version word (sight_in seen)) (Exchange (call_address call 0) seen.version word) x (tried_lock call seen.version word x)
+  lock_leads : (seen : Sighting) (word x : ℕ) → IsSighting call.view.generation call.name seen
+      → Leads kept call (Saw call.node seen.version word (sight_in seen)) (Exchange (call_address call version_offset) seen.version word) x (tried_lock call seen.version word x)
   lock_leads seen word x is =
-      elim (x == seen.version) as (λ b. (x == seen.version) ≡ b → Leads kept call (Saw call.node seen.version word (sight_in seen)) (Exchange (call_address call 0) seen.version word) x
+      elim (x == seen.version) as (λ b. (x == seen.version) ≡ b → Leads kept call (Saw call.node seen.version word (sight_in seen)) (Exchange (call_address call version_offset) seen.version word) x
       (cond b (goes_to call (look.Clock word)) (ends (once.Again (Moved call.node seen.version x))))) [
         | true ↦ λ same. steps (locks (eqb-true _ _ same) sound.packed.named is.live (λ s t see. subst (IsBetween s t) (key_is call sound) (is.between s t see)))
         | false ↦ λ other. looks (misses (eqb-false _ _ other))

@@ -35,7 +35,6 @@ use Rattle.call_stages.specs.Stages.{Stage}
 use Rattle.data_list.specs.declared.target.Walked.{Walked}
 use Rattle.data_list.specs.declared.target.Walked.TheVariants as walked
 use Rattle.data_list.specs.declared.walk.Walk.{Walk}
-use Rattle.data_list.specs.Keys.{key_words}
 use Rattle.data_list.specs.Walks.{LeadsOn, sighting_of, walk_asks, walk_turned}
 use Rattle.data_list.specs.declared.target.Next.{Next}
 use Rattle.pm_words.specs.declared.layout.Layout.{Layout}
@@ -125,7 +124,7 @@ module _ (call : Call) (sound : IsCall call) where
     refl,
   )
 
-  walked_sound : (stage : Stage) (action : Action) (x : ℕ) (turn : Turn Walk Walked) → Walks call.view.layout call.view.generation (key_words call.name) stage action x turn
+  walked_sound : (stage : Stage) (action : Action) (x : ℕ) (turn : Turn Walk Walked) → Walks call.view.layout call.view.generation call.name stage action x turn
       → SoundLooked call (walked_on call turn)
   walked_sound stage action x (Go walk) is = (record { call = sound; here = record { sound = is.1; layout = is.2; generation = is.3; key = is.4 } }, refl)
   walked_sound stage action x (Done (walked.Again why)) is = tt
@@ -134,7 +133,7 @@ module _ (call : Call) (sound : IsCall call) where
       g : ℕ
       g = call.view.generation
 
-      t : IsTarget call.view.layout call.view.generation (key_words call.name) target
+      t : IsTarget call.view.layout call.view.generation call.name target
       t = is.1
 
       there : IsCall (at_node call target.node target.hops)

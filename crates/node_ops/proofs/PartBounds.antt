@@ -15,6 +15,7 @@ use Rattle.pm_words.specs.declared.machine.Turn.TheVariants.{Go, Done}
 use Rattle.pm_words.specs.declared.again.Again.TheVariants as again
 use Rattle.pm_words.specs.Locations.{node_words}
 use Rattle.pm_words.specs.Rows.{got}
+use Rattle.pm_words.specs.Offsets.{version_offset}
 use Rattle.cat_key.specs.Names.{IsName, AreNameWords}
 use Rattle.cat_history.specs.Scans.{is_below, is_under, is_between}
 use Rattle.data_node.specs.Spots.{Spot}
@@ -23,7 +24,7 @@ use Rattle.data_node.proofs.KeyLemmas.{key-number, anchor-number, named_anchor}
 use Rattle.data_node.proofs.ListLemmas.{between_target, target_between, chain_closed}
 use Rattle.data_list.specs.declared.target.Next.{Next}
 use Rattle.data_list.specs.declared.target.Sighting.{Sighting}
-use Rattle.data_list.specs.Keys.{IsNameOf, key_words, words_in, name_kept}
+use Rattle.data_list.specs.Keys.{IsNameOf, key_words, name_kept}
 use Rattle.data_list.specs.Walks.{high_of}
 use Rattle.data_list.proofs.KeyLemmas.{name_kept_so}
 use Rattle.shapes.proofs.NameLists.{all_by, filter-alike}
@@ -110,15 +111,15 @@ module _ (l : Layout) (f : Facts) (list : IsList l f) (n : ℕ) where
       let some : f.now n next_offset ≢ 0 = λ none. leads.1 (sym leads.0 ∙ none) in
       let member : IsMember f.list next.node = subst (IsMember f.list) leads.0 (chain_closed f.now 0 f.list list.chain n listed some) in
       let anchor = named_member f.now 0 f.list list.chain list.named next.node member in
-      let are : AreNameWords (words_in (key_words next.anchor)) = subst AreNameWords leads.2 (named_anchor (f.now next.node) anchor.0 (fits next.node) anchor.1 anchor.2) in
-      elim (name_kept (key_words next.anchor)) as (λ o. IsNameOf (words_in (key_words next.anchor)) o → IsEnd o) [
+      let are : AreNameWords (key_words next.anchor) = subst AreNameWords leads.2 (named_anchor (f.now next.node) anchor.0 (fits next.node) anchor.1 anchor.2) in
+      elim (name_kept next.anchor) as (λ o. IsNameOf (key_words next.anchor) o → IsEnd o) [
         | None ↦ λ is. absurd (let clash : false ≡ true = is.some.1 are in cc)
         | Some high ↦ λ is. (
           is.named,
           some,
           key-number high ∙ ap number_of (is.whole ∙ sym leads.2) ∙ sym (anchor-number (f.now next.node)) ∙ ap (λ k. anchor_in (f.now k)) (sym leads.0),
         )
-      ] (name_kept_so (key_words next.anchor))
+      ] (name_kept_so next.anchor)
 
   module _ (listed : IsListed f n) (low : List ℕ) (named_low : IsName low) (inside : range_of l f n low ≡ true) where
     -- it lies above
@@ -183,7 +184,7 @@ sees_behind f n (Some next) is nonzero =
     let a = beyond.0.2 in
     let b = beyond.1.0.2 in
     let c = beyond.1.1.0.2 in
-    (to, nonzero, subst (λ k. anchor_words (f.now k) ≡ words_in (key_words next.anchor)) to (λ i. a i ∷ b i ∷ c i ∷ []))
+    (to, nonzero, subst (λ k. anchor_words (f.now k) ≡ key_words next.anchor) to (λ i. a i ∷ b i ∷ c i ∷ []))
 
 -- where it took no lock, that is where its walk saw the next node
 free_ends : (l : Layout) (g : ℕ) (f : Facts) (caller index since : ℕ) (reading : Reading) (x : ℕ) → IsList l f → HaveWords f → IsReading (record reading { at = at.Check })
@@ -269,8 +270,8 @@ module _ (w : World) (i : ℕ) (p : Party) (lawful : Lawful w) (there : get_elem
 
 -- as it takes the lock it knows where the node's range ends
 locking_ends : (w : World) (i : ℕ) (p : Party) (call : Call) (seen : Sighting) (count locked x : ℕ) → Lawful w → get_elem? w.parties i ≡ some p → p.stage ≡ part_stage (part.Locking call seen count locked)
-    → call.view.layout ≡ w.layout → IsThere call seen → x ≡ got w.layout w.words (Exchange (call_address call 0) seen.version locked)
-    → HasEnd w.layout (facts (stepped w i p (Exchange (call_address call 0) seen.version locked) (stage_after (wrapped_part (part_locked call seen count locked x))))) (end_after (wrapped_part (part_locked call seen count locked x)))
+    → call.view.layout ≡ w.layout → IsThere call seen → x ≡ got w.layout w.words (Exchange (call_address call version_offset) seen.version locked)
+    → HasEnd w.layout (facts (stepped w i p (Exchange (call_address call version_offset) seen.version locked) (stage_after (wrapped_part (part_locked call seen count locked x))))) (end_after (wrapped_part (part_locked call seen count locked x)))
 locking_ends w i p call seen count locked x lawful there stage layout is told =
     let l = w.layout in
     let f = facts w in
@@ -278,7 +279,7 @@ locking_ends w i p call seen count locked x lawful there stage layout is told =
     let here : n < l.nodes = subst (λ (k : Layout). n < k.nodes) layout is.sound.node in
     let sure = subst (Sure l w.generation f p.caller p.index p.since) stage (lawful.sure i p there) in
     elim (x == seen.version) as (λ b. (x == seen.version) ≡ b →
-    HasEnd l (facts (stepped w i p (Exchange (call_address call 0) seen.version locked) (stage_after (wrapped_part (cond b (Go (part_held call seen count locked)) (Done (once.Again (again.Moved n seen.version x))))))))
+    HasEnd l (facts (stepped w i p (Exchange (call_address call version_offset) seen.version locked) (stage_after (wrapped_part (cond b (Go (part_held call seen count locked)) (Done (once.Again (again.Moved n seen.version x))))))))
     (end_after (wrapped_part (cond b (Go (part_held call seen count locked)) (Done (once.Again (again.Moved n seen.version x))))))) [
       | false ↦ λ other. tt
       | true ↦ λ same.
@@ -288,7 +289,7 @@ locking_ends w i p call seen count locked x lawful there stage layout is told =
           let behind : Stands f n (behind_sight seen.next) = record { listed = λ live. listed; sees = keeps_behind seen _ _ stands.sees; leads = λ some. listed } in
           let inside : range_of l f n (name_in call) ≡ true = between_inside l f lawful.list n (name_in call) listed (subst (IsBetween (f.now n) (f.now (f.now n next_offset))) (key_is call is.sound) (is.is.is.between (f.now n) (f.now (f.now n next_offset)) stands.sees)) in
           let ends = parts_end_there l f n seen.next (name_in call) lawful.list (have_words w lawful) listed (sees_behind f n seen.next behind is.is.leads) is.sound.packed.named inside in
-          let leaves : range_of l (facts (stepped w i p (Exchange (call_address call 0) seen.version locked) (part_stage (part_held call seen count locked)))) n ≡ range_of l f n =
+          let leaves : range_of l (facts (stepped w i p (Exchange (call_address call version_offset) seen.version locked) (part_stage (part_held call seen count locked)))) n ≡ range_of l f n =
           ap (λ (k : Layout). range_of l (facts (stepped w i p (Exchange (version_address k n) seen.version locked) (part_stage (part_held call seen count locked)))) n) layout
           ∙ exchange_leaves w i p lawful there (ap counted stage) n seen.version locked (part_stage (part_held call seen count locked)) n here in
           subst (λ (r : List ℕ → Bool). EndsAt r (name_in call) (high_of seen.next)) (sym leaves) ends

@@ -19,7 +19,6 @@ use Rattle.data_node.specs.Orders.{comes_before, live_slots}
 use Rattle.data_node.proofs.SpotLemmas.{at_found, at_missing}
 use Rattle.data_list.specs.declared.target.Next.{Next}
 use Rattle.data_list.specs.declared.target.Sighting.{Sighting}
-use Rattle.data_list.specs.Keys.{key_words}
 use Rattle.data_list.specs.WalkStages.{leads_on, live_sight, sight_in}
 use Rattle.cat_key.proofs.Packing.{length-words_of}
 use Rattle.version_lock.specs.Versions.{is_worn_word, kept_count, locked_word}
@@ -27,9 +26,9 @@ use Rattle.call_stages.specs.declared.once.Once.{Once}
 use Rattle.call_stages.specs.declared.once.Once.TheVariants as once
 use Rattle.call_stages.specs.declared.once.Placed.{Placed}
 use Rattle.call_stages.specs.Stages.{Held, Known, Knows, Sees, Stage, Idle, Reads, Holds, just_held}
-use Rattle.call_stages.specs.AnySteps.{IsOfPermutation, volatile_address}
 use Rattle.call_stages.specs.Kinds.{Told, Step, looks, learns, times, decides, reads_on, dates, notes, finds, confirms, misses_read, wavers, locks_read, unlocks, reads, clock_address}
 use Rattle.pm_words.specs.declared.again.Again.TheVariants as again
+use Rattle.pm_words.specs.Offsets.{version_offset}
 use Rattle.permutation.specs.declared.load.LoadPermutation.{LoadPermutation}
 use Rattle.permutation.specs.declared.load.LoadPermutationAt.{LoadPermutationAt}
 use Rattle.permutation.specs.declared.load.LoadPermutationAt.TheVariants as load_at
@@ -39,6 +38,7 @@ use Rattle.std.specs.List.Sorted.{IsPermutation}
 use Rattle.permutation.specs.Permutations.{HasEntries, permutation_words}
 use Rattle.permutation.specs.Sortings.{Sorting, Sorts}
 use Rattle.permutation.specs.Sortings as sortings
+use Rattle.call_stages.specs.AnySteps.{IsOfPermutation, volatile_address}
 use Rattle.call_stages.specs.AnySteps.{IsOnPermutation}
 use Rattle.call_stages.specs.AnySteps as any
 use Rattle.permutation.specs.Stores as stores
@@ -390,10 +390,10 @@ ordering_leads call seen load x sound =
 
 -- it takes the lock
 locking_leads : (call : Call) (seen : Sighting) (count locked x : ℕ) → IsThere call seen → IsLocking call.view.generation seen.version locked
-    → Parts call (Reads call.node seen.version (sight_in seen) None) (Exchange (call_address call 0) seen.version locked) x (part_locked call seen count locked x)
+    → Parts call (Reads call.node seen.version (sight_in seen) None) (Exchange (call_address call version_offset) seen.version locked) x (part_locked call seen count locked x)
 locking_leads call seen count locked x there locking =
     let lock = lock_word call.view.generation seen.version locked there.sound.view.generation locking in
-    elim (x == seen.version) as (λ b. (x == seen.version) ≡ b → Parts call (Reads call.node seen.version (sight_in seen) None) (Exchange (call_address call 0) seen.version locked) x
+    elim (x == seen.version) as (λ b. (x == seen.version) ≡ b → Parts call (Reads call.node seen.version (sight_in seen) None) (Exchange (call_address call version_offset) seen.version locked) x
     (cond b (Go (part_held call seen count locked)) (Done (once.Again (again.Moved call.node seen.version x))))) [
       | true ↦ λ same. steps (locks_read {name = name_in call} (eqb-true x seen.version same) there.sound.packed.named there.is.is.live
           (λ s t sees. subst (IsBetween s t) (key_is call there.sound) (there.is.is.between s t sees)) locking.unworn locking.locked lock.fits)
@@ -404,7 +404,7 @@ locking_leads call seen count locked x there locking =
 pub keeps_behind : (seen : Sighting) (s t : Spot) → Sees (sight_in seen) s t → Sees (behind_sight seen.next) s t
 keeps_behind seen s t see = of seen.next see
   where
-    of : (next : Option Next) → Sees (leads_on (key_words seen.low) next) s t → Sees (behind_sight next) s t
+    of : (next : Option Next) → Sees (leads_on seen.low next) s t → Sees (behind_sight next) s t
     of None see = record { seen = (see.seen.0, tt); leads = λ ne. absurd (ne refl); beyond = λ ne. absurd (ne refl) }
     of (Some next) see = record { seen = (see.seen.0, tt); leads = see.leads; beyond = see.beyond }
 
@@ -504,16 +504,16 @@ reading_leads reading at.Check x sound = inl (steps (by reading.way sound.here.0
     whole : Reading
     whole = record reading { at = at.Check }
 
-    read : Step reading.call.view.layout reading.call.view.generation (Reads reading.call.node reading.hold.locked (behind_sight reading.behind) (Some (reading_whole reading))) (Load (call_address reading.call 0)) x Idle
+    read : Step reading.call.view.layout reading.call.view.generation (Reads reading.call.node reading.hold.locked (behind_sight reading.behind) (Some (reading_whole reading))) (Load (call_address reading.call version_offset)) x Idle
         (reply_of (wrapped_part (reading_turned whole at.Check x)))
     read =
         elim (x == reading.hold.locked) as (λ b. (x == reading.hold.locked) ≡ b → Step reading.call.view.layout reading.call.view.generation (Reads reading.call.node reading.hold.locked (behind_sight reading.behind) (Some (reading_whole reading)))
-        (Load (call_address reading.call 0)) x Idle (reply_of (wrapped_part (Done (cond b (once.Done (part_words whole)) (once.Again (again.Moved reading.call.node reading.hold.locked x))))))) [
+        (Load (call_address reading.call version_offset)) x Idle (reply_of (wrapped_part (Done (cond b (once.Done (part_words whole)) (once.Again (again.Moved reading.call.node reading.hold.locked x))))))) [
           | true ↦ λ same. looks (reads_on (confirms sound.call.node (eqb-true x reading.hold.locked same) refl sound.reads refl refl))
           | false ↦ λ other. looks (reads_on (wavers sound.call.node (eqb-false x reading.hold.locked other)))
         ] refl
 
-    by : (way : Way) → IsFreely way → Step reading.call.view.layout reading.call.view.generation (stage_by way reading.call.node reading.hold.locked (behind_sight reading.behind) (reading_whole reading)) (Load (call_address reading.call 0)) x
+    by : (way : Way) → IsFreely way → Step reading.call.view.layout reading.call.view.generation (stage_by way reading.call.node reading.hold.locked (behind_sight reading.behind) (reading_whole reading)) (Load (call_address reading.call version_offset)) x
         (stage_after (wrapped_part (reading_turned whole at.Check x))) (reply_of (wrapped_part (reading_turned whole at.Check x)))
     by (ways.Served words) free = read
     by (ways.Held words) free = absurd free
@@ -521,7 +521,7 @@ reading_leads reading at.Check x sound = inl (steps (by reading.way sound.here.0
 reading_leads reading (at.Store store) x sound = inr (sorting_leads reading store x sound)
 reading_leads reading at.Unlock x sound =
     inl (
-      steps (subst (λ (w : Way). Step reading.call.view.layout reading.call.view.generation (stage_by w reading.call.node reading.hold.locked (behind_sight reading.behind) (reading_whole reading)) (Store (call_address reading.call 0) (reading.hold.locked + 1)) x Idle
+      steps (subst (λ (w : Way). Step reading.call.view.layout reading.call.view.generation (stage_by w reading.call.node reading.hold.locked (behind_sight reading.behind) (reading_whole reading)) (Store (call_address reading.call version_offset) (reading.hold.locked + 1)) x Idle
           (Some (once.Done (record { old = reading.old; place = reading.hold.clock; hops = reading.call.hops })))) (sym sound.here.made)
           (unlocks refl refl refl refl (reads refl refl refl))),
       tt,

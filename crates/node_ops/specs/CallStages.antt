@@ -55,7 +55,6 @@ use Rattle.node_ops.specs.declared.part.Part.TheVariants as part
 use Rattle.node_ops.specs.PartSteps.{entry_in}
 use Rattle.data_list.specs.declared.target.Next.{Next}
 use Rattle.data_list.specs.declared.walk.Walk.{Walk}
-use Rattle.data_list.specs.Keys.{key_words}
 use Rattle.data_list.specs.WalkStages.{walk_watching, walk_stage, view_stage, live_sight, anchor_seen, sight_in}
 use Rattle.data_node.specs.Lists.{next_offset}
 use Rattle.node_ops.specs.Calls.{name_in}
@@ -318,7 +317,7 @@ behind_sight (Some next) = record {
   live = true;
   seen = (next_offset, next.node) ∷ [];
   next = next.node;
-  beyond = anchor_seen (key_words next.anchor);
+  beyond = anchor_seen next.anchor;
 }
 
 -- it has all words of its live slots, as a get that knows what its name has

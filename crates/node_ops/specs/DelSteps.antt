@@ -43,6 +43,7 @@ use Rattle.node_ops.specs.declared.single_del.SingleDelDone.TheVariants.{Answere
 use Rattle.node_ops.specs.Calls.{IsCall, call_address}
 use Rattle.version_lock.specs.Versions.{IsLockWord}
 use Rattle.pm_words.specs.Fences.{line_of, fence_start}
+use Rattle.pm_words.specs.Offsets.{version_offset}
 use Rattle.node_ops.specs.LookupSteps.{IsHit, IsLookup, lookup_asks, lookup_turned, lookup_left}
 use Rattle.node_ops.specs.FinishSteps.{IsFinish, finish_asks, finish_turned, finish_left}
 
@@ -60,7 +61,7 @@ abbrev pub del_asks : Del → Action
 del_asks (Single (Looking lookup)) = lookup_asks lookup
 del_asks (Single (Next call hold bitmap hit)) = Load (call_address call next_offset)
 del_asks (Single (Taking call hold bitmap hit take)) = take_asks take
-del_asks (Single (Refusing call hold bitmap hit)) = Store (call_address call 0) (hold.locked + 1)
+del_asks (Single (Refusing call hold bitmap hit)) = Store (call_address call version_offset) (hold.locked + 1)
 del_asks (Single (Clearing call hold bitmap hit line)) =
     Store (call_address call bitmap_offset) (without_live bitmap hit.slot)
 del_asks (Single (Finishing finish line)) = finish_asks finish

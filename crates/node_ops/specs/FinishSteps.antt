@@ -18,11 +18,12 @@ use Rattle.node_ops.specs.declared.finish.FinishAt.TheVariants as at
 use Rattle.node_ops.specs.Calls.{IsCall, call_address}
 use Rattle.version_lock.specs.Versions.{IsLockWord}
 use Rattle.pm_words.specs.Fences.{IsFence, fence_asks, fence_next, fence_left}
+use Rattle.pm_words.specs.Offsets.{version_offset}
 
 abbrev pub finish_at_asks : Finish → FinishAt → Action
 finish_at_asks finish (at.Fence line fence) = fence_asks (call_address finish.call (line + fence.word)) fence
 finish_at_asks finish at.Add = Add (clock_address finish.call.view.layout)
-finish_at_asks finish (at.Unlock place) = Store (call_address finish.call 0) (finish.hold.locked + 1)
+finish_at_asks finish (at.Unlock place) = Store (call_address finish.call version_offset) (finish.hold.locked + 1)
 
 abbrev pub finish_asks : Finish → Action
 finish_asks finish = finish_at_asks finish finish.at

@@ -5,6 +5,7 @@ use Rattle.pm_words.specs.declared.action.Action.TheVariants.{Load}
 use Rattle.pm_words.specs.declared.again.Again.TheVariants.{Moved}
 use Rattle.pm_words.specs.declared.machine.Turn.{Turn}
 use Rattle.pm_words.specs.declared.machine.Turn.TheVariants.{Go, Done}
+use Rattle.pm_words.specs.Offsets.{version_offset}
 use Rattle.call_stages.specs.declared.once.Once.{Once}
 use Rattle.call_stages.specs.declared.once.Once.TheVariants as once
 use Rattle.call_stages.specs.declared.once.Placed.{Placed}
@@ -26,7 +27,7 @@ get_call (Checking call hold old) = call
 
 abbrev pub get_asks : Get → Action
 get_asks (Looking lookup) = lookup_asks lookup
-get_asks (Checking call hold old) = Load (call_address call 0)
+get_asks (Checking call hold old) = Load (call_address call version_offset)
 
 -- after a turn of the look-up
 abbrev pub get_looked : Call → Turn Lookup Looked → Turn Get (Once Placed)

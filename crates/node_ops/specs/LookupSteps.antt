@@ -9,6 +9,7 @@ use Rattle.pm_words.specs.declared.action.Action.TheVariants.{Load, Store, Excha
 use Rattle.pm_words.specs.declared.again.Again.TheVariants.{Moved}
 use Rattle.pm_words.specs.declared.machine.Turn.{Turn}
 use Rattle.pm_words.specs.declared.machine.Turn.TheVariants.{Go, Done}
+use Rattle.pm_words.specs.Offsets.{version_offset}
 use Rattle.version_lock.specs.Versions.{generation_of, kept_count, locked_word, IsFree, IsWorn, is_worn_word}
 use Rattle.data_node.specs.declared.slots.TheConstants.{PRINT_WORDS}
 use Rattle.data_node.specs.Slots.{IsLive}
@@ -33,7 +34,6 @@ use Rattle.data_list.specs.declared.target.Target.{Target}
 use Rattle.data_list.specs.declared.target.Walked.{Walked}
 use Rattle.data_list.specs.declared.target.Walked.TheVariants as walked
 use Rattle.data_list.specs.declared.walk.Walk.{Walk}
-use Rattle.data_list.specs.Keys.{key_words}
 use Rattle.data_list.specs.Walks.{sighting_of, walk_from, walk_asks, walk_turned, walk_left, IsWalk}
 use Rattle.data_list.specs.Laws.{IsSighting}
 use Rattle.node_ops.specs.Calls.{IsCall, call_address, at_node}
@@ -54,9 +54,9 @@ abbrev pub lookup_at_asks : Call → LookupAt → Action
 lookup_at_asks call (at.Floor floor) = floor_asks floor
 lookup_at_asks call (at.Walk walk) = walk_asks walk
 lookup_at_asks call (at.Read seen) = Load (clock_address call.view.layout)
-lookup_at_asks call (at.Lock seen locked) = Exchange (call_address call 0) seen.version locked
+lookup_at_asks call (at.Lock seen locked) = Exchange (call_address call version_offset) seen.version locked
 lookup_at_asks call (at.Clock locked) = Load (clock_address call.view.layout)
-lookup_at_asks call (at.Spent hold) = Store (call_address call 0) (hold.locked + 1)
+lookup_at_asks call (at.Spent hold) = Store (call_address call version_offset) (hold.locked + 1)
 lookup_at_asks call (at.Bitmap hold) = Load (call_address call bitmap_offset)
 lookup_at_asks call (at.Prints hold bitmap prints k) = Load (call_address call (8 + k))
 lookup_at_asks call (at.Name hold directory left slot k) = Load (call_address call (slot_offset slot k))
@@ -81,7 +81,7 @@ finds hold directory hit = Done (looked.Found (record { hold = hold; directory =
 abbrev pub floored : Call → Turn Floor ℕ → Turn Lookup Looked
 floored call (Go floor) = goes_to call (at.Floor floor)
 floored call (Done node) =
-    goes_to call (at.Walk (walk_from call.view.layout call.view.generation node (key_words call.name)))
+    goes_to call (at.Walk (walk_from call.view.layout call.view.generation node call.name))
 
 -- it is at its target: a read takes no lock, and loads the clock next; a write, which has a limit, locks it next
 abbrev pub came_by : Option ℕ → Call → Target → Turn Lookup Looked
@@ -215,18 +215,18 @@ pub record IsWalking (call : Call) (walk : Walk) : Type 0 where
   pub sound : IsWalk walk
   pub layout : walk.layout ≡ call.view.layout
   pub generation : walk.generation ≡ call.view.generation
-  pub key : walk.key ≡ key_words call.name
+  pub key : walk.key ≡ call.name
 
 -- it is at its target, and locks it
 pub record IsAtTarget (call : Call) (seen : Sighting) (locked : ℕ) : Type 0 where
   pub locking : IsLocking call.view.generation seen.version locked
-  pub is : IsSighting call.view.generation (key_words call.name) seen
+  pub is : IsSighting call.view.generation call.name seen
   pub leads : IfSome seen.next (λ next. next.node ≢ 0)
 
 -- it is at its target, of which it takes no lock
 pub record IsAtSeen (call : Call) (seen : Sighting) : Type 0 where
   pub reads : call.limit ≡ None
-  pub is : IsSighting call.view.generation (key_words call.name) seen
+  pub is : IsSighting call.view.generation call.name seen
   pub leads : IfSome seen.next (λ next. next.node ≢ 0)
 
 abbrev pub IsLookupAt : Call → LookupAt → Type 0

@@ -9,6 +9,7 @@ use Rattle.pm_words.specs.declared.action.Action.TheVariants.{Exchange, Load, St
 use Rattle.pm_words.specs.declared.again.Again.TheVariants.{Moved}
 use Rattle.pm_words.specs.declared.machine.Turn.{Turn}
 use Rattle.pm_words.specs.declared.machine.Turn.TheVariants.{Go, Done}
+use Rattle.pm_words.specs.Offsets.{version_offset}
 use Rattle.data_node.specs.Slots.{IsLive}
 use Rattle.data_node.specs.Spots.{bitmap_offset, slot_offset}
 use Rattle.data_node.specs.Bits.{live_count}
@@ -68,9 +69,9 @@ abbrev pub reading_at_asks : Call → Hold → ReadingAt → Action
 reading_at_asks call hold at.Clock = Load (clock_address call.view.layout)
 reading_at_asks call hold at.Bitmap = Load (call_address call bitmap_offset)
 reading_at_asks call hold (at.Load slot word) = Load (call_address call (slot_offset slot word))
-reading_at_asks call hold at.Check = Load (call_address call 0)
+reading_at_asks call hold at.Check = Load (call_address call version_offset)
 reading_at_asks call hold (at.Store store) = store_asks store
-reading_at_asks call hold at.Unlock = Store (call_address call 0) (hold.locked + 1)
+reading_at_asks call hold at.Unlock = Store (call_address call version_offset) (hold.locked + 1)
 
 abbrev pub reading_asks : Reading → Action
 reading_asks reading = reading_at_asks reading.call reading.hold reading.at
@@ -78,7 +79,7 @@ reading_asks reading = reading_at_asks reading.call reading.hold reading.at
 abbrev pub part_asks : Part → Action
 part_asks (part.Looking lookup count) = lookup_asks lookup
 part_asks (part.Ordering call seen count load) = load_asks load
-part_asks (part.Locking call seen count locked) = Exchange (call_address call 0) seen.version locked
+part_asks (part.Locking call seen count locked) = Exchange (call_address call version_offset) seen.version locked
 part_asks (part.Dating call seen count way) = Load (clock_address call.view.layout)
 part_asks (part.Reading reading) = reading_asks reading
 

@@ -18,7 +18,7 @@ use Rattle.pm_words.specs.declared.machine.Turn.TheVariants.{Go, Done}
 use Rattle.pm_words.specs.Rows.{got}
 use Rattle.data_node.specs.Lists.{next_offset, anchor_words}
 use Rattle.data_list.specs.declared.target.Next.{Next}
-use Rattle.data_list.specs.Keys.{key_words, words_in}
+use Rattle.data_list.specs.Keys.{key_words}
 use Rattle.data_list.specs.Walks.{high_of}
 use Rattle.call_stages.specs.declared.once.Once.{Once}
 use Rattle.call_stages.specs.declared.once.Once.TheVariants as once
@@ -173,7 +173,7 @@ PartsHear = (p : Part) (x : ℕ) (words : PartWords) → part_turned p x ≡ Don
 abbrev pub IsBehind : Facts → ℕ → Option Next → Type 0
 IsBehind f n None = f.now n next_offset ≡ 0
 IsBehind f n (Some next) = (f.now n next_offset ≡ next.node) × (next.node ≢ 0) ×
-    (anchor_words (f.now next.node) ≡ words_in (key_words next.anchor))
+    (anchor_words (f.now next.node) ≡ key_words next.anchor)
 
 -- The words of all nodes have 64 bits.
 abbrev pub HaveWords : Facts → Type 0

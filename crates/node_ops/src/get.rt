@@ -106,6 +106,7 @@ impl Get {
     ghost use Rattle.pm_words.specs.Turns.{GoesBelow};
     ghost use Rattle.pm_words.specs.Turns.{AdvancesTo, turn_of};
     ghost use Rattle.machine_runs.specs.Runs.{Bursts, MayGo};
+    ghost use Rattle.pm_words.specs.Offsets.{version_offset};
     ghost use Rattle.node_ops.specs.Calls.{IsCall, call_address};
     ghost use Rattle.node_ops.specs.LookupSteps.{lookup_turned};
     ghost use Rattle.node_ops.specs.GetSteps.{checked, get_asks, get_left, get_looked, get_takes, get_turned};
@@ -175,7 +176,7 @@ impl Get {
     /// It loads the version word again.
     fn checks(call: &Call) -> Action
         requires { IsCall call.now }
-        ensures { result ≡ Load (call_address call.now 0) }
+        ensures { result ≡ Load (call_address call.now version_offset) }
     {
         Action::Load(call.address(node::VERSION))
     }

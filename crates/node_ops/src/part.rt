@@ -913,8 +913,7 @@ impl Reading {
         let Some(next) = self.behind else {
             return None;
         };
-        let [first, second, third] = next.anchor;
-        Name::of_words([first, second, third])
+        next.name()
     }
 
     /// The first of the names that are no lower than the low one, where these are the slots in rising order of names.

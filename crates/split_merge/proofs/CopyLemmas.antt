@@ -9,6 +9,7 @@ use Rattle.data_node.specs.Slots.{IsLive, IsClear, prints_of}
 use Rattle.data_node.specs.Spots.{Spot, Means, updated, bitmap_offset, slot_offset}
 use Rattle.data_node.proofs.BitLemmas.{without_live-same, without_live-other, without_live_below}
 use Rattle.data_node.proofs.SpotLemmas.{updated-same, updated-other, name_words-updated, means_kept}
+use Rattle.data_node.specs.Lists.{next_offset}
 use Rattle.call_stages.specs.Stages.{Tells, AreCopies}
 use Rattle.split_merge.specs.declared.uniting.Union.{Union}
 use Rattle.split_merge.specs.declared.pairing.Pairs.{Pairs}
@@ -195,7 +196,7 @@ module _ (union : Union) (sound : IsUnion union) where
       let near = told_past (prints_now union stored) 8 (own_prints union) (near_seen union.own union.right) s told in
       tells_row (prints_now union stored) 8 (own_prints union) (near_seen union.own union.right) (updated s offset word)
       (λ k within. updated-other s offset word (8 + k) (λ e. omega arith) ∙ told_at (prints_now union stored) 8 (own_prints union) (near_seen union.own union.right) s told k within)
-      (updated-other s offset word 1 (λ e. omega arith) ∙ near.0, (updated-other s offset word 2 (λ e. omega arith) ∙ near.1.0, tt))
+      (updated-other s offset word bitmap_offset (λ e. omega arith) ∙ near.0, (updated-other s offset word next_offset (λ e. omega arith) ∙ near.1.0, tt))
 
   -- and copies stay as a word before the slots is stored
   pub copies_stay : (s t : Spot) (left n offset word : ℕ) → offset < 16 → AreCopies (slots_copied union left n) s t → AreCopies (slots_copied union left n) (updated s offset word) t

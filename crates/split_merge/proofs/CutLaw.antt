@@ -12,7 +12,7 @@ use Rattle.cat_key.proofs.Packing.{bytes_of-words_of}
 use Rattle.cat_history.specs.Maps.{Map, at}
 use Rattle.data_node.specs.Slots.{AreAllLive, IsLive, prints_of}
 use Rattle.data_node.specs.Spots.{Spot, Means, Finds, updated, bitmap_offset, slot_offset, print_offset, IsLiveIn, name_words, value_in, print_in_spot}
-use Rattle.data_node.specs.Lists.{key_of, anchor_in, three_words, next_offset, StaysIn}
+use Rattle.data_node.specs.Lists.{key_of, anchor_in, three_words, next_offset, StaysIn, anchor_words}
 use Rattle.data_node.specs.Weights.{has_name_in, names_in}
 use Rattle.data_node.specs.Orders.{comes_before}
 use Rattle.data_node.proofs.SpotLemmas.{at_found, updated-same, updated-other}
@@ -206,8 +206,8 @@ module _ (plan : Plan) (sound : IsPlan plan) (is : IsHalf plan) (words : AreWord
         abbrev at_anchor : Tells (anchor_seen plan 3) t
         at_anchor = fresh.1
 
-        abbrev at_bitmap : Tells ((1, plan_word plan 1) ∷ prints_seen plan (print_count plan)) t
-        at_bitmap = told_past (plan_word plan) 3 3 ((1, plan_word plan 1) ∷ prints_seen plan (print_count plan)) t fresh.1
+        abbrev at_bitmap : Tells ((bitmap_offset, plan_word plan bitmap_offset) ∷ prints_seen plan (print_count plan)) t
+        at_bitmap = told_past (plan_word plan) 3 3 ((bitmap_offset, plan_word plan bitmap_offset) ∷ prints_seen plan (print_count plan)) t fresh.1
 
         bitmap_is : t bitmap_offset ≡ 2 ^ half - 1
         bitmap_is = at_bitmap.0 ∙ word_bitmap plan
@@ -240,8 +240,8 @@ module _ (plan : Plan) (sound : IsPlan plan) (is : IsHalf plan) (words : AreWord
             ∙ sym (print_same (from slot) (from_within slot inside))
 
         -- its anchor is the least of the names that move
-        anchor_words : t 3 ∷ t 4 ∷ t 5 ∷ [] ≡ name_words s least
-        anchor_words =
+        least_words : anchor_words t ≡ name_words s least
+        least_words =
             let third = at_anchor.0 in
             let second = at_anchor.1.0 in
             let first = at_anchor.1.1.0 in
@@ -252,7 +252,7 @@ module _ (plan : Plan) (sound : IsPlan plan) (is : IsHalf plan) (words : AreWord
 
         key_is : anchor_in t ≡ slot_key s least
         unfolding anchor_in
-        key_is = ap (λ (ws : List ℕ). three_words (slice_index ws 0) (slice_index ws 1) (slice_index ws 2)) anchor_words
+        key_is = ap (λ (ws : List ℕ). three_words (slice_index ws 0) (slice_index ws 1) (slice_index ws 2)) least_words
 
         is_copy : IsCopy slots (anchor_in t) s t
         is_copy = record {
@@ -463,7 +463,7 @@ module _ (plan : Plan) (sound : IsPlan plan) (is : IsHalf plan) (words : AreWord
   -- by what the party knows of the full node, the plan cuts it
   module _ (h : Held) (all : AreAllLive (bitmap_in h.known.seen) slots) where
     abbrev others : List (ℕ × ℕ)
-    others = (next_offset, spot_of plan.full 2) ∷ h.known.seen
+    others = (next_offset, spot_of plan.full next_offset) ∷ h.known.seen
 
     abbrev row : (s : Spot) → Tells (read_seen plan.full (8 + 4 * slots) h) s → (k : ℕ) → k < 8 + 4 * slots → s (8 + k) ≡ f (8 + k)
     row s told = told_at f 8 (8 + 4 * slots) others s told

@@ -32,7 +32,7 @@ use Rattle.split_merge.proofs.CutLaw.{told_past, full_told}
 module _ (slots : ℕ) (h : Held) (some_slots : 1 ≤ slots) (full : AreAllLive (bitmap_in h.known.seen) slots) where
   -- what it has loaded of the node begins with the bitmap
   read : (words : List ℕ) (count : ℕ) (s : Spot) → Tells (read_seen words count h) s → AreAllLive (s bitmap_offset) slots
-  read words count s told = (full_told h.known.seen slots some_slots full s (told_past (spot_of words) 8 count ((next_offset, spot_of words 2) ∷ h.known.seen) s told).1).1
+  read words count s told = (full_told h.known.seen slots some_slots full s (told_past (spot_of words) 8 count ((next_offset, spot_of words next_offset) ∷ h.known.seen) s told).1).1
 
   claims : (g n w : ℕ) (held : Held) (m : ℕ) (at : ClaimAt) → IsSplitOfFull slots (claim_at_stage g n w held m at)
   claims g n w held m claim_at.Nowhere = tt

@@ -14,6 +14,7 @@ use Rattle.pm_words.specs.declared.fence.Fence.{Fence}
 use Rattle.pm_words.specs.declared.fence.FenceAt.{FenceAt}
 use Rattle.pm_words.specs.declared.fence.FenceAt.TheVariants as fence_at
 use Rattle.pm_words.specs.Fences.{IsFence, IsFenceAt, fence_start, fence_asks, fence_at_asks, fence_next, fence_at_next}
+use Rattle.pm_words.specs.Codes.{open_state}
 use Rattle.data_node.specs.Bits.{without_live}
 use Rattle.data_node.specs.Slots.{IsClear}
 use Rattle.data_node.specs.Spots.{Spot, updated, bitmap_offset, slot_offset}
@@ -214,7 +215,7 @@ module _ (join : Join) (sound : IsJoin join) (g : ℕ) (h : Held) (answer : Once
       (λ s t tidy knows told are. (record { seen = slot_known union sound.union s 0 (slot_offset (lowest left) word) value (omega arith) (omega arith) knows.seen; left = tt }, told.1, same s t told.0 are))
       (λ range s m durable means.
       let near = all_past (λ (w : ℕ × ℕ). IsAmong (copy_dirty union left word) w.0 ⊎ (s w.0 ≡ w.1)) (prints_now union 0) 8 (own_prints union) (near_seen union.own union.right) durable in
-      let own : s bitmap_offset ≡ union.own = ⊎_elim (λ among. absurd (low_clean left word 1 (omega arith) among)) (λ is. is) near.0 in
+      let own : s bitmap_offset ≡ union.own = ⊎_elim (λ among. absurd (low_clean left word bitmap_offset (omega arith) among)) (λ is. is) near.0 in
       means_slot_store l.slots range s m (lowest left) word value slots.1 small
       (subst (λ b. IsClear b (lowest left)) (sym own) (gets_parts union.own (head_word union 1) l.slots (lowest left) first.target.does).0) means))
 

@@ -10,6 +10,7 @@ use Rattle.pm_words.specs.declared.machine.Turn.TheVariants.{Go, Done}
 use Rattle.version_lock.specs.Versions.{generation_of, is_free_word, is_worn_word}
 use Rattle.version_lock.proofs.WordTests.{free_word, fresh_word}
 use Rattle.data_node.specs.Spots.{Spot, bitmap_offset}
+use Rattle.data_node.specs.Lists.{next_offset}
 use Rattle.call_stages.specs.declared.once.Once.{Once}
 use Rattle.call_stages.specs.declared.once.Placed.{Placed}
 use Rattle.call_stages.specs.Stages.{Tells, Held, Gathered, Joined, Stage, Idle, Holds, Eyes, Splits, Meets, Joins, Filling}
@@ -82,7 +83,7 @@ module _ (merge : Merge) (sound : IsMerge merge) (h : Held) (may : MayJoin h) (a
 
   at_bitmap : (x : ℕ) → Leads (footing at.Bitmap) (merge_at_asks merge at.Bitmap) x (merges_on merge (at.Next x))
   at_bitmap x =
-      subst (λ (k : Held). Steps (Holds n w h) (Load (word_address l n 1)) x (Holds n w k)) same
+      subst (λ (k : Held). Steps (Holds n w h) (Load (word_address l n bitmap_offset)) x (Holds n w k)) same
       (on_nodes tt (inl refl) (looks (learns (has_word 1 (omega arith)) (omega arith) may.still.ready (λ s tidy knows is. record { seen = (is, tt); left = tt })))
       (held_far n w h (Holds n w (record h { known = record { seen = (bitmap_offset, x) ∷ []; left = None } }))))
     where
@@ -99,7 +100,7 @@ module _ (merge : Merge) (sound : IsMerge merge) (h : Held) (may : MayJoin h) (a
       near : Near
       near = record { own = own; right = x }
 
-      step : Steps (Holds n w (knowing ((bitmap_offset, own) ∷ []) [] None h)) (Load (word_address l n 2)) x (Holds n w (knows_near near h))
+      step : Steps (Holds n w (knowing ((bitmap_offset, own) ∷ []) [] None h)) (Load (word_address l n next_offset)) x (Holds n w (knows_near near h))
       step = on_nodes tt (inl refl) (looks (learns (has_word 2 (omega arith)) (omega arith) may.still.ready (λ s tidy knows is. record { seen = (knows.seen.0, (is, tt)); left = tt })))
           (held_far n w (knowing ((bitmap_offset, own) ∷ []) [] None h) (Holds n w (knows_near near h)))
 

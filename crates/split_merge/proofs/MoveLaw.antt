@@ -8,9 +8,10 @@ use Rattle.pm_words.specs.declared.layout.Layout.{Layout}
 use Rattle.pm_words.specs.declared.action.Action.{Action}
 use Rattle.pm_words.specs.declared.machine.Turn.{Turn}
 use Rattle.pm_words.specs.declared.machine.Turn.TheVariants.{Go, Done}
-use Rattle.data_node.specs.Spots.{Spot, updated}
-use Rattle.data_node.specs.Lists.{three_words, next_offset, anchor_in}
+use Rattle.data_node.specs.Spots.{Spot, updated, bitmap_offset}
+use Rattle.data_node.specs.Lists.{three_words, next_offset, anchor_in, anchor_offset, anchor_words}
 use Rattle.data_node.proofs.SpotLemmas.{updated-same, updated-other}
+use Rattle.data_node.specs.Lines.{state_offset, kind_offset}
 use Rattle.call_stages.specs.Stages.{Tells, Grip, Phase, Filling, Linked, Parted, Stage, Idle, Splits, Leaves, Joins, Gathered, Joined, Gone}
 use Rattle.call_stages.specs.Kinds.{HasWordAt, Soils, Cleans, word_address, Step, splits, publishes, leaves, fills as fills_word, lights, switches, glances_left, glances_fresh, drains_left, drains_fresh, trims}
 use Rattle.call_stages.specs.Lines.{HeldLine, Notes}
@@ -29,6 +30,7 @@ use Rattle.smo_log.specs.declared.state.ReadyAt.TheVariants as ready_at
 use Rattle.smo_log.specs.declared.line.Entry.{Entry}
 use Rattle.smo_log.specs.declared.state.Ready.{Ready}
 use Rattle.pm_words.specs.Fences.{IsFence, IsFenceAt, fence_start, fence_asks, fence_at_asks, fence_next, fence_at_next}
+use Rattle.pm_words.specs.Codes.{open_state, split_kind, merge_kind}
 use Rattle.smo_log.specs.LogLines.{caller_of, index_of, fields, open_line, ready_line}
 use Rattle.smo_log.specs.Opens.{IsOpen, open_asks, open_turned, open_at_held, open_held, OpenNotes}
 use Rattle.smo_log.specs.States.{IsReady, ready_asks, ready_turned, ready_at_held, ready_held, ReadyNotes}
@@ -126,7 +128,7 @@ no_ready unready ready = let no : false ≡ true = sym unready ∙ ready in cc
 
 -- by the store of READY the stage asks what it asks of the OPEN line
 pub ready_waits : (stage : Stage) (line : ℕ) (entry : Entry) (at : ReadyAt) (after : HeldLine)
-    → ((n : ℕ) → IsSwitched stage n → ⊥) × (((s : Spot) → Tells (open_line line entry).seen s → s 1 ≢ 2) ⊎ IsRetired stage (open_line line entry))
+    → ((n : ℕ) → IsSwitched stage n → ⊥) × (((s : Spot) → Tells (open_line line entry).seen s → s kind_offset ≢ merge_kind) ⊎ IsRetired stage (open_line line entry))
     → Waits stage (Some (ready_at_held line entry at)) (Some after)
 ready_waits stage line entry ready_at.State after what = λ unready ready. what
 ready_waits stage line entry (ready_at.Fence fence) after what = λ unready ready. absurd (no_ready unready refl)
@@ -242,15 +244,15 @@ module _ (move : Move) (sound : IsMove move) (g : ℕ) (known : Known) (cuts : C
 
   at_bitmap : (x : ℕ) → Leads_to (footing at.Bitmap) (fills plan 1) x (moves_on move (at.Anchor 0))
   at_bitmap x = on (footing at.Bitmap) (fills plan 1) x (at.Anchor 0)
-      (on_nodes tt (inl refl) (fill 1 x (prints_seen plan (print_count plan)) (anchor_seen plan 0) ((0, filled_end plan) ∷ []) ((0, filled_end plan) ∷ []) (omega arith) (omega arith) (soils_more 1 (omega arith))
-      (λ t told. (updated-same t 1 (plan_word plan 1), tells_apart 1 (plan_word plan 1) (prints_seen plan (print_count plan)) t (apart_prints 1 (omega arith)) told)))
+      (on_nodes tt (inl refl) (fill bitmap_offset x (prints_seen plan (print_count plan)) (anchor_seen plan 0) ((0, filled_end plan) ∷ []) ((0, filled_end plan) ∷ []) (omega arith) (omega arith) (soils_more 1 (omega arith))
+      (λ t told. (updated-same t bitmap_offset (plan_word plan bitmap_offset), tells_apart bitmap_offset (plan_word plan bitmap_offset) (prints_seen plan (print_count plan)) t (apart_prints bitmap_offset (omega arith)) told)))
       (deals_filling (prints_seen plan (print_count plan)) (anchor_seen plan 0) ((0, filled_end plan) ∷ []) ((0, filled_end plan) ∷ []))) (omega arith)
 
   anchor_told : (n : ℕ) (t : Spot) → n < 3 → Tells (anchor_seen plan n) t → Tells (anchor_seen plan (suc n)) (updated t (3 + n) (plan_word plan (3 + n)))
   anchor_told n t small told = (
     updated-same t (3 + n) (plan_word plan (3 + n)),
     tells_apart (3 + n) (plan_word plan (3 + n)) (anchor_seen plan n) t
-        (apart_onto (plan_word plan) (3 + n) 3 n ((1, plan_word plan 1) ∷ prints_seen plan (print_count plan)) (λ k low. λ z. omega arith) (λ z. omega arith, apart_prints (3 + n) (omega arith))) told,
+        (apart_onto (plan_word plan) (anchor_offset + n) anchor_offset n ((bitmap_offset, plan_word plan bitmap_offset) ∷ prints_seen plan (print_count plan)) (λ k low. λ z. omega arith) (λ z. omega arith, apart_prints (3 + n) (omega arith))) told,
   )
 
   at_anchor : (n x : ℕ) → n < 3 → Leads_to (footing (at.Anchor n)) (fills plan (3 + n)) x (moves_on move (after_anchor n))
@@ -259,26 +261,26 @@ module _ (move : Move) (sound : IsMove move) (g : ℕ) (known : Known) (cuts : C
         | true ↦ λ more. let next : n + 1 ≡ suc n = omega arith in
             subst (λ k. Leads_to (footing (at.Anchor n)) (fills plan (3 + n)) x (moves_on move (at.Anchor k))) (sym next)
             (on (footing (at.Anchor n)) (fills plan (3 + n)) x (at.Anchor (suc n))
-            (on_nodes tt (inl refl) (fill (3 + n) x (anchor_seen plan n) (anchor_seen plan (suc n)) ((0, filled_end plan) ∷ []) ((0, filled_end plan) ∷ []) (omega arith) (omega arith) (soils_more (3 + n) (omega arith)) (λ t told. anchor_told n t small told))
+            (on_nodes tt (inl refl) (fill (anchor_offset + n) x (anchor_seen plan n) (anchor_seen plan (suc n)) ((0, filled_end plan) ∷ []) ((0, filled_end plan) ∷ []) (omega arith) (omega arith) (soils_more (3 + n) (omega arith)) (λ t told. anchor_told n t small told))
             (deals_filling (anchor_seen plan n) (anchor_seen plan (suc n)) ((0, filled_end plan) ∷ []) ((0, filled_end plan) ∷ [])))
             (let bound : n + 1 < 3 = ltb-true _ _ more in omega arith))
         | false ↦ λ last. let end : suc n ≡ 3 = (let bound : 3 ≤ n + 1 = ltb-false _ _ last in omega arith) in
             on (footing (at.Anchor n)) (fills plan (3 + n)) x at.Next
-            (on_nodes tt (inl refl) (fill (3 + n) x (anchor_seen plan n) (anchor_seen plan 3) ((0, filled_end plan) ∷ []) ((0, filled_end plan) ∷ []) (omega arith) (omega arith) (soils_more (3 + n) (omega arith))
+            (on_nodes tt (inl refl) (fill (anchor_offset + n) x (anchor_seen plan n) (anchor_seen plan 3) ((0, filled_end plan) ∷ []) ((0, filled_end plan) ∷ []) (omega arith) (omega arith) (soils_more (3 + n) (omega arith))
             (λ t told. subst (λ k. Tells (anchor_seen plan k) (updated t (3 + n) (plan_word plan (3 + n)))) end (anchor_told n t small told)))
             (deals_filling (anchor_seen plan n) (anchor_seen plan 3) ((0, filled_end plan) ∷ []) ((0, filled_end plan) ∷ []))) tt
       ] refl
 
-  next_told : (t : Spot) → Tells (anchor_seen plan 3) t → Tells (fresh_seen plan) (updated t 2 (plan_word plan 2))
+  next_told : (t : Spot) → Tells (anchor_seen plan 3) t → Tells (fresh_seen plan) (updated t next_offset (plan_word plan next_offset))
   next_told t told = (
-    updated-same t 2 (plan_word plan 2),
-    tells_apart 2 (plan_word plan 2) (anchor_seen plan 3) t
-        (apart_onto (plan_word plan) 2 3 3 ((1, plan_word plan 1) ∷ prints_seen plan (print_count plan)) (λ k low. λ z. omega arith) (λ z. omega arith, apart_prints 2 (omega arith))) told,
+    updated-same t next_offset (plan_word plan next_offset),
+    tells_apart next_offset (plan_word plan next_offset) (anchor_seen plan 3) t
+        (apart_onto (plan_word plan) next_offset anchor_offset 3 ((bitmap_offset, plan_word plan bitmap_offset) ∷ prints_seen plan (print_count plan)) (λ k low. λ z. omega arith) (λ z. omega arith, apart_prints 2 (omega arith))) told,
   )
 
   at_next : (x : ℕ) → Leads_to (footing at.Next) (fills plan 2) x (moves_on move (at.FenceFresh 0 fence_start))
   at_next x = on (footing at.Next) (fills plan 2) x (at.FenceFresh 0 fence_start)
-      (on_nodes tt (inl refl) (fill 2 x (anchor_seen plan 3) (fresh_seen plan) ((0, filled_end plan) ∷ []) ((0, filled_end plan - 0) ∷ []) (omega arith) (omega arith)
+      (on_nodes tt (inl refl) (fill next_offset x (anchor_seen plan 3) (fresh_seen plan) ((0, filled_end plan) ∷ []) ((0, filled_end plan - 0) ∷ []) (omega arith) (omega arith)
       (record {
         stored = inl (omega arith, omega arith);
         others = λ other among. ⊎_elim (λ within. inl (omega arith, let high : other < 0 + filled_end plan = within.1 in omega arith)) (λ none. absurd none) among;
@@ -365,7 +367,7 @@ module _ (move : Move) (sound : IsMove move) (g : ℕ) (known : Known) (cuts : C
       (deals_on (full_left plan known) (fresh_of plan (fresh_seen plan) [] None) (full_left plan known) (fresh_of plan (fresh_seen plan) [] None) (Filling false) (Filling true) (knows_prev plan) (λ e e'. cc) (inr refl) tt)) tt
 
   -- the line has the fresh node's anchor
-  line_anchored : (s t : Spot) → Tells ((0, 1) ∷ fields (entry_in plan) 7) s → Tells (fresh_seen plan) t → AreNameWords (t 3 ∷ t 4 ∷ t 5 ∷ []) → anchor_in s ≡ anchor_in t
+  line_anchored : (s t : Spot) → Tells ((state_offset, open_state) ∷ fields (entry_in plan) 7) s → Tells (fresh_seen plan) t → AreNameWords (anchor_words t) → anchor_in s ≡ anchor_in t
   unfolding anchor_in
   line_anchored s t line fresh named = λ k. three_words ((line.1.1.1.1.1.0 ∙ sym fresh.1.1.1.0) k) ((line.1.1.1.1.0 ∙ sym fresh.1.1.0) k) ((line.1.1.1.0 ∙ sym fresh.1.0) k)
 
@@ -488,7 +490,7 @@ module _ (move : Move) (sound : IsMove move) (g : ℕ) (known : Known) (cuts : C
       -- the switch is durable, and it is the line of a split
       waits : (next : HeldLine) → Waits (linked plan known [] [] None Parted) (Some (ready_held (entry_in plan) ready)) (Some next)
       waits next = ready_waits (linked plan known [] [] None Parted) ready.line (entry_in plan) ready.at next
-          (λ n none. none, inl (λ s told two. let one : s 1 ≡ 1 = told.1.1.1.1.1.1.1.0 in omega arith))
+          (λ n none. none, inl (λ s told two. let one : s kind_offset ≡ split_kind = told.1.1.1.1.1.1.1.0 in omega arith))
 
       after : (turn : Turn Ready (Unit {0})) → ReadyNotes ready.layout ready.line (entry_in plan) (ready_held (entry_in plan) ready) (ready_asks ready) x turn → Leads_to (footing (at.Ready ready)) (ready_asks ready) x (readied move turn)
       after (Go next) note = on (footing (at.Ready ready)) (ready_asks ready) x (at.Ready next)

@@ -11,21 +11,22 @@ use Rattle.cat_key.specs.Names.{IsName, IsNameByte, AreNameWords, words_of}
 use Rattle.cat_key.specs.Names as names
 use Rattle.std.proofs.lemmas.List.Elements.{All-nil, All-cons}
 use Rattle.data_node.specs.Slots.{prints_of}
-use Rattle.data_node.specs.Spots.{slot_offset, print_in_spot}
-use Rattle.data_list.specs.Keys.{IsNameOf, key_words, name_kept}
+use Rattle.data_node.specs.Spots.{slot_offset, print_in_spot, bitmap_offset}
+use Rattle.data_node.specs.Lists.{next_offset, anchor_words}
+use Rattle.data_list.specs.Keys.{IsNameOf, name_kept}
 use Rattle.data_list.proofs.KeyLemmas.{name_kept_so}
 use Rattle.split_merge.specs.declared.planning.Plan.{Plan}
 use Rattle.split_merge.specs.Plans.{spot_of, moved_at, moved_of, some_words, anchor_of, moved_in, source_in, plan_print, eight_prints, plan_word}
 
-pub word_bitmap : (plan : Plan) → plan_word plan 1 ≡ 2 ^ moved_in plan - 1
+pub word_bitmap : (plan : Plan) → plan_word plan bitmap_offset ≡ 2 ^ moved_in plan - 1
 unfolding plan_word
 word_bitmap plan = refl
 
-pub word_next : (plan : Plan) → plan_word plan 2 ≡ slice_index plan.full 2
+pub word_next : (plan : Plan) → plan_word plan next_offset ≡ slice_index plan.full next_offset
 unfolding plan_word
 word_next plan = refl
 
-pub word_anchor : (plan : Plan) → plan_word plan 3 ∷ plan_word plan 4 ∷ plan_word plan 5 ∷ [] ≡ slice_index plan.anchor 0 ∷ slice_index plan.anchor 1 ∷ slice_index plan.anchor 2 ∷ []
+pub word_anchor : (plan : Plan) → anchor_words (plan_word plan) ≡ slice_index plan.anchor 0 ∷ slice_index plan.anchor 1 ∷ slice_index plan.anchor 2 ∷ []
 unfolding plan_word
 word_anchor plan = refl
 
@@ -36,8 +37,8 @@ word_print plan k small =
     let value = from_le_bytes w64 (eight_prints plan (8 * (offset % 8))) in
     let last = slice_index plan.full (slot_offset (source_in plan ((offset - 16) / 4)) ((offset - 16) % 4)) in
     let place : offset % 8 ≡ k = omega arith in
-    ap (λ b. cond b (2 ^ moved_in plan - 1) (cond (ltb offset 3) (slice_index plan.full 2) (cond (ltb offset 6) (slice_index plan.anchor (offset - 3)) (cond (ltb offset 16) value last)))) (le-ltb offset 2 (omega arith))
-    ∙ ap (λ b. cond b (slice_index plan.full 2) (cond (ltb offset 6) (slice_index plan.anchor (offset - 3)) (cond (ltb offset 16) value last))) (le-ltb offset 3 (omega arith))
+    ap (λ b. cond b (2 ^ moved_in plan - 1) (cond (ltb offset 3) (slice_index plan.full next_offset) (cond (ltb offset 6) (slice_index plan.anchor (offset - 3)) (cond (ltb offset 16) value last)))) (le-ltb offset 2 (omega arith))
+    ∙ ap (λ b. cond b (slice_index plan.full next_offset) (cond (ltb offset 6) (slice_index plan.anchor (offset - 3)) (cond (ltb offset 16) value last))) (le-ltb offset 3 (omega arith))
     ∙ ap (λ b. cond b (slice_index plan.anchor (offset - 3)) (cond (ltb offset 16) value last)) (le-ltb offset 6 (omega arith))
     ∙ ap (λ b. cond b value last) (lt-ltb offset 16 (omega arith))
     ∙ ap (λ j. from_le_bytes w64 (eight_prints plan (8 * j))) place
@@ -49,8 +50,8 @@ word_slot plan slot k offset small is =
     let last = slice_index plan.full (slot_offset (source_in plan ((offset - 16) / 4)) ((offset - 16) % 4)) in
     let place : (offset - 16) / 4 ≡ slot = omega arith in
     let word : (offset - 16) % 4 ≡ k = omega arith in
-    ap (λ b. cond b (2 ^ moved_in plan - 1) (cond (ltb offset 3) (slice_index plan.full 2) (cond (ltb offset 6) (slice_index plan.anchor (offset - 3)) (cond (ltb offset 16) value last)))) (le-ltb offset 2 (omega arith))
-    ∙ ap (λ b. cond b (slice_index plan.full 2) (cond (ltb offset 6) (slice_index plan.anchor (offset - 3)) (cond (ltb offset 16) value last))) (le-ltb offset 3 (omega arith))
+    ap (λ b. cond b (2 ^ moved_in plan - 1) (cond (ltb offset 3) (slice_index plan.full next_offset) (cond (ltb offset 6) (slice_index plan.anchor (offset - 3)) (cond (ltb offset 16) value last)))) (le-ltb offset 2 (omega arith))
+    ∙ ap (λ b. cond b (slice_index plan.full next_offset) (cond (ltb offset 6) (slice_index plan.anchor (offset - 3)) (cond (ltb offset 16) value last))) (le-ltb offset 3 (omega arith))
     ∙ ap (λ b. cond b (slice_index plan.anchor (offset - 3)) (cond (ltb offset 16) value last)) (le-ltb offset 6 (omega arith))
     ∙ ap (λ b. cond b value last) (le-ltb offset 16 (omega arith))
     ∙ (λ i. slice_index plan.full (slot_offset (source_in plan (place i)) (word i)))
@@ -142,7 +143,7 @@ small_words a b c fa fb fc (suc (suc (suc k))) = omega arith
 
 pub anchor_is : (a b c : ℕ) → a < 2 ^ 64 → b < 2 ^ 64 → c < 2 ^ 64 → IsAnchor (anchor_of (a ∷ b ∷ c ∷ []))
 unfolding anchor_of
-anchor_is a b c fa fb fc = of (name_kept (key_words (a ∷ b ∷ c ∷ []))) (name_kept_so (key_words (a ∷ b ∷ c ∷ [])))
+anchor_is a b c fa fb fc = of (name_kept (a ∷ b ∷ c ∷ [])) (name_kept_so (a ∷ b ∷ c ∷ []))
   where
     of : (found : Option (List ℕ)) → IsNameOf (a ∷ b ∷ c ∷ []) found → IsAnchor (some_words found (a ∷ b ∷ c ∷ []))
     of (Some name) is = record { named = (name, is.named, is.whole); fits = small_words a b c fa fb fc }
@@ -151,7 +152,7 @@ anchor_is a b c fa fb fc = of (name_kept (key_words (a ∷ b ∷ c ∷ []))) (na
 -- and those words themselves, if they are a name's
 pub anchor_same : (a b c : ℕ) → AreNameWords (a ∷ b ∷ c ∷ []) → anchor_of (a ∷ b ∷ c ∷ []) ≡ a ∷ b ∷ c ∷ []
 unfolding anchor_of
-anchor_same a b c named = of (name_kept (key_words (a ∷ b ∷ c ∷ []))) (name_kept_so (key_words (a ∷ b ∷ c ∷ [])))
+anchor_same a b c named = of (name_kept (a ∷ b ∷ c ∷ [])) (name_kept_so (a ∷ b ∷ c ∷ []))
   where
     nothing : IsSome (let none : Option (List ℕ) = None in none) → ⊥
     nothing some = cc
@@ -164,9 +165,9 @@ anchor_same a b c named = of (name_kept (key_words (a ∷ b ∷ c ∷ []))) (nam
 pub words_fit : (plan : Plan) → ((offset : ℕ) → slice_index plan.full offset < 2 ^ 64) → IsAnchor plan.anchor → moved_in plan ≤ 32 → (offset : ℕ) → plan_word plan offset < 2 ^ 64
 unfolding plan_word
 words_fit plan fits anchor few offset =
-    elim (ltb offset 2) as (λ b. cond b (2 ^ moved_in plan - 1) (cond (ltb offset 3) (slice_index plan.full 2) (cond (ltb offset 6) (slice_index plan.anchor (offset - 3)) (cond (ltb offset 16) value last))) < 2 ^ 64) [
+    elim (ltb offset 2) as (λ b. cond b (2 ^ moved_in plan - 1) (cond (ltb offset 3) (slice_index plan.full next_offset) (cond (ltb offset 6) (slice_index plan.anchor (offset - 3)) (cond (ltb offset 16) value last))) < 2 ^ 64) [
       | true ↦ let below : moved_in plan < 64 = omega arith in let small : 2 ^ moved_in plan < 2 ^ 64 = pow-lt below in omega arith
-      | false ↦ elim (ltb offset 3) as (λ b. cond b (slice_index plan.full 2) (cond (ltb offset 6) (slice_index plan.anchor (offset - 3)) (cond (ltb offset 16) value last)) < 2 ^ 64) [
+      | false ↦ elim (ltb offset 3) as (λ b. cond b (slice_index plan.full next_offset) (cond (ltb offset 6) (slice_index plan.anchor (offset - 3)) (cond (ltb offset 16) value last)) < 2 ^ 64) [
         | true ↦ fits 2
         | false ↦ elim (ltb offset 6) as (λ b. cond b (slice_index plan.anchor (offset - 3)) (cond (ltb offset 16) value last) < 2 ^ 64) [
           | true ↦ anchor.fits (offset - 3)

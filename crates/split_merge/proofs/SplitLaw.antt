@@ -283,10 +283,10 @@ module _ (split : Split) (sound : IsSplit split) (h : Held) (may : MayBegin spli
 
       tells : (s : Spot) → Tells (read_seen full count h) s → (0 < 8 + count → s (8 + count) ≡ x) → Tells (read_seen (slice_set full (8 + count) x) (suc count) h) s
       tells s told is =
-          let rest = told_past (spot_of full) 8 count ((next_offset, spot_of full 2) ∷ h.known.seen) s told in (
+          let rest = told_past (spot_of full) 8 count ((next_offset, spot_of full next_offset) ∷ h.known.seen) s told in (
             is (omega arith) ∙ sym value,
             tells_row (spot_of (slice_set full (8 + count) x)) 8 count ((next_offset, spot_of (slice_set full (8 + count) x) 2) ∷ h.known.seen) s
-                (λ k within. told_at (spot_of full) 8 count ((next_offset, spot_of full 2) ∷ h.known.seen) s told k within ∙ sym (others (8 + k) (λ e. omega arith)))
+                (λ k within. told_at (spot_of full) 8 count ((next_offset, spot_of full next_offset) ∷ h.known.seen) s told k within ∙ sym (others (8 + k) (λ e. omega arith)))
                 (rest.0 ∙ sym (others 2 (λ e. omega arith)), rest.1),
           )
 

@@ -11,7 +11,8 @@ use Rattle.pm_words.specs.declared.fence.Fence.{Fence}
 use Rattle.pm_words.specs.Fences.{fence_start, IsFence, fence_asks, fence_next, fence_left}
 use Rattle.data_node.specs.Bits.{without_live, live_count}
 use Rattle.data_node.specs.Slots.{IsLive}
-use Rattle.data_node.specs.Spots.{slot_offset}
+use Rattle.data_node.specs.Spots.{slot_offset, bitmap_offset}
+use Rattle.data_node.specs.Lists.{next_offset}
 use Rattle.call_stages.specs.Kinds.{word_address, version_address, status_address, prev_address}
 use Rattle.smo_log.specs.declared.open.Open.{Open}
 use Rattle.smo_log.specs.declared.state.Ready.{Ready}
@@ -91,9 +92,9 @@ join_at_asks union (at.Print word) =
     Store (word_address union.layout union.node (8 + word)) (joined_prints union word)
 join_at_asks union (at.FenceCopies first fence) =
     fence_asks (word_address union.layout union.node (first + fence.word)) fence
-join_at_asks union at.Bitmap = Store (word_address union.layout union.node 1) union.pairs.grown
+join_at_asks union at.Bitmap = Store (word_address union.layout union.node bitmap_offset) union.pairs.grown
 join_at_asks union (at.FenceBitmap fence) = fence_asks (word_address union.layout union.node fence.word) fence
-join_at_asks union at.Switch = Store (word_address union.layout union.node 2) (behind_in union)
+join_at_asks union at.Switch = Store (word_address union.layout union.node next_offset) (behind_in union)
 join_at_asks union (at.FenceSwitch fence) = fence_asks (word_address union.layout union.node fence.word) fence
 join_at_asks union at.Retire = Store (status_address union.layout union.right) gone_status
 join_at_asks union at.Prev = stores_prev union union.right

@@ -7,6 +7,8 @@ use Rattle.pm_words.specs.declared.machine.Turn.{Turn}
 use Rattle.pm_words.specs.declared.machine.Turn.TheVariants.{Go, Done}
 use Rattle.version_lock.specs.Versions.{IsLockWord, is_free_word, is_worn_word}
 use Rattle.data_node.specs.Bits.{live_count}
+use Rattle.data_node.specs.Spots.{bitmap_offset}
+use Rattle.data_node.specs.Lists.{next_offset}
 use Rattle.call_stages.specs.declared.view.View.{View}
 use Rattle.call_stages.specs.Views.{IsView}
 use Rattle.call_stages.specs.Kinds.{word_address, version_address, Told}
@@ -91,8 +93,8 @@ has_prints merge near locked head prints count word =
     next_prints merge near locked head (slice_set prints count word) (count + 1)
 
 abbrev pub merge_at_asks : Merge → MergeAt → Action
-merge_at_asks merge at.Bitmap = Load (word_address merge.view.layout merge.node 1)
-merge_at_asks merge (at.Next own) = Load (word_address merge.view.layout merge.node 2)
+merge_at_asks merge at.Bitmap = Load (word_address merge.view.layout merge.node bitmap_offset)
+merge_at_asks merge (at.Next own) = Load (word_address merge.view.layout merge.node next_offset)
 merge_at_asks merge (at.Version near) = Load (version_address merge.view.layout near.right)
 merge_at_asks merge (at.Lock near version locked) =
     Exchange (version_address merge.view.layout near.right) version locked

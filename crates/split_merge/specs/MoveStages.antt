@@ -1,7 +1,8 @@
 -- What a party relies on that moves the upper half of a full node.
 use Rattle.std.specs.Prelude.{ℕ, zero, suc, ◌+◌, ◌-◌, Bool, true, false, List, [], ◌∷◌}
 use Rattle.std.specs.Prelude.{Option, Some, None}
-use Rattle.data_node.specs.Lists.{three_words}
+use Rattle.data_node.specs.Lists.{next_offset, anchor_offset, number_of, anchor_words}
+use Rattle.data_node.specs.Spots.{bitmap_offset}
 use Rattle.call_stages.specs.Stages.{Grip, Phase, Filling, Linked, Parted, Stage, Splits, Leaves}
 use Rattle.call_stages.specs.Lines.{HeldLine}
 use Rattle.call_stages.specs.Prevs.{Debt, no_debt}
@@ -38,11 +39,13 @@ abbrev pub prints_seen : Plan → ℕ → List (ℕ × ℕ)
 prints_seen plan n = words_onto (plan_word plan) 8 n (slots_seen plan (slot_count plan))
 
 abbrev pub anchor_seen : Plan → ℕ → List (ℕ × ℕ)
-anchor_seen plan n = words_onto (plan_word plan) 3 n ((1, plan_word plan 1) ∷ prints_seen plan (print_count plan))
+anchor_seen plan n =
+    words_onto (plan_word plan) anchor_offset n
+    ((bitmap_offset, plan_word plan bitmap_offset) ∷ prints_seen plan (print_count plan))
 
 -- all words of the fresh node
 abbrev pub fresh_seen : Plan → List (ℕ × ℕ)
-fresh_seen plan = (2, plan_word plan 2) ∷ anchor_seen plan 3
+fresh_seen plan = (next_offset, plan_word plan next_offset) ∷ anchor_seen plan 3
 
 abbrev pub fresh_of : Plan → List (ℕ × ℕ) → List (ℕ × ℕ) → Option (ℕ × ℕ) → Grip
 fresh_of plan seen dirty hand = record {
@@ -156,4 +159,4 @@ move_footing known move =
 
 -- the key of the fresh node's anchor
 abbrev pub cut_key : Plan → ℕ
-cut_key plan = three_words (plan_word plan 3) (plan_word plan 4) (plan_word plan 5)
+cut_key plan = number_of (anchor_words (plan_word plan))

@@ -11,6 +11,8 @@ use Rattle.pm_words.specs.declared.fence.Fence.{Fence}
 use Rattle.smo_log.specs.declared.open.Open.{Open}
 use Rattle.smo_log.specs.declared.state.Ready.{Ready}
 use Rattle.pm_words.specs.Fences.{fence_start, IsFence, fence_asks, fence_next, fence_left}
+use Rattle.data_node.specs.Spots.{bitmap_offset}
+use Rattle.data_node.specs.Lists.{next_offset}
 use Rattle.smo_log.specs.Opens.{IsOpen, open_from, open_asks, open_turned, open_left}
 use Rattle.smo_log.specs.States.{IsReady, ready_from, ready_asks, ready_turned, ready_left}
 use Rattle.split_merge.specs.declared.planning.Plan.{Plan}
@@ -73,10 +75,10 @@ move_at_asks plan (at.FenceFresh first fence) =
 move_at_asks plan (at.Open machine) = open_asks machine
 move_at_asks plan at.Prev = Store (prev_address plan.layout plan.fresh) plan.node
 move_at_asks plan at.Light = Store (status_address plan.layout plan.fresh) live_status
-move_at_asks plan at.Switch = Store (word_address plan.layout plan.node 2) plan.fresh
+move_at_asks plan at.Switch = Store (word_address plan.layout plan.node next_offset) plan.fresh
 move_at_asks plan (at.FenceSwitch fence) = fence_asks (word_address plan.layout plan.node fence.word) fence
 move_at_asks plan at.NextPrev = Store (prev_address plan.layout (next_in plan)) plan.fresh
-move_at_asks plan at.Trim = Store (word_address plan.layout plan.node 1) plan.keep
+move_at_asks plan at.Trim = Store (word_address plan.layout plan.node bitmap_offset) plan.keep
 move_at_asks plan (at.FenceTrim fence) = fence_asks (word_address plan.layout plan.node fence.word) fence
 move_at_asks plan (at.Ready ready) = ready_asks ready
 move_at_asks plan at.UnlockFresh = Store (version_address plan.layout plan.fresh) (plan.fresh_locked + 1)

@@ -4,11 +4,13 @@ use Rattle.std.specs.Prelude.{[], ◌∷◌, take, map, slice_index, Option, Som
 use Rattle.std.specs.Int.{w64, from_le_bytes}
 use Rattle.std.specs.List.{range_with_len}
 use Rattle.pm_words.specs.Layouts.{IsLayout}
+use Rattle.pm_words.specs.Codes.{split_kind}
 use Rattle.version_lock.specs.Versions.{IsLockWord}
 use Rattle.data_node.specs.Bits.{with_live}
 use Rattle.data_node.specs.Spots.{Spot, slot_offset, print_in_spot, name_words}
 use Rattle.data_node.specs.Orders.{comes_before}
-use Rattle.data_list.specs.Keys.{key_words, name_kept}
+use Rattle.data_node.specs.Lists.{next_offset, anchor_words}
+use Rattle.data_list.specs.Keys.{name_kept}
 use Rattle.smo_log.specs.declared.line.Entry.{Entry}
 use Rattle.smo_log.specs.LogLines.{IsEntryOf}
 use Rattle.split_merge.specs.declared.planning.Plan.{Plan}
@@ -63,7 +65,7 @@ some_words (Some name) words = words
 some_words None words = 0x2100000000000000 ∷ 0 ∷ 0 ∷ []
 
 unfoldable pub anchor_of : List ℕ → List ℕ
-anchor_of words = some_words (name_kept (key_words words)) words
+anchor_of words = some_words (name_kept words) words
 
 -- How many names move.
 abbrev pub moved_in : Plan → ℕ
@@ -96,15 +98,14 @@ plan_word plan offset =
 
 -- The node behind it; 0 is none.
 abbrev pub next_in : Plan → ℕ
-next_in plan = plan_word plan 2
+next_in plan = plan_word plan next_offset
 
 -- What the line is to say.
 abbrev pub entry_in : Plan → Entry
 entry_in plan = record {
-  kind = 1;
+  kind = split_kind;
   node = plan.fresh;
-  anchor =
-      plan_word plan 3 ∷ plan_word plan 4 ∷ plan_word plan 5 ∷ [];
+  anchor = anchor_words (plan_word plan);
   left = plan.node;
 }
 

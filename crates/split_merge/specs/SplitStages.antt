@@ -26,7 +26,7 @@ led next h = record h { known = record { seen = (next_offset, next) ∷ h.known.
 
 -- what it knows of the full node with so many words from the fingerprints on, and the last of these
 abbrev pub read_seen : List ℕ → ℕ → Held → List (ℕ × ℕ)
-read_seen full count h = words_onto (spot_of full) 8 count ((next_offset, spot_of full 2) ∷ h.known.seen)
+read_seen full count h = words_onto (spot_of full) 8 count ((next_offset, spot_of full next_offset) ∷ h.known.seen)
 
 abbrev pub last_read : List ℕ → ℕ → Option (ℕ × ℕ)
 last_read full zero = None

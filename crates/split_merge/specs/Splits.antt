@@ -6,6 +6,7 @@ use Rattle.pm_words.specs.declared.action.Action.TheVariants.{Load, Store}
 use Rattle.pm_words.specs.declared.again.Again.TheVariants as again
 use Rattle.pm_words.specs.declared.machine.Turn.{Turn}
 use Rattle.pm_words.specs.declared.machine.Turn.TheVariants.{Go, Done}
+use Rattle.data_node.specs.Lists.{next_offset}
 use Rattle.call_stages.specs.Kinds.{word_address, version_address, IsRefusal, Told}
 use Rattle.pm_alloc.specs.declared.claim.Claim.{Claim}
 use Rattle.pm_alloc.specs.declared.claim.Claimed.{Claimed}
@@ -61,7 +62,7 @@ abbrev pub move_from : Plan → Move
 move_from plan = record { plan = plan; at = move.Slot 0 }
 
 abbrev pub split_at_asks : Split → SplitAt → Action
-split_at_asks split at.Next = Load (word_address split.view.layout split.node 2)
+split_at_asks split at.Next = Load (word_address split.view.layout split.node next_offset)
 split_at_asks split (at.Take next take) = take_asks take
 split_at_asks split (at.Claim next line claim) = claim_asks claim
 split_at_asks split (at.Read share full count) = Load (word_address split.view.layout split.node (8 + count))

@@ -3,6 +3,7 @@ use Rattle.std.specs.Prelude.{◌≡◌, ℕ, ◌+◌, ◌-◌, ◌*◌, ◌/◌
 use Rattle.std.specs.Prelude.{length, slice_index}
 use Rattle.std.specs.Int.{w64, from_le_bytes}
 use Rattle.pm_words.specs.Layouts.{IsLayout}
+use Rattle.pm_words.specs.Codes.{merge_kind}
 use Rattle.version_lock.specs.Versions.{IsLockWord}
 use Rattle.data_node.specs.Bits.{live_count}
 use Rattle.data_node.specs.Slots.{prints_of}
@@ -54,7 +55,7 @@ behind_in union = head_word union 2
 -- What the line is to say.
 abbrev pub entry_in : Union → Entry
 entry_in union = record {
-  kind = 2;
+  kind = merge_kind;
   node = union.right;
   anchor = anchor_of (head_word union 3 ∷ head_word union 4 ∷ head_word union 5 ∷ []);
   left = union.node;

@@ -2,6 +2,8 @@
 use Rattle.std.proofs.Common.{◌≡◌, ℕ, ◌<◌, true, sym, subst, ap, ◌∙◌}
 use Rattle.pm_words.specs.declared.layout.Layout.{Layout}
 use Rattle.pm_words.specs.declared.action.Action.TheVariants.{Store}
+use Rattle.pm_words.specs.Codes.{empty_state}
+use Rattle.call_stages.specs.data_node.specs.Lines.{state_offset}
 use Rattle.data_list.specs.declared.walk.WalkAt.{WalkAt}
 use Rattle.data_list.specs.declared.walk.WalkAt.TheVariants as walk_at
 use Rattle.data_list.specs.Walks.{walk_at_asks}
@@ -46,7 +48,7 @@ module _ (t : Terms) (h : Heard) where
   does_at tally (at.Stamping line entry) here heard =
       subst (λ (e : Entry). Does t h (Store (stamp_address t.layout e.node) t.stamp)) (sym heard.2) (stamps here.0.within heard.1 (ap (λ (e : Entry). e.kind) (sym heard.2) ∙ heard.3))
   does_at tally (at.Clearing clear) here heard =
-      subst (λ (k : Layout). Does t h (Store (numbered_address k clear.line 0) 0)) (sym here.2) (empties here.0.within heard.1)
+      subst (λ (k : Layout). Does t h (Store (numbered_address k clear.line state_offset) empty_state)) (sym here.2) (empties here.0.within heard.1)
   does_at tally (at.Status node) here heard = loads
   does_at tally (at.Stamp node) here heard = loads
   does_at tally (at.Version node) here heard = loads

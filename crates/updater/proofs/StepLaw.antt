@@ -3,7 +3,7 @@ use Rattle.std.proofs.Common.{◌≡◌, ◌≢◌, ℕ, ◌+◌, ◌*◌, ◌<�
 use Rattle.std.proofs.Common.{List, [], ◌∷◌, inl, inr, refl, sym, subst, ap, ◌∙◌, arith}
 use Rattle.std.specs.Prelude.{slice_set}
 use Rattle.std.proofs.lemmas.Bool.{eqb-true, eqb-false, ltb-true, ltb-false, leb-true, leb-false}
-use Rattle.pm_words.specs.Codes.{gone_status, free_status, ready_state, merge_kind}
+use Rattle.pm_words.specs.Codes.{gone_status, free_status, ready_state, merge_kind, empty_state}
 use Rattle.pm_words.specs.declared.layout.Layout.{Layout}
 use Rattle.pm_words.specs.declared.action.Action.{Action}
 use Rattle.pm_words.specs.declared.action.Action.TheVariants.{Load, Store}
@@ -11,6 +11,7 @@ use Rattle.pm_words.specs.declared.machine.Turn.{Turn}
 use Rattle.pm_words.specs.declared.machine.Turn.TheVariants.{Go, Done}
 use Rattle.pm_words.specs.Locations.{Cached, address_of, row_words}
 use Rattle.pm_words.proofs.Apart.{addresses_within}
+use Rattle.call_stages.specs.data_node.specs.Lines.{state_offset}
 use Rattle.version_lock.specs.Versions.{is_worn_word, IsFree}
 use Rattle.version_lock.proofs.WordTests.{free_is}
 use Rattle.call_stages.specs.Kinds.{status_address, version_address, Told}
@@ -188,8 +189,8 @@ module _ (work : Work) where
   at_unsetting line entry change x (Done answer) sound step =
       subst (λ next. RowStep r (Changes (line_of line entry) change.word (stage_of change)) (change_asks change) x next) (change_after_is line entry) (steps.has_changed step)
 
-  at_clearing : (k : Layout) (line x : ℕ) → k ≡ l → line < line_count l → RowStep r (Clears line) (Store (numbered_address k line 0) 0) x (work_at_stage t (after_line t line))
-  at_clearing k line x same here = subst (λ (k : Layout). RowStep r (Clears line) (Store (numbered_address k line 0) 0) x (work_at_stage t (after_line t line))) (sym same)
+  at_clearing : (k : Layout) (line x : ℕ) → k ≡ l → line < line_count l → RowStep r (Clears line) (Store (numbered_address k line state_offset) empty_state) x (work_at_stage t (after_line t line))
+  at_clearing k line x same here = subst (λ (k : Layout). RowStep r (Clears line) (Store (numbered_address k line state_offset) empty_state) x (work_at_stage t (after_line t line))) (sym same)
       (to_line (Clears line) (Store (line_at l line 0) 0) x line (steps.empties here))
 
   at_status : (node x : ℕ) → node < l.nodes → RowStep r (Sweeps node) (Load (status_address l node)) x (work_at_stage t (saw_status t node x))

@@ -1,11 +1,10 @@
 -- Where a walk loads: words of nodes, and volatile words beside them, so none of a log line; and what it may be told.
-use Rattle.std.proofs.Common.{◌≡◌, ℕ, ◌<◌, refl, sym, subst, arith}
+use Rattle.std.proofs.Common.{◌≡◌, ℕ, ◌<◌, List, refl, sym, subst, arith}
 use Rattle.pm_words.specs.declared.layout.Layout.{Layout}
 use Rattle.pm_words.specs.declared.action.Action.{Action}
 use Rattle.pm_words.specs.declared.action.Action.TheVariants.{Load}
 use Rattle.pm_words.specs.Locations.{Location, Node, Line, Volatile, Cached, HasLocation, address_of}
 use Rattle.call_stages.specs.Kinds.{Told}
-use Rattle.data_list.specs.declared.key.KeyWords.{KeyWords}
 use Rattle.data_list.specs.declared.walk.Walk.{Walk}
 use Rattle.data_list.specs.declared.walk.WalkAt.{WalkAt}
 use Rattle.data_list.specs.declared.walk.WalkAt.TheVariants as walk_at
@@ -31,7 +30,7 @@ of_node l n offset here small = record { location = Cached (Node n offset); has 
 beside_node : (l : Layout) (n offset : ℕ) → n < l.nodes → offset < 16 → LoadsApart l (Load (address_of l (Volatile n offset)))
 beside_node l n offset here small = record { location = Volatile n offset; has = (here, small); apart = λ c j o is. cc; loads = refl }
 
-place_at : (l : Layout) (g : ℕ) (key : KeyWords) (node : ℕ) (at : WalkAt) → node < l.nodes → IsWalkAt l g key at → LoadsApart l (walk_at_asks l node at)
+place_at : (l : Layout) (g : ℕ) (key : List ℕ) (node : ℕ) (at : WalkAt) → node < l.nodes → IsWalkAt l g key at → LoadsApart l (walk_at_asks l node at)
 place_at l g key node walk_at.Version here is = of_node l node 0 here (omega arith)
 place_at l g key node (walk_at.Status version) here is = beside_node l node 0 here (omega arith)
 place_at l g key node (walk_at.First version) here is = of_node l node 3 here (omega arith)

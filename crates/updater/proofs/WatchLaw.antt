@@ -1,5 +1,5 @@
 -- Each turn is a watch, and sees the target that it finds.
-use Rattle.std.proofs.Common.{◌≡◌, ℕ, ◌+◌, ◌<◌, ◌==◌, ◌&&◌, not, Bool, true, false, cond, refl, sym, subst, ap, ◌∙◌}
+use Rattle.std.proofs.Common.{◌≡◌, ℕ, ◌+◌, ◌<◌, ◌==◌, ◌&&◌, not, Bool, true, false, cond, List, refl, sym, subst, ap, ◌∙◌}
 use Rattle.std.proofs.Common.{arith}
 use Rattle.pm_words.specs.Codes.{free_status}
 use Rattle.pm_words.specs.declared.layout.Layout.{Layout}
@@ -11,11 +11,9 @@ use Rattle.pm_words.specs.Locations.{Line, Cached, address_of}
 use Rattle.pm_words.proofs.Apart.{addresses_apart}
 use Rattle.call_stages.specs.Kinds.{Told}
 use Rattle.call_stages.specs.Watches.{Watching, Watch, lets_go}
-use Rattle.data_list.specs.declared.key.KeyWords.{KeyWords}
 use Rattle.data_list.specs.declared.target.Walked.{Walked}
 use Rattle.data_list.specs.declared.target.Walked.TheVariants as walked
 use Rattle.data_list.specs.declared.walk.Walk.{Walk}
-use Rattle.data_list.specs.Keys.{key_words}
 use Rattle.data_list.specs.Walks.{walk_asks, walk_turned, sighting_of}
 use Rattle.data_list.specs.WalkStages.{walk_watching, sight_in}
 use Rattle.data_list.specs.Laws.{WalkWatches}
@@ -86,7 +84,7 @@ module _ (work : Work) (w : Watching) (action : Action) (x : ℕ) where
   at_landing line entry (Go floor) = (lets_go, tt)
   at_landing line entry (Done hint) = (lets_go, tt)
 
-  walked_on : (line : ℕ) (entry : Entry) (turn : Turn Walk Walked) → WalkWatches l t.generation (key_words entry.anchor) w action x turn → Goes (has_walked work line entry turn).at
+  walked_on : (line : ℕ) (entry : Entry) (turn : Turn Walk Walked) → WalkWatches l t.generation entry.anchor w action x turn → Goes (has_walked work line entry turn).at
   walked_on line entry (Go next) watch = (watch, tt)
   walked_on line entry (Done (walked.Again why)) watch = past_line line
   walked_on line entry (Done (walked.Target target)) watch = (lets_go, record { sight = sight_in (sighting_of target); watch = watch.watch; seen = watch.seen })
@@ -94,7 +92,7 @@ module _ (work : Work) (w : Watching) (action : Action) (x : ℕ) where
   at_walking : (line : ℕ) (entry : Entry) (walk : Walk) (turn : Turn Walk Walked) → IsWalkTo t entry walk → WalkWatches walk.layout walk.generation walk.key w action x turn → Goes (has_walked work line entry turn).at
   at_walking line entry walk turn is watch =
       walked_on line entry turn
-      (subst (λ (key : KeyWords). WalkWatches l t.generation key w action x turn) is.key
+      (subst (λ (key : List ℕ). WalkWatches l t.generation key w action x turn) is.key
       (subst (λ (g : ℕ). WalkWatches l g walk.key w action x turn) is.generation
       (subst (λ (k : Layout). WalkWatches k walk.generation walk.key w action x turn) is.layout watch)))
 

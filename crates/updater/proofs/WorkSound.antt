@@ -9,6 +9,8 @@ use Rattle.pm_words.specs.declared.layout.Layout.{Layout}
 use Rattle.pm_words.specs.declared.action.Action.TheVariants.{Load}
 use Rattle.pm_words.specs.declared.machine.Turn.{Turn}
 use Rattle.pm_words.specs.declared.machine.Turn.TheVariants.{Go, Done}
+use Rattle.call_stages.specs.data_node.specs.Lists.{anchor_offset}
+use Rattle.call_stages.specs.data_node.specs.Lines.{line_node_offset}
 use Rattle.version_lock.specs.Versions.{is_worn_word}
 use Rattle.call_stages.specs.Kinds.{Told}
 use Rattle.data_list.specs.declared.target.Walked.{Walked}
@@ -167,19 +169,19 @@ module _ (work : Work) (terms : IsTerms work.terms) where
     words_fit : (k : ℕ) → slice_index words k < 2 ^ 64
     words_fit k = set_fits read.words read.offset x k inside fits (is.fits k)
 
-    node_within : 2 < read.offset + 1 → slice_index words 2 < l.nodes
-    node_within small = set_has (λ n. n < l.nodes) read.words read.offset x 2 inside
+    node_within : line_node_offset < read.offset + 1 → slice_index words line_node_offset < l.nodes
+    node_within small = set_has (λ n. n < l.nodes) read.words read.offset x line_node_offset inside
         (λ here. told.node read.line within (asked ∙ ap (λ o. Load (numbered_address l read.line o)) here)) is.node small
 
-    first_some : 3 < read.offset + 1 → slice_index words 3 ≢ 0
-    first_some small = set_has (λ n. n ≢ 0) read.words read.offset x 3 inside
+    first_some : anchor_offset < read.offset + 1 → slice_index words anchor_offset ≢ 0
+    first_some small = set_has (λ n. n ≢ 0) read.words read.offset x anchor_offset inside
         (λ here. told.named read.line within (asked ∙ ap (λ o. Load (numbered_address l read.line o)) here)) is.named small
 
     entry_known : read.offset ≡ 6 → IsEntry l (seen_in words).entry
     entry_known last = record {
       node = node_within (omega arith);
-      key = record { whole = refl; fits = λ k. three_fit (slice_index words 3) (slice_index words 4) (slice_index words 5) k (words_fit 3) (words_fit 4) (words_fit 5) };
-      named = nonzero_key (slice_index words 3) (slice_index words 4) (slice_index words 5) (first_some (omega arith));
+      key = record { whole = refl; fits = λ k. three_fit (slice_index words anchor_offset) (slice_index words (anchor_offset + 1)) (slice_index words (anchor_offset + 2)) k (words_fit anchor_offset) (words_fit (anchor_offset + 1)) (words_fit (anchor_offset + 2)) };
+      named = nonzero_key (slice_index words anchor_offset) (slice_index words (anchor_offset + 1)) (slice_index words (anchor_offset + 2)) (first_some (omega arith));
     }
 
     at_reading : IsOnLine t work.tally read.line → Stays (has_read work read.line (read_turned read x))

@@ -2,6 +2,8 @@
 use Rattle.std.specs.Prelude.{◌≡◌, ℕ, ◌<◌, true}
 use Rattle.pm_words.specs.declared.action.Action.{Action}
 use Rattle.pm_words.specs.declared.action.Action.TheVariants.{Load, Store}
+use Rattle.pm_words.specs.Codes.{empty_state, merge_kind}
+use Rattle.call_stages.specs.data_node.specs.Lines.{state_offset}
 use Rattle.call_stages.specs.Kinds.{status_address}
 use Rattle.pm_alloc.specs.Gone.{stamp_address}
 use Rattle.updater_row_law.specs.tree_update.specs.declared.change.Change.{Change}
@@ -22,10 +24,10 @@ pub data Does (terms : Terms) (h : Heard) : Action → Type 0 where
   leads : {line : ℕ} (change : Change) → line < line_count terms.layout → is_emptied h line ≡ true →
       change.layout ≡ terms.layout → change.key ≡ (h.entry line).anchor →
       change.word ≡ word_led (h.entry line) (h.walked line) → Does terms h (change_asks change)
-  stamps : {line : ℕ} → line < line_count terms.layout → is_emptied h line ≡ true → (h.entry line).kind ≡ 2 →
+  stamps : {line : ℕ} → line < line_count terms.layout → is_emptied h line ≡ true → (h.entry line).kind ≡ merge_kind →
       Does terms h (Store (stamp_address terms.layout (h.entry line).node) terms.stamp)
   empties : {line : ℕ} → line < line_count terms.layout → is_emptied h line ≡ true →
-      Does terms h (Store (numbered_address terms.layout line 0) 0)
+      Does terms h (Store (numbered_address terms.layout line state_offset) empty_state)
   unstamps : {node : ℕ} → node < terms.layout.nodes → is_freed terms h node ≡ true →
       Does terms h (Store (stamp_address terms.layout node) 0)
   frees : {node : ℕ} → node < terms.layout.nodes → is_freed terms h node ≡ true →

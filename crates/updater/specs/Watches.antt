@@ -5,9 +5,8 @@ use Rattle.pm_words.specs.declared.machine.Turn.{Turn}
 use Rattle.pm_words.specs.declared.machine.Turn.TheVariants.{Go, Done}
 use Rattle.call_stages.specs.Kinds.{Told}
 use Rattle.call_stages.specs.Watches.{Watching, Nothing, Watch}
+use Rattle.call_stages.specs.data_node.specs.Lists.{number_of}
 use Rattle.data_list.specs.declared.walk.Walk.{Walk}
-use Rattle.data_list.specs.Keys.{key_words}
-use Rattle.data_list.specs.Keys.{key_number as walk_number}
 use Rattle.data_list.specs.Walks.{walk_asks}
 use Rattle.data_list.specs.WalkStages.{walk_watching}
 use Rattle.layer_map.specs.Keys.{key_number}
@@ -58,7 +57,7 @@ TargetsAreSeen = (work : Work) (x : ℕ) (e : RowLine) (target : RowTarget) → 
 
 -- The walk's number of a key is that of the layer.
 abbrev pub KeysHaveOneNumber : Type 0
-KeysHaveOneNumber = (words : List ℕ) → walk_number (key_words words) ≡ key_number words
+KeysHaveOneNumber = (words : List ℕ) → number_of words ≡ key_number words
 
 -- While it walks, it may be told just what its walk may be told: a walk loads no word of a log line.
 abbrev pub WalksAreTold : Type 0

@@ -8,13 +8,14 @@ use Rattle.pm_words.specs.declared.action.Action.TheVariants.{Load, Store}
 use Rattle.pm_words.specs.declared.machine.Turn.{Turn}
 use Rattle.pm_words.specs.declared.machine.Turn.TheVariants.{Go, Done}
 use Rattle.pm_words.specs.Layouts.{IsLayout}
+use Rattle.call_stages.specs.data_node.specs.Lists.{anchor_offset}
+use Rattle.call_stages.specs.data_node.specs.Lines.{line_node_offset}
 use Rattle.version_lock.specs.Versions.{is_worn_word}
 use Rattle.call_stages.specs.Kinds.{version_address, status_address, Told}
 use Rattle.data_list.specs.declared.target.Target.{Target}
 use Rattle.data_list.specs.declared.target.Walked.{Walked}
 use Rattle.data_list.specs.declared.target.Walked.TheVariants as walked
 use Rattle.data_list.specs.declared.walk.Walk.{Walk}
-use Rattle.data_list.specs.Keys.{key_words}
 use Rattle.data_list.specs.Walks.{IsWalk, walk_from, walk_asks, walk_turned, walk_left}
 use Rattle.pm_alloc.specs.declared.gone.Release.{Release}
 use Rattle.pm_alloc.specs.Gone.{IsRelease, stamp_address, no_stamp, release_from, release_asks, release_turned}
@@ -89,7 +90,7 @@ lands terms line entry = at.Landing line entry (floor_starts terms.layout entry.
 
 abbrev pub walks : Terms → ℕ → Entry → ℕ → WorkAt
 walks terms line entry hint =
-    at.Walking line entry (walk_from terms.layout terms.generation hint (key_words entry.anchor))
+    at.Walking line entry (walk_from terms.layout terms.generation hint entry.anchor)
 
 -- it leads the anchor to the node that has it, and to none where the node in whose range it lies has another
 abbrev pub changes : Terms → ℕ → Entry → Found → WorkAt
@@ -252,15 +253,15 @@ pub record IsReading (l : Layout) (read : ReadLine) : Type 0 where
   pub some : 1 ≤ read.offset
   pub size : length read.words ≡ 7
   pub fits : (k : ℕ) → slice_index read.words k < 2 ^ 64
-  pub node : 2 < read.offset → slice_index read.words 2 < l.nodes
-  pub named : 3 < read.offset → slice_index read.words 3 ≢ 0
+  pub node : line_node_offset < read.offset → slice_index read.words line_node_offset < l.nodes
+  pub named : anchor_offset < read.offset → slice_index read.words anchor_offset ≢ 0
 
 -- it is a walk to the anchor
 pub record IsWalkTo (terms : Terms) (entry : Entry) (walk : Walk) : Type 0 where
   pub sound : IsWalk walk
   pub layout : walk.layout ≡ terms.layout
   pub generation : walk.generation ≡ terms.generation
-  pub key : walk.key ≡ key_words entry.anchor
+  pub key : walk.key ≡ entry.anchor
 
 abbrev pub IsWorkAt : Terms → Tally → WorkAt → Type 0
 IsWorkAt terms tally (at.State line) = IsOnLine terms tally line
@@ -295,8 +296,8 @@ pub record IsWork (work : Work) : Type 0 where
 
 -- What a line says that isn't EMPTY: a node of the layout, and a name, whose first word isn't 0, as its anchor.
 pub record ToldOfLine (l : Layout) (action : Action) (x : ℕ) : Type 0 where
-  pub node : (line : ℕ) → line < line_count l → action ≡ Load (numbered_address l line 2) → x < l.nodes
-  pub named : (line : ℕ) → line < line_count l → action ≡ Load (numbered_address l line 3) → x ≢ 0
+  pub node : (line : ℕ) → line < line_count l → action ≡ Load (numbered_address l line line_node_offset) → x < l.nodes
+  pub named : (line : ℕ) → line < line_count l → action ≡ Load (numbered_address l line anchor_offset) → x ≢ 0
 
 abbrev pub work_takes : Work → ℕ → Type 0
 work_takes work got =

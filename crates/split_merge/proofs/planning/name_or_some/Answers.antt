@@ -1,5 +1,4 @@
 use Rattle.std.proofs.Common.{ℕ, List, [], ◌∷◌, sym, ap, ◌∙◌}
-use Rattle.data_list.specs.Keys.{key_words}
 use Rattle.data_list.proofs.KeyLemmas.{one_name}
 use Rattle.split_merge.specs.Plans.{anchor_of, some_words}
 use Rattle.split_merge.proofs.planning.name_or_some.Goals as goal
@@ -9,7 +8,7 @@ unfolding anchor_of
 returns-in-Some c =
     let words : List ℕ = c.args.first ∷ c.args.second ∷ c.args.third ∷ [] in
     let e = c.of_words.ensures in
-    let kept = one_name (key_words words) c.of_words.result (record { some = e.some; named = e.name; whole = e.words }) in
+    let kept = one_name words c.of_words.result (record { some = e.some; named = e.name; whole = e.words }) in
     ap (λ found. some_words found words) (sym c.in-Some.is ∙ kept)
 
 pub returns-in-None : goal.returns-in-None
@@ -17,5 +16,5 @@ unfolding anchor_of
 returns-in-None c =
     let words : List ℕ = c.args.first ∷ c.args.second ∷ c.args.third ∷ [] in
     let e = c.of_words.ensures in
-    let kept = one_name (key_words words) c.of_words.result (record { some = e.some; named = e.name; whole = e.words }) in
+    let kept = one_name words c.of_words.result (record { some = e.some; named = e.name; whole = e.words }) in
     ap (λ found. some_words found words) (sym c.in-None.is ∙ kept)

@@ -2,7 +2,6 @@ use Rattle.std.proofs.Common.{Bool, cond, ap, sym, ◌∙◌}
 use Rattle.machine_runs.proofs.Inside.{same_bursts}
 use Rattle.std.proofs.Common.{refl, Some}
 use Rattle.data_list.specs.declared.walk.WalkAt.TheVariants as at
-use Rattle.data_list.specs.Keys.{words_in}
 use Rattle.data_list.specs.Walks.{target, hops_to}
 use Rattle.data_list.proofs.Arriving.{walk_is, high_within, high_bursts, arrives}
 use Rattle.data_list.proofs.walk.Walk.passes.Goals as goal
@@ -25,13 +24,13 @@ pub returns-then-is_below : goal.returns-then-is_below
 returns-then-is_below g c version low may =
     arrives c.args.self.now (at.HighFirst version low c.args.next) version low (Some (record {
       node = c.args.next;
-      anchor = words_in c.loads_anchor-high.result;
+      anchor = c.loads_anchor-high.result;
     }))
     (high_bursts c.args.self.now version low c.args.next may c.loads_anchor-high.ensures.row
     c.loads_anchor-high.ensures.anchor c.loads_anchor-high.ensures.steps)
     (ap (λ (b : Bool). cond b (target c.args.self.now version low (Some (record {
       node = c.args.next;
-      anchor = words_in c.loads_anchor-high.result;
+      anchor = c.loads_anchor-high.result;
     }))) (hops_to c.args.self.now c.args.next)) (sym c.is_below.ensures ∙ c.if-is_below.true))
 
 pub returns : goal.returns
@@ -41,5 +40,5 @@ returns g c version low may =
     c.loads_anchor-high.ensures.anchor c.loads_anchor-high.ensures.steps)
     (ap (λ (b : Bool). cond b (target c.args.self.now version low (Some (record {
       node = c.args.next;
-      anchor = words_in c.loads_anchor-high.result;
+      anchor = c.loads_anchor-high.result;
     }))) (hops_to c.args.self.now c.args.next)) (sym c.is_below.ensures ∙ c.if-is_below.false))
