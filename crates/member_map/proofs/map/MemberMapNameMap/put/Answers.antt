@@ -1,77 +1,78 @@
-use Rattle.std.proofs.Common.{◌≡◌, Some, sym, ap, ◌∙◌, arith}
+use Rattle.std.proofs.Common.{◌≡◌, Some, get_or, set, sym, ap, ◌∙◌, arith}
 use Rattle.std.proofs.lemmas.Bool.{false≢true}
 use Rattle.std.specs.FinMap.{insert}
 use Rattle.cat_key.specs.declared.Pair.{Pair}
 use Rattle.cat_history.specs.Maps.{at, map_of}
+use Rattle.cat_history.specs.Replays.{pairs_of}
 use Rattle.cat_history.proofs.PairLemmas.{at-lacking}
 use Rattle.shapes.specs.Anchors.{put_anchors}
 use Rattle.shapes.proofs.Shapes.{put_keeps_shape}
 use Rattle.member_map.specs.Members.{anchors_of}
 use Rattle.member_map.proofs.OrderedPairs.{nameless, written-pairs, at-pair, many-pairs}
 use Rattle.member_map.proofs.Keeping.{pairs-map, made-members, there-is-not-full, there-splits-none, room-for-one}
+use Rattle.member_map.proofs.map.MemberMapNameMap.put.Goals.{After-index_mut, In-Some}
 use Rattle.member_map.proofs.map.MemberMapNameMap.put.Goals as goal
 
 -- ---- the name is there
 
-pub invariant_of-self : goal.invariant_of-self
-invariant_of-self c =
+has : (c : In-Some) (d : Pair) → at (map_of c.self.inside.pairs.items) c.args.name.now ≡ Some (get_or c.self.inside.pairs.items c.in-Some.position d).value
+has c d =
     let within = rw c.deref.ensures.value at c.in-Some.ensures.within in
     let named = rw c.deref.ensures.value at c.in-Some.ensures.named in
+    at-pair (map_of c.self.inside.pairs.items) c.self.inside.pairs.items c.in-Some.position c.args.name.now d c.self.invariant.0.in_order within (named nameless)
+
+-- with another number in its pair the map has that
+written : (c : In-Some) → set c.self.inside.pairs.items c.in-Some.position (record { name = c.args.name.now; value = c.args.value }) ≡ pairs_of (insert (map_of c.self.inside.pairs.items) c.args.name.now c.args.value)
+written c =
+    let within = rw c.deref.ensures.value at c.in-Some.ensures.within in
+    let named = rw c.deref.ensures.value at c.in-Some.ensures.named in
+    written-pairs (map_of c.self.inside.pairs.items) c.self.inside.pairs.items c.in-Some.position c.args.name.now c.args.value c.self.invariant.0.in_order within (named nameless)
+
+name_is : (c : After-index_mut) → c.index_mut.result.now.name ≡ c.args.name.now
+name_is c =
+    let named = rw c.deref.ensures.value at c.in-Some.ensures.named in
+    ap (λ (p : Pair). p.name) c.index_mut.ensures.value ∙ named c.index_mut.result.now
+
+pub invariant_of-self : goal.invariant_of-self
+invariant_of-self c =
     let slots = c.self.inside.slots in
     let nodes = c.self.inside.nodes in
-    let pairs = c.self.inside.pairs.items in
+    let m = map_of c.self.inside.pairs.items in
     let anchors = anchors_of c.self.inside.bounds.items in
     let name = c.args.name.now in
     let was = c.self.invariant.0 in
-    let name_is : c.index_mut.result.now.name ≡ name = ap (λ (p : Pair). p.name) c.index_mut.ensures.value ∙ named c.index_mut.result.now in
-    let has = at-pair (map_of pairs) pairs c.in-Some.position name nameless was.in_order within (named nameless) in
-    let shape = put_keeps_shape slots nodes (map_of pairs) anchors name c.args.value was.halves was.shape (there-is-not-full slots nodes (map_of pairs) anchors name _ has) in (
-      rw (name_is, c.replace-old.ensures.after)
-          (made-members slots nodes (insert (map_of pairs) name c.args.value) (put_anchors slots (map_of pairs) anchors name) _ c.self.inside.bounds.items was.halves
-          (written-pairs (map_of pairs) pairs c.in-Some.position name c.args.value was.in_order within (named nameless))
-          (sym (there-splits-none slots (map_of pairs) anchors name _ has)) shape),
+    let at = goal.at.invariant_of-self c in
+    let had = has at.In-Some nameless in
+    let shape = put_keeps_shape slots nodes m anchors name c.args.value was.halves was.shape (there-is-not-full slots nodes m anchors name _ had) in (
+      rw (name_is at.After-index_mut, c.replace-old.ensures.after)
+          (made-members slots nodes (insert m name c.args.value) (put_anchors slots m anchors name) _ c.self.inside.bounds.items was.halves (written at.In-Some)
+          (sym (there-splits-none slots m anchors name _ had)) shape),
       c.self.invariant.1,
     )
 
 pub returns-in-Some-clause-old : goal.returns-in-Some-clause-old
 returns-in-Some-clause-old c =
-    let within = rw c.deref.ensures.value at c.in-Some.ensures.within in
-    let named = rw c.deref.ensures.value at c.in-Some.ensures.named in
-    let pairs = c.self.inside.pairs.items in
     ap Some (c.replace-old.ensures.value ∙ ap (λ (p : Pair). p.value) c.index_mut.ensures.value)
-    ∙ sym (at-pair (map_of pairs) pairs c.in-Some.position c.args.name.now c.index_mut.result.now c.self.invariant.0.in_order within (named nameless))
+    ∙ sym (has (goal.at.returns-in-Some-clause-old c).In-Some c.index_mut.result.now)
     ∙ ap (λ m. at m.contents c.args.name.now) c.self.view_is
 
 pub returns-in-Some-clause-ok : goal.returns-in-Some-clause-ok
 returns-in-Some-clause-ok c =
-    let within = rw c.deref.ensures.value at c.in-Some.ensures.within in
-    let named = rw c.deref.ensures.value at c.in-Some.ensures.named in
-    let pairs = c.self.inside.pairs.items in
     let name = c.args.name.now in
-    let name_is : c.index_mut.result.now.name ≡ name = ap (λ (p : Pair). p.name) c.index_mut.ensures.value ∙ named c.index_mut.result.now in
-    rw (name_is, c.replace-old.ensures.after)
-    (pairs-map (insert (map_of pairs) name c.args.value) _
-    (written-pairs (map_of pairs) pairs c.in-Some.position name c.args.value c.self.invariant.0.in_order within (named nameless))
+    rw (name_is (goal.at.returns-in-Some-clause-ok c).After-index_mut, c.replace-old.ensures.after)
+    (pairs-map (insert (map_of c.self.inside.pairs.items) name c.args.value) _ (written (goal.at.returns-in-Some-clause-ok c).In-Some)
     ∙ ap (λ m. insert m.contents name c.args.value) c.self.view_is)
 
 pub returns-in-Some-clause-splits : goal.returns-in-Some-clause-splits
 returns-in-Some-clause-splits c =
-    let within = rw c.deref.ensures.value at c.in-Some.ensures.within in
-    let named = rw c.deref.ensures.value at c.in-Some.ensures.named in
-    let pairs = c.self.inside.pairs.items in
-    let has = at-pair (map_of pairs) pairs c.in-Some.position c.args.name.now nameless c.self.invariant.0.in_order within (named nameless) in
-    sym (there-splits-none c.self.inside.slots (map_of pairs) (anchors_of c.self.inside.bounds.items) c.args.name.now _ has)
+    sym (there-splits-none c.self.inside.slots (map_of c.self.inside.pairs.items) (anchors_of c.self.inside.bounds.items) c.args.name.now _ (has (goal.at.returns-in-Some-clause-splits c).In-Some nameless))
     ∙ ap (λ m. put_anchors m.slots m.contents m.anchors c.args.name.now) c.self.view_is
 
 pub returns-in-Some-clause-full : goal.returns-in-Some-clause-full
 returns-in-Some-clause-full c =
-    let within = rw c.deref.ensures.value at c.in-Some.ensures.within in
-    let named = rw c.deref.ensures.value at c.in-Some.ensures.named in
-    let pairs = c.self.inside.pairs.items in
     let now = c.args.self.now in
-    let has = ap (λ m. at m.contents c.args.name.now) (sym c.self.view_is)
-    ∙ at-pair (map_of pairs) pairs c.in-Some.position c.args.name.now nameless c.self.invariant.0.in_order within (named nameless) in
-    (λ e. absurd (false≢true e), λ full. absurd (there-is-not-full now.slots now.nodes now.contents now.anchors c.args.name.now _ has full))
+    let had = ap (λ m. at m.contents c.args.name.now) (sym c.self.view_is) ∙ has (goal.at.returns-in-Some-clause-full c).In-Some nameless in
+    (λ e. absurd (false≢true e), λ full. absurd (there-is-not-full now.slots now.nodes now.contents now.anchors c.args.name.now _ had full))
 
 -- ---- it isn't
 
