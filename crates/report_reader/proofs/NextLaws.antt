@@ -52,6 +52,9 @@ pub record BeginWith (done all : List Record) (a : RoundReport) (x y : Lines) : 
   pub lines : flat_map record_lines more ++ last_fields a ∷ x ≡ y
   pub is : AllByRecursion IsReportRecord more
 
+begin_more : (r q : Record) (done all : List Record) (a : RoundReport) (x y : Lines) → q ≡ r → BeginWith done all a x y → BeginWith (r ∷ done) (q ∷ all) a x y
+begin_more r q done all a x y same rest = record { more = rest.more; whole = λ j. same j ∷ rest.whole j; lines = rest.lines; is = rest.is }
+
 begin_behind : (caller caller' index index' : ℕ) (done all : List Record) (a : RoundReport) (x y : Lines) → caller ≡ caller' → index ≡ index' →
     StandBehind caller index done → StandBehind caller' index' all → AllByRecursion IsReportRecord done → AllByRecursion IsReportRecord all →
     flat_map record_lines all ++ last_fields a ∷ x ≡ flat_map record_lines done ++ y → BeginWith done all a x y
@@ -63,12 +66,7 @@ begin_behind c c' i i' (r ∷ done) (q ∷ all) a x y callers indexes stand stan
     (sym (split q all a x) ∙ same ∙ append_assoc (record_lines r) (flat_map record_lines done) y) in
     let numbers = index_one c' c i' i q r (sym callers) (sym indexes) first.caller stand'.0 stand.0 in
     let rest = begin_behind r.caller q.caller r.index q.index done all a x y (sym first.caller) (sym numbers) stand.1 stand'.1 is.1 is'.1 first.rest in
-    record {
-      more = rest.more;
-      whole = λ j. record { caller = first.caller j; index = numbers j; op = first.op j; reply = first.reply j } ∷ rest.whole j;
-      lines = rest.lines;
-      is = rest.is;
-    }
+    begin_more r q done all a x y (λ j. record { caller = first.caller j; index = numbers j; op = first.op j; reply = first.reply j }) rest
 
 pub begin_records : (done all : List Record) (a : RoundReport) (x y : Lines) → StandByCaller done → StandByCaller all →
     AllByRecursion IsReportRecord done → AllByRecursion IsReportRecord all → flat_map record_lines all ++ last_fields a ∷ x ≡ flat_map record_lines done ++ y →
@@ -81,12 +79,7 @@ begin_records (r ∷ done) (q ∷ all) a x y stand stand' is is' same =
     (sym (split q all a x) ∙ same ∙ append_assoc (record_lines r) (flat_map record_lines done) y) in
     let numbers = stand'.0 ∙ sym stand.0 in
     let rest = begin_behind r.caller q.caller r.index q.index done all a x y (sym first.caller) (sym numbers) stand.1 stand'.1 is.1 is'.1 first.rest in
-    record {
-      more = rest.more;
-      whole = λ j. record { caller = first.caller j; index = numbers j; op = first.op j; reply = first.reply j } ∷ rest.whole j;
-      lines = rest.lines;
-      is = rest.is;
-    }
+    begin_more r q done all a x y (λ j. record { caller = first.caller j; index = numbers j; op = first.op j; reply = first.reply j }) rest
 
 -- the first of records stand where all do
 stand_behind_first : (caller index : ℕ) (done : List Record) (q : Record) (more : List Record) → StandBehind caller index (done ++ q ∷ more) → StandBehind caller index (done ++ q ∷ [])

@@ -51,36 +51,32 @@ read_on bytes rest line more number was now to cut is read =
       short = omega (arith, to.short, ap length cut, length-append line (10 ∷ more));
     }
 
-pub refuse_line : (bytes rest line more : List ℕ) (number : ℕ) (r : Reading) (why : LineFault) → IsReadTo bytes rest number r → rest ≡ line ++ 10 ∷ more → IsLine line →
-    FailsBy (¬ MayCome r (fields_of line)) why → IsRefusal bytes (fault_at number why)
-refuse_line bytes rest line more number r Outside to cut is fails = record {
+-- so it is the first line outside of a text where what follows is that
+outside_here : (bytes rest : List ℕ) (number : ℕ) (r : Reading) (to : IsReadTo bytes rest number r) → GoesOutside to.before rest → IsFirstOutside bytes number
+outside_here bytes rest number r to outside = record {
   before = to.before;
   rest = rest;
   cut = to.cut;
   lines = to.lines;
   counted = to.counted;
   begins = text_begins (text_of_lines to.before) r to.is to.text;
-  outside = inl (
-    line,
-    more,
-    cut ∙ sym (append_assoc line (codes "\n") more),
-    is,
-    λ begins. line_is_outside (text_of_lines to.before) line r to.is to.text is fails (subst BeginsText (more_text to.before line) begins),
-  );
+  outside = outside;
 }
+
+pub refuse_line : (bytes rest line more : List ℕ) (number : ℕ) (r : Reading) (why : LineFault) → IsReadTo bytes rest number r → rest ≡ line ++ 10 ∷ more → IsLine line →
+    FailsBy (¬ MayCome r (fields_of line)) why → IsRefusal bytes (fault_at number why)
+refuse_line bytes rest line more number r Outside to cut is fails = outside_here bytes rest number r to (inl (
+  line,
+  more,
+  cut ∙ sym (append_assoc line (codes "\n") more),
+  is,
+  λ begins. line_is_outside (text_of_lines to.before) line r to.is to.text is fails (subst BeginsText (more_text to.before line) begins),
+))
 refuse_line bytes rest line more number r NoMemory to cut is fails = tt
 
 pub refuse_rest : (bytes rest : List ℕ) (number : ℕ) (r : Reading) → IsReadTo bytes rest number r → IsLine rest →
     (rest ≡ [] → (report : List RoundReport) → IsReport report → lines_read r ≡ report_lines report → ⊥) → IsFirstOutside bytes number
-refuse_rest bytes rest number r to is fails = record {
-  before = to.before;
-  rest = rest;
-  cut = to.cut;
-  lines = to.lines;
-  counted = to.counted;
-  begins = text_begins (text_of_lines to.before) r to.is to.text;
-  outside = inr (is, rest_is_outside (text_of_lines to.before) rest r to.is to.text is fails);
-}
+refuse_rest bytes rest number r to is fails = outside_here bytes rest number r to (inr (is, rest_is_outside (text_of_lines to.before) rest r to.is to.text is fails))
 
 pub accept : (bytes rest : List ℕ) (number : ℕ) (r : Reading) (report : List RoundReport) → IsReadTo bytes rest number r → rest ≡ [] →
     IsReport report → lines_read r ≡ report_lines report → IsReportText bytes report
