@@ -1,11 +1,8 @@
 //! Log lines on a row of words: taken, opened, made READY, read and cleared.
 
-ghost use Rattle.std.specs.Prelude.{◌≡◌, ◌<◌, IfOk};
+ghost use Rattle.std.specs.Prelude.{◌≡◌, ◌<◌, ◌^◌, ℕ, IfOk};
 ghost use Rattle.pm_words.specs.Layouts.{IsLayout};
-ghost use Rattle.smo_log.specs.Takes.{IsTake};
-ghost use Rattle.smo_log.specs.Opens.{IsOpen};
-ghost use Rattle.smo_log.specs.States.{IsReady};
-ghost use Rattle.smo_log.specs.Reads.{IsRead};
+ghost use Rattle.tests_nodes.specs.Machines.{StaysSo};
 
 use pm_words::codes::kind::SPLIT;
 use pm_words::{Action, Layout, Machine, Turn};
@@ -61,56 +58,12 @@ impl Row {
     }
 }
 
-fn take(rt: &impl Abort, row: &mut Row, machine: Take) -> Taken
-    requires { IsTake machine }
-    ensures { row.new.layout ≡ row.old.layout }
-{
-    let mut turn = Turn::Go(machine);
-    'turns: loop {
-        match turn {
-            Turn::Done(answer) => return answer,
-            Turn::Go(next) => {
-                let got = row.act(rt, next.action());
-                turn = next.resume(got);
-            }
-        }
-    }
-}
-
-fn open(rt: &impl Abort, row: &mut Row, machine: Open)
-    requires { IsOpen machine }
-    ensures { row.new.layout ≡ row.old.layout }
-{
-    let mut turn = Turn::Go(machine);
-    'turns: loop {
-        match turn {
-            Turn::Done(answer) => return answer,
-            Turn::Go(next) => {
-                let got = row.act(rt, next.action());
-                turn = next.resume(got);
-            }
-        }
-    }
-}
-
-fn make_ready(rt: &impl Abort, row: &mut Row, machine: Ready)
-    requires { IsReady machine }
-    ensures { row.new.layout ≡ row.old.layout }
-{
-    let mut turn = Turn::Go(machine);
-    'turns: loop {
-        match turn {
-            Turn::Done(answer) => return answer,
-            Turn::Go(next) => {
-                let got = row.act(rt, next.action());
-                turn = next.resume(got);
-            }
-        }
-    }
-}
-
-fn read(rt: &impl Abort, row: &mut Row, machine: ReadLine) -> LineSeen
-    requires { IsRead machine }
+/// Runs a machine to its answer.
+fn run<M: Machine + Drop>(rt: &impl Abort, row: &mut Row, machine: M) -> M::Answer
+    requires fits { M.fits machine }
+    // It may be told any number, and its fields keep the same.
+    requires takes { (m : _) (got : ℕ) → M.fits m → got < 2 ^ 64 → M.takes m got }
+    requires stays { (m : _) (got : ℕ) → M.fits m → got < 2 ^ 64 → StaysSo M.fits (M.turned m got) }
     ensures { row.new.layout ≡ row.old.layout }
 {
     let mut turn = Turn::Go(machine);
@@ -141,7 +94,7 @@ fn taken(rt: &impl Abort, row: &mut Row, caller: u64) -> Taken
     ensures { row.new.layout ≡ row.old.layout }
 {
     assert!(rt; caller < row.layout.callers());
-    take(rt, row, Take::new(row.layout, caller))
+    run(rt, row, Take::new(row.layout, caller))
 }
 
 /// Stores a word of a line, which doesn't make it durable.
@@ -182,11 +135,11 @@ fn one_line(rt: HostRuntime) -> Result<(), Fail> {
         anchor: [0x63 << 56, 0, 0],
         left: 1,
     };
-    open(&rt, &mut row, Open::new(layout, 10, entry));
+    run(&rt, &mut row, Open::new(layout, 10, entry));
     let words = [1, 1, 2, 0x63 << 56, 0, 0, 1, 0];
     assert_eq!(rt; rows(&rt, &row, 10), (words, words));
-    make_ready(&rt, &mut row, Ready::new(layout, 10));
-    let seen = read(&rt, &mut row, ReadLine::new(layout, 10));
+    run(&rt, &mut row, Ready::new(layout, 10));
+    let seen = run(&rt, &mut row, ReadLine::new(layout, 10));
     let states = [row.twins(&rt, 10, 0), row.twins(&rt, 9, 0)];
     assert!(rt; seen == LineSeen { state: 2, entry } && states == [(2, 2), (2, 0)]);
     Ok(())
