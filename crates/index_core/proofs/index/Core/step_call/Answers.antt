@@ -28,6 +28,7 @@ use Rattle.index_core.proofs.Answering.{says_of}
 use Rattle.index_core.proofs.Lists.{within, read_is}
 use Rattle.index_core.proofs.Reading.{Reads, reads, Leaves, leaves}
 use Rattle.index_core.proofs.Stepping.{adds_if_counts, count_room}
+use Rattle.index_core.proofs.index.Core.step_call.Goals.{After-running-machine}
 use Rattle.index_core.proofs.index.Core.step_call.Goals as goal
 
 pub index-requires : goal.index-requires
@@ -58,28 +59,27 @@ running-machine-requires g c =
     let read = read_is s.states i e c.index.result.now there c.index.ensures in
     subst IsSome (sym (ap (λ (d : PartyState). d.machine) read ∙ flies.flies)) refl
 
+-- what it has read of the party and its machine
+reads_first : (g : _) (c : After-running-machine g) → Reads (index_with c.self.inside 0) c.args.party c.requires.flies.state c.index.result.now c.requires.flies.machine c.running-machine.result.now
+reads_first g c =
+    reads (index_with c.self.inside 0) c.args.self.now c.args.party c.requires.flies c.index.result.now c.running-machine.result.now (ap (λ (v : Index). v.states) c.self.view_is) c.self.invariant.0
+    c.index.ensures c.running-machine.ensures
+
 pub action-action-requires : goal.action-action-requires
 action-action-requires g c =
-    let s = index_with c.self.inside 0 in
-    let i = c.args.party in
-    let flies = c.requires.flies in
-    let at = reads s c.args.self.now i flies c.index.result.now c.running-machine.result.now (ap (λ (v : Index). v.states) c.self.view_is) c.self.invariant.0 c.index.ensures c.running-machine.ensures in
+    let at = reads_first g (goal.at.action-action-requires g c).After-running-machine in
     subst IsRunning (sym at.same) at.facts.fits
 
 pub count-requires-clause-fits : goal.count-requires-clause-fits
 count-requires-clause-fits g c =
-    let s = index_with c.self.inside 0 in
-    let i = c.args.party in
-    let flies = c.requires.flies in
-    let at = reads s c.args.self.now i flies c.index.result.now c.running-machine.result.now (ap (λ (v : Index). v.states) c.self.view_is) c.self.invariant.0 c.index.ensures c.running-machine.ensures in
+    let at = reads_first g (goal.at.count-requires-clause-fits g c).After-running-machine in
     subst IsRunning (sym at.same) at.facts.fits
 
 pub count-requires-clause-adds : goal.count-requires-clause-adds
 count-requires-clause-adds g c =
     let s = index_with c.self.inside 0 in
-    let i = c.args.party in
     let flies = c.requires.flies in
-    let at = reads s c.args.self.now i flies c.index.result.now c.running-machine.result.now (ap (λ (v : Index). v.states) c.self.view_is) c.self.invariant.0 c.index.ensures c.running-machine.ensures in
+    let at = reads_first g (goal.at.count-requires-clause-adds g c).After-running-machine in
     let asks : c.action-action.result ≡ running_asks flies.machine = c.action-action.ensures ∙ ap running_asks at.same in
     subst (λ (q : Action × Running). IfSome (counted (stage_of q.1)) (λ _. IsAdd q.0)) (λ k. (sym asks k, sym at.same k))
     (adds_if_counts s.layout (length s.history) (running_asks flies.machine) (told s flies.machine) (counted (stage_of flies.machine)) at.facts.counts)
@@ -87,9 +87,7 @@ count-requires-clause-adds g c =
 pub act-got-requires : goal.act-got-requires
 act-got-requires g c =
     let s = index_with c.self.inside 0 in
-    let i = c.args.party in
-    let flies = c.requires.flies in
-    let at = reads s c.args.self.now i flies c.index.result.now c.running-machine.result.now (ap (λ (v : Index). v.states) c.self.view_is) c.self.invariant.0 c.index.ensures c.running-machine.ensures in
+    let at = reads_first g (goal.at.act-got-requires g c).After-running-machine in
     subst (CanAct s.layout s.words) (sym (c.action-action.ensures ∙ ap running_asks at.same)) at.facts.can
 
 pub count-requires-clause-room : goal.count-requires-clause-room
@@ -99,7 +97,7 @@ count-requires-clause-room g c =
     let flies = c.requires.flies in
     let e = flies.state in
     let m = flies.machine in
-    let at = reads s c.args.self.now i flies c.index.result.now c.running-machine.result.now (ap (λ (v : Index). v.states) c.self.view_is) c.self.invariant.0 c.index.ensures c.running-machine.ensures in
+    let at = reads_first g (goal.at.count-requires-clause-room g c).After-running-machine in
     count_room s i e c.index.result.now m (counted (stage_of c.running-machine.result.now)) _ _ at.there flies.flies at.read (ap (λ (n : Running). counted (stage_of n)) at.same) c.self.invariant.1
 
 pub advance-requires : goal.advance-requires
@@ -108,7 +106,7 @@ advance-requires g c =
     let i = c.args.party in
     let flies = c.requires.flies in
     let m = flies.machine in
-    let at = reads s c.args.self.now i flies c.index.result.now c.running-machine.result.now (ap (λ (v : Index). v.states) c.self.view_is) c.self.invariant.0 c.index.ensures c.running-machine.ensures in
+    let at = reads_first g (goal.at.advance-requires g c).After-running-machine in
     let given : c.act-got.result ≡ told s m = c.act-got.ensures.got ∙ ap (got s.layout s.words) (c.action-action.ensures ∙ ap running_asks at.same) in
     let there = ap (λ (v : Index). get_elem? v.states i) c.self.view_is ∙ flies.there in
     let read = read_is s.states i flies.state c.index_mut.result.now there c.index_mut.ensures.value in
