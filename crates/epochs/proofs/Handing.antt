@@ -7,7 +7,7 @@ use Rattle.epochs.specs.declared.rule.PinMember.{PinMember}
 use Rattle.epochs.specs.declared.seat.EpochSeat.{EpochSeat}
 use Rattle.epochs.specs.declared.shared.Epochs.{Epochs}
 use Rattle.epochs.specs.Kept.{party, new_member, new_members, first_of}
-use Rattle.epochs.specs.Seats.{IsSettled, IsSeatOf, HasSeats, AreNew, AreUnpinned, IsUnpinned, known_by}
+use Rattle.epochs.specs.Seats.{IsSettled, IsSeatOf, HasSeats, AreNew, known_by}
 
 module _ {A : Type 0} where
   -- the last one stands at the length of those before it
