@@ -1,7 +1,7 @@
 -- Each step of a machine keeps the table's rule, by the core's law on a step of a party's machine.
 use Rattle.std.proofs.Common.{◌≡◌, ◌≢◌, ℕ, zero, suc, ◌+◌, ◌<◌, ◌≤◌, ◌%◌, ◌^◌, ◌⊎◌, inl, ⊎_elim, true, List, [], ◌∷◌, ◌++◌, length, set, refl, sym, ap, ◌∙◌, subst, arith}
 use Rattle.std.specs.Prelude.{Option, Some, None, IfSome, slice_index}
-use mathlib.Core.Option.{some, some-injective, some-ne-none}
+use mathlib.Core.Option.{some}
 use lib.ListN.{get_elem?}
 use Rattle.cat_history.specs.Maps.{map_of}
 use Rattle.cat_history.specs.declared.op.Change.{Change}
@@ -32,18 +32,20 @@ use Rattle.index_core.specs.MachineLaws.{ReadyAfter, showing, showing_after}
 use Rattle.cat_history.specs.declared.op.NameOp.{NameOp}
 use Rattle.index_law.specs.Weights.{weight_sum}
 use Rattle.index_core.specs.Indexes.{Index, IsIndex, world, view_of, started_index, stepped_index}
-use Rattle.index_core.proofs.Lists.{some_same}
+use Rattle.index_core.proofs.Lists.{set_twice, some_same}
 use Rattle.index_core.proofs.CrashLaws.{placed_are_timely}
 use Rattle.index_core.proofs.MachineLaw.{machine_law, begin_law}
 use Rattle.atomic_table.specs.Table.{State, Me, keeps}
+use Rattle.epochs.proofs.ViewSums.{in_set, in_two}
+use Rattle.pac_index.proofs.Rows.{alone}
 use Rattle.pac_index.specs.declared.rule.About.{About}
 use Rattle.pac_index.specs.declared.rule.AnsweredPart.{AnsweredPart}
 use Rattle.pac_index.specs.declared.rule.Member.{Member}
 use Rattle.pac_index.specs.Kept.{AllKnow, IsPartKnown, KnowsParts, answered_now}
-use Rattle.pac_index.specs.Kept.{index_of, placed_by, noted, Fits, AllFit, times_in, times_in_all, IsHalfPaid, AllPaid, Kept, added_now, Goes, GoesTimely, ListsNow, Tells, Starts, May, party, IsLone, machine_in, calling}
+use Rattle.pac_index.specs.Kept.{index_of, placed_by, noted, Fits, AllFit, added_of, one_of, times_in, times_in_all, IsHalfPaid, AllPaid, Kept, added_now, Goes, GoesTimely, ListsNow, Tells, Starts, May, party, IsLone, machine_in, calling}
 use Rattle.pac_index.proofs.Known.{answered_known, each_both, known_on}
 use Rattle.pac_index.proofs.PartRuns.{lists_now}
-use Rattle.pac_index.proofs.Lists.{begins_more, begins_self, begins_le, placed_append, own_placed, others_keep, times_there, times_two, times_set, added_set}
+use Rattle.pac_index.proofs.Lists.{begins_more, begins_self, begins_le, placed_append, own_placed, others_keep, times_there}
 
 after_caller : (e : PartyState) (turn : Turn Running (Once Placed)) → (state_after e turn).caller ≡ e.caller
 after_caller e (Go m) = refl
@@ -58,11 +60,6 @@ showing_is e o (Done answer) = omega arith
 told_place : (l : Layout) (n x c i : ℕ) (a : Action) (o : Option Change) → Counts l n a x o → noted n (written c i o) ≡ noted x (written c i o)
 told_place l n x c i a None counts = refl
 told_place l n x c i a (Some change) counts = ap (λ (k : ℕ). noted k (written c i (Some change))) (sym counts.1)
-
--- the only party of a view of one
-alone : (P : Member → Type 0) (w : Member) → P w → (k : ℕ) (u : Member) → get_elem? (w ∷ []) k ≡ some u → P u
-alone P w is zero u at = subst P (some-injective w u at) is
-alone P w is (suc k) u at = absurd (some-ne-none u (sym at))
 
 -- what a party knows is kept where another one's state changes and the history grows by that one's writes
 grown : (about : About) (states : List PartyState) (h : List Write) (e now : PartyState) (o : Option Change) (u : Member) → e.caller ≢ u.state.caller → Fits about states h u
@@ -87,7 +84,7 @@ stayed about states h c now u apart f = record {
 apart : (n : ℕ) (views : List (List Member)) (i j : ℕ) (v u : Member) (view : List Member) (k : ℕ) → times_in_all n views ≤ 1 → v.state.caller ≡ n → get_elem? views i ≡ some (v ∷ []) → j ≢ i → get_elem? views j ≡ some view → get_elem? view k ≡ some u
     → n ≢ u.state.caller
 apart n views i j v u view k once mine at other there here same =
-    let two = times_two n views i j (v ∷ []) view (λ e. other (sym e)) at there in
+    let two = in_two (one_of n) views i j (v ∷ []) view (λ e. other (sym e)) at there in
     let one = times_there n (v ∷ []) 0 v refl mine in
     let more = times_there n view k u here (sym same) in
     omega arith
@@ -104,7 +101,7 @@ pub moved : (about : About) (id : ℕ) (v w : Member) (words : List ℕ) (histor
 moved about id v w words history s kept at caller index fit others weighs more paid still_known own_known =
     let states = set kept.states v.state.caller w.state in
     let views : List (List Member) = set s.views id (w ∷ []) in
-    let still : IsHalfPaid about s.views → IsHalfPaid about views = (λ was. let after = added_set s.views id (v ∷ []) (w ∷ []) at in omega arith) in
+    let still : IsHalfPaid about s.views → IsHalfPaid about views = (λ was. let after = in_set added_of s.views id (v ∷ []) (w ∷ []) at in omega arith) in
     record {
       states = states;
       history = history;
@@ -113,8 +110,8 @@ moved about id v w words history s kept at caller index fit others weighs more p
           (λ (t : (j ≡ id) × (w ∷ [] ≡ view)). subst (AllFit about states history) t.1 (alone (Fits about states history) w fit))
           (λ (t : (j ≢ id) × (get_elem? s.views j ≡ some view)) k u here. others u (apart v.state.caller s.views id j v u view k (kept.once v.state.caller) refl at t.0 t.1 here) (kept.fits j view t.1 k u here))
           (at_set s.views id j (w ∷ []) view there);
-      once = λ number. let moved = times_set number s.views id (v ∷ []) (w ∷ []) at in let before = kept.once number in let alike = ap (λ (k : ℕ). times_in number (record w { state = record w.state { caller = k } } ∷ [])) caller in omega arith;
-      weight = let after = added_set s.views id (v ∷ []) (w ∷ []) at in let before = kept.weight in omega arith;
+      once = λ number. let moved = in_set (one_of number) s.views id (v ∷ []) (w ∷ []) at in let before = kept.once number in let alike = ap (λ (k : ℕ). times_in number (record w { state = record w.state { caller = k } } ∷ [])) caller in omega arith;
+      weight = let after = in_set added_of s.views id (v ∷ []) (w ∷ []) at in let before = kept.weight in omega arith;
       full = λ j view there. ⊎_elim
           (λ (t : (j ≡ id) × (w ∷ [] ≡ view)). subst (AllPaid about views) t.1 (alone (λ (m : Member). m.none_free ≡ true → IsHalfPaid about views) w
           (λ noted. ⊎_elim (λ was. still (kept.full id (v ∷ []) at 0 v refl was)) (λ now. still now) (paid noted))))
@@ -150,11 +147,6 @@ may about words slots id me action shows tells lone within tell leaves = (
         tell (told n) (d.now ∷ [], me.1) (ap (λ (q : Me (Unit {0}) (List Member)). (d.now ∷ [], q.1)) lone) (subst (λ (x : ℕ). shows x d.now) (sym (gives n)) d.goes),
       ),
 )
-
-set_twice : (l : List (List Member)) (i : ℕ) (a b : List Member) → set (set l i a) i b ≡ set l i b
-set_twice [] i a b = refl
-set_twice (x ∷ xs) zero a b = refl
-set_twice (x ∷ xs) (suc i) a b = ap (λ (t : List (List Member)). x ∷ t) (set_twice xs i a b)
 
 -- The same where the party begins with the step: its seat has had it as it begins.
 pub leaves_first : (about : About) (s : State (Unit {0}) (List Member)) (id : ℕ) (action : Action) (f : ℕ → ℕ) (begun : Member) (shows shown : ℕ → Member → Type 0) → ((x : ℕ) (w : Member) → shows x w → shown x w)

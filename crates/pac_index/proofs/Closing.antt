@@ -9,14 +9,15 @@ use Rattle.index_core.specs.declared.party.PartyState.{PartyState}
 use Rattle.index_core.specs.Indexes.{Index, IsIndex, parties_of}
 use Rattle.index_core.specs.Lone.{HasNoCalls, HasNoTurns}
 use Rattle.index_core.proofs.Lists.{map_there, there_is, within}
-use Rattle.atomic_table.specs.Table.{Final, Seen}
+use Rattle.atomic_table.specs.Table.{Final, Me, Seen, State}
 use Rattle.pac_index.specs.declared.rule.About.{About}
 use Rattle.pac_index.specs.declared.caller.Caller.{Caller}
 use Rattle.pac_index.specs.declared.shared.Shared.{Shared}
 use Rattle.pm_words.specs.declared.layout.Layout.{Layout}
 use Rattle.pac_index.specs.Stamps.{stamp_in, SettlesTo}
-use Rattle.pac_index.specs.Kept.{index_of, placed_by, Begins, Fits, added_in, added_in_all, opening_weight, Kept}
-use Rattle.pac_index.proofs.Lists.{times_there, times_two, added_only}
+use Rattle.pac_index.specs.Kept.{index_of, placed_by, Begins, Fits, added_in, added_in_all, one_of, opening_weight, Kept}
+use Rattle.epochs.proofs.ViewSums.{in_two}
+use Rattle.pac_index.proofs.Lists.{times_there, added_only}
 use Rattle.index_core.specs.Weights.{weight_of}
 use Rattle.pac_index.specs.declared.rule.Member.{Member}
 use Rattle.index_core.specs.MachineLaws.{showing}
@@ -42,6 +43,28 @@ added_idle : (callers : List Caller) → ((i : ℕ) (c : Caller) → get_elem? c
 added_idle [] idle = refl
 added_idle (c ∷ cs) idle = let here = ap showing (idle 0 c refl) in let rest = added_idle cs (λ i d at. idle (suc i) d at) in omega arith
 
+-- each party stands in the one view, so the others are empty
+pub others_empty : (about : About) (callers : List Caller) (id : ℕ) (s : State (Unit {0}) (List Member)) (kept : Kept about s) → get_elem? s.views id ≡ some (map seen_by callers) → ((i : ℕ) (c : Caller) → get_elem? callers i ≡ some c → (seen_by c).state.caller ≡ i)
+    → parties_of about.layout ≡ length callers → (j : ℕ) (u : List Member) → j ≢ id → get_elem? s.views j ≡ some u → u ≡ []
+others_empty about callers id s kept all number count j u away at = empty u (λ m first.
+    let mine = kept.fits j u at 0 m first in
+    let less = within kept.states m.state.caller m.state mine.there in
+    let many = kept.index.parties in
+    let here = there_is callers m.state.caller (omega arith) in
+    let one = times_there m.state.caller (map seen_by callers) m.state.caller (seen_by here.0) (map_there seen_by callers m.state.caller here.0 here.1) (number m.state.caller here.0 here.1) in
+    let two = times_there m.state.caller u 0 m first refl in
+    let both = in_two (one_of m.state.caller) s.views id j (map seen_by callers) u (λ e. away (sym e)) all at in
+    let once = kept.once m.state.caller in
+    omega arith)
+  where
+    empty : (u : List Member) → ((m : Member) → get_elem? u 0 ≡ some m → ⊥) → u ≡ []
+    empty [] none = refl
+    empty (m ∷ ms) none = absurd (none m refl)
+
+-- the table's last state, with the one view of all callers
+pub final_of : (s : Shared) (callers : List Caller) (id : ℕ) (me : Me (Unit {0}) (List Member)) (words : List ℕ) (slots : List (Unit {0})) → me ≡ (map seen_by callers, []) → Final (Seen (Kept s.table.shared.key) id me.0) words slots → Final (Seen (Kept s.table.shared.key) id (map seen_by callers)) words slots
+final_of s callers id me words slots is final = subst (λ (v : List Member). Final (Seen (Kept s.table.shared.key) id v) words slots) (ap (λ (q : Me (Unit {0}) (List Member)). q.0) is) final
+
 pub closes : (s : Shared) (callers : List Caller) (id : ℕ) (words : List ℕ) (slots : List (Unit {0})) → HasCallers s (parties_of s.about.layout) callers → AreAtRest callers → Final (Seen (Kept s.table.shared.key) id (map seen_by callers)) words slots
     → IsClosed s callers words
 closes s callers id words slots has rests final =
@@ -62,17 +85,7 @@ closes s callers id words slots has rests final =
     (here.0, rests i here.0 here.1, some-injective _ _ (sym at ∙ there)) in
     let calls : HasNoCalls old = λ i e at. let c = state_of i e at in ap (λ (d : PartyState). d.machine) c.2 ∙ c.1.0 in
     let turns : HasNoTurns old = λ i e at. let c = state_of i e at in ap (λ (d : PartyState). d.turn) c.2 ∙ c.1.1 in
-    -- each party stands in the one view, so the others are empty
-    let others : (j : ℕ) (u : List Member) → j ≢ id → get_elem? st.views j ≡ some u → u ≡ [] = (λ j u away at. empty u (λ m first.
-    let mine = kept.fits j u at 0 m first in
-    let less = within kept.states m.state.caller m.state mine.there in
-    let many = kept.index.parties in
-    let here = there_is callers m.state.caller (omega arith) in
-    let one = times_there m.state.caller (map seen_by callers) m.state.caller (seen_by here.0) (map_there seen_by callers m.state.caller here.0 here.1) (number m.state.caller here.0 here.1) in
-    let two = times_there m.state.caller u 0 m first refl in
-    let both = times_two m.state.caller st.views id j (map seen_by callers) u (λ e. away (sym e)) final.1.1 at in
-    let once = kept.once m.state.caller in
-    omega arith)) in
+    let others = others_empty key callers id st kept final.1.1 number count in
     let added : added_in_all st.views ≡ added_by_all callers =
     added_only st.views id (map seen_by callers) final.1.1 others ∙ added_idle callers (λ i c at. (rests i c at).0) in
     record {
@@ -92,10 +105,6 @@ closes s callers id words slots has rests final =
           let half = kept.full id (map seen_by callers) final.1.1 i (seen_by c) (map_there seen_by callers i c at) noted in
           subst (λ (q : About × ℕ). q.0.layout.nodes * (q.0.layout.slots / 2) ≤ opening_weight q.0 + q.1) (λ k. (same k, added k)) half;
     }
-  where
-    empty : (u : List Member) → ((m : Member) → get_elem? u 0 ≡ some m → ⊥) → u ≡ []
-    empty [] none = refl
-    empty (m ∷ ms) none = absurd (none m refl)
 
 -- all that the callers have kept are the writes of that history
 pub closed_writes : (s : Shared) (callers : List Caller) (words : List ℕ) (z : IsClosed s callers words) → AreWritesOf (kept_by callers) z.history

@@ -20,7 +20,7 @@ use Rattle.index_core.specs.Indexes.{Index, IsIndex, parties_of, world}
 use Rattle.index_core.specs.CoreCalls.{op_of}
 use Rattle.index_core.specs.MachineLaws.{put_shows, showing, shown_by, shows}
 use Rattle.index_core.proofs.CrashLaws.{chosen_keep, chosen_weighs, crash_leaves, crash_keeps_generation}
-use Rattle.index_core.proofs.Lists.{map_there, there_is, within}
+use Rattle.index_core.proofs.Lists.{map_there}
 use Rattle.atomic_table.specs.Table.{Final, Seen}
 use Rattle.pac_index.specs.declared.rule.About.{About}
 use Rattle.pac_index.specs.declared.rule.Member.{Member}
@@ -43,7 +43,8 @@ use Rattle.pac_index.specs.declared.crashing.Crashed.{Crashed}
 use Rattle.pac_index.specs.Callers.{HasCallers, TellsCut, added_by_all, seen_by}
 use Rattle.pac_index.specs.CrashMeetings.{CrashMeeting, IsCrashOf, change_in_flight, changes_in_flight, cut_of}
 use Rattle.pac_index.specs.CrashMeetings.{one_put, put_in_flight, puts_in_flight, state_of}
-use Rattle.pac_index.proofs.Lists.{times_there, times_two, added_only}
+use Rattle.pac_index.proofs.Closing.{others_empty}
+use Rattle.pac_index.proofs.Lists.{added_only}
 
 -- the changes in flight are those that the callers tell
 change_is : (o : Option CutCall) (state : PartyState) → TellsCut o state → cut_change state.machine ≡ change_in_flight o
@@ -138,17 +139,7 @@ holds s callers id words slots has final =
     alike kept.states (map state_of callers) (kept.index.parties ∙ count ∙ sym (long_map callers)) (λ i e at.
     let from = map_at callers i e at in
     ap (get_elem? kept.states) (sym (number i from.0 from.1)) ∙ (fit i from.0 from.1).there ∙ ap some from.2) in
-    -- each party stands in the one view, so the others are empty
-    let others : (j : ℕ) (u : List Member) → j ≢ id → get_elem? st.views j ≡ some u → u ≡ [] = (λ j u away at. empty u (λ m first.
-    let mine = kept.fits j u at 0 m first in
-    let less = within kept.states m.state.caller m.state mine.there in
-    let many = kept.index.parties in
-    let here = there_is callers m.state.caller (omega arith) in
-    let one = times_there m.state.caller (map seen_by callers) m.state.caller (seen_by here.0) (map_there seen_by callers m.state.caller here.0 here.1) (number m.state.caller here.0 here.1) in
-    let two = times_there m.state.caller u 0 m first refl in
-    let both = times_two m.state.caller st.views id j (map seen_by callers) u (λ e. away (sym e)) final.1.1 at in
-    let once = kept.once m.state.caller in
-    omega arith)) in
+    let others = others_empty key callers id st kept final.1.1 number count in
     let puts : ℕ = puts_in_flight (map cut_of callers) in
     let added : added_in_all st.views ≤ added_by_all callers + puts =
     subst (λ (n : ℕ). n ≤ added_by_all callers + puts) (sym (added_only st.views id (map seen_by callers) final.1.1 others)) (puts_are callers (λ i c at. (has.each i c at).tells)) in
@@ -167,10 +158,6 @@ holds s callers id words slots has final =
           let enough : key.layout.nodes * (key.layout.slots / 2) ≤ opening_weight key + added_by_all callers + puts = omega (arith, half, added) in
           subst (λ (q : About). q.layout.nodes * (q.layout.slots / 2) ≤ opening_weight q + added_by_all callers + puts) same enough;
     }
-  where
-    empty : (u : List Member) → ((m : Member) → get_elem? u 0 ≡ some m → ⊥) → u ≡ []
-    empty [] none = refl
-    empty (m ∷ ms) none = absurd (none m refl)
 
 -- the words are a row of the layout
 pub held_row : (s : Shared) (callers : List Caller) (words : List ℕ) → IsHeld s callers words → IsRow s.about.layout words

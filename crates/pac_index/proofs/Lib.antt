@@ -1,4 +1,5 @@
 pub mod Lists
+pub mod Rows
 pub mod PartRuns
 pub mod Known
 pub mod Allowed

@@ -1,4 +1,4 @@
--- Beginnings of histories, the writes of one caller, and how often a number stands among the views.
+-- Beginnings of histories, the writes of one caller, and what its parties have added.
 use Rattle.std.proofs.Common.{◌≡◌, ◌≢◌, ℕ, zero, suc, ◌+◌, ◌≤◌, eq-eqb, ne_eqb, Bool, true, false, List, [], ◌∷◌, ◌++◌, length, set, refl, sym, ap, ◌∙◌, arith}
 use Rattle.std.proofs.lemmas.List.{append_assoc, append-nil, length-append}
 use Rattle.std.specs.Prelude.{◌==◌, if◌then◌else◌, Option, Some, None}
@@ -8,7 +8,9 @@ use Rattle.cat_history.specs.declared.op.Change.{Change}
 use Rattle.cat_history.specs.declared.op.Write.{Write}
 use Rattle.index_law.specs.Worlds.{written}
 use Rattle.pac_index.specs.declared.rule.Member.{Member}
-use Rattle.pac_index.specs.Kept.{Begins, placed_from, placed_by, noted, one_if, times_in, times_in_all, added_in, added_in_all}
+use Rattle.epochs.specs.Views.{one_if}
+use Rattle.epochs.proofs.ViewSums.{in_there}
+use Rattle.pac_index.specs.Kept.{Begins, placed_from, placed_by, noted, one_of, times_in, added_in, added_in_all}
 
 pub begins_more : (xs ys zs : List Write) → Begins xs ys → Begins xs (ys ++ zs)
 begins_more xs ys zs p = (p.0 ++ zs, sym (append_assoc xs p.0 zs) ∙ ap (λ (l : List Write). l ++ zs) p.1)
@@ -51,54 +53,11 @@ others_placed c d i k (Some change) apart =
 pub others_keep : (c d i : ℕ) (h : List Write) (o : Option Change) → d ≢ c → placed_by c (h ++ written d i o) ≡ placed_by c h
 others_keep c d i h o apart = placed_append c 0 h (written d i o) ∙ ap (λ (l : List (ℕ × Write)). placed_by c h ++ l) (others_placed c d i (0 + length h) o apart) ∙ append-nil (placed_by c h)
 
--- numbers among parties
-one_here : (n m : ℕ) → m ≡ n → one_if (m == n) ≡ 1
-one_here n m e = ap one_if (eq-eqb m n e)
-
-pub times_append : (n : ℕ) (v w : List Member) → times_in n (v ++ w) ≡ times_in n v + times_in n w
-times_append n [] w = omega arith
-times_append n (m ∷ ms) w = let rest = times_append n ms w in omega arith
-
+-- a number among parties
 pub times_there : (n : ℕ) (v : List Member) (k : ℕ) (m : Member) → get_elem? v k ≡ some m → m.state.caller ≡ n → 1 ≤ times_in n v
-times_there n [] k m at same = absurd (some-ne-none m (sym at))
-times_there n (x ∷ xs) zero m at same = let here = one_here n x.state.caller (ap (λ (d : Member). d.state.caller) (some-injective x m at) ∙ same) in omega arith
-times_there n (x ∷ xs) (suc k) m at same = let rest = times_there n xs k m at same in omega arith
-
-pub times_view : (n : ℕ) (vs : List (List Member)) (i : ℕ) (v : List Member) → get_elem? vs i ≡ some v → times_in n v ≤ times_in_all n vs
-times_view n [] i v at = absurd (some-ne-none v (sym at))
-times_view n (x ∷ xs) zero v at = let here = ap (times_in n) (some-injective x v at) in omega arith
-times_view n (x ∷ xs) (suc i) v at = let rest = times_view n xs i v at in omega arith
-
-pub times_two : (n : ℕ) (vs : List (List Member)) (i j : ℕ) (v w : List Member) → i ≢ j → get_elem? vs i ≡ some v → get_elem? vs j ≡ some w → times_in n v + times_in n w ≤ times_in_all n vs
-times_two n [] i j v w apart at there = absurd (some-ne-none v (sym at))
-times_two n (x ∷ xs) zero zero v w apart at there = absurd (apart refl)
-times_two n (x ∷ xs) zero (suc j) v w apart at there = let here = ap (times_in n) (some-injective x v at) in let rest = times_view n xs j w there in omega arith
-times_two n (x ∷ xs) (suc i) zero v w apart at there = let here = ap (times_in n) (some-injective x w there) in let rest = times_view n xs i v at in omega arith
-times_two n (x ∷ xs) (suc i) (suc j) v w apart at there = let rest = times_two n xs i j v w (λ e. apart (ap suc e)) at there in omega arith
-
-pub times_set : (n : ℕ) (vs : List (List Member)) (i : ℕ) (v w : List Member) → get_elem? vs i ≡ some v → times_in_all n (set vs i w) + times_in n v ≡ times_in_all n vs + times_in n w
-times_set n [] i v w at = absurd (some-ne-none v (sym at))
-times_set n (x ∷ xs) zero v w at = let here = ap (times_in n) (some-injective x v at) in omega arith
-times_set n (x ∷ xs) (suc i) v w at = let rest = times_set n xs i v w at in omega arith
-
-pub times_snoc : (n : ℕ) (vs : List (List Member)) (w : List Member) → times_in_all n (vs ++ w ∷ []) ≡ times_in_all n vs + times_in n w
-times_snoc n [] w = omega arith
-times_snoc n (x ∷ xs) w = let rest = times_snoc n xs w in omega arith
+times_there n v k m at same = let here = ap one_if (eq-eqb m.state.caller n same) in let there = in_there (one_of n) v k m at in omega arith
 
 -- what the parties have added
-pub added_append : (v w : List Member) → added_in (v ++ w) ≡ added_in v + added_in w
-added_append [] w = omega arith
-added_append (m ∷ ms) w = let rest = added_append ms w in omega arith
-
-pub added_set : (vs : List (List Member)) (i : ℕ) (v w : List Member) → get_elem? vs i ≡ some v → added_in_all (set vs i w) + added_in v ≡ added_in_all vs + added_in w
-added_set [] i v w at = absurd (some-ne-none v (sym at))
-added_set (x ∷ xs) zero v w at = let here = ap added_in (some-injective x v at) in omega arith
-added_set (x ∷ xs) (suc i) v w at = let rest = added_set xs i v w at in omega arith
-
-pub added_snoc : (vs : List (List Member)) (w : List Member) → added_in_all (vs ++ w ∷ []) ≡ added_in_all vs + added_in w
-added_snoc [] w = omega arith
-added_snoc (x ∷ xs) w = let rest = added_snoc xs w in omega arith
-
 pub added_none : (vs : List (List Member)) → ((j : ℕ) (u : List Member) → get_elem? vs j ≡ some u → u ≡ []) → added_in_all vs ≡ 0
 added_none [] none = refl
 added_none (x ∷ xs) none = let here = ap added_in (none 0 x refl) in let rest = added_none xs (λ j u at. none (suc j) u at) in omega arith

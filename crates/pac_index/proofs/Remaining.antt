@@ -10,7 +10,7 @@ use Rattle.index_core.specs.declared.party.CoreCall.{CoreCall}
 use Rattle.index_core.specs.CoreCalls.{op_of}
 use Rattle.index_core.specs.Indexes.{parties_of}
 use Rattle.index_core.specs.MachineLaws.{place_told}
-use Rattle.epochs.specs.Seats.{IsSeatOf, IsUnpinned}
+use Rattle.epochs.specs.Seats.{IsSeatOf, IsUnpinned, known_by}
 use Rattle.pac_index.specs.declared.caller.Caller.{Caller}
 use Rattle.pac_index.specs.declared.caller.CutCall.{CutCall}
 use Rattle.pac_index.specs.declared.shared.Shared.{Shared}
@@ -37,6 +37,9 @@ pub record IsSeated (s : Shared) (old new : Caller) : Type 0 where
   pub pins : IsSeatOf s.epochs new.pins
   pub unpinned : IsUnpinned new.pins
   pub pinning : new.pins.party ≡ old.pins.party
+
+pub seated_by : (s : Shared) (old new : Caller) → IsCallerOf s old → new.seat.table_id ≡ old.seat.table_id → IsLone new.seat.me → new.number ≡ old.number → IsSeatOf s.epochs new.pins × (new.pins.party ≡ old.pins.party) × ((known_by new.pins).pin ≡ (known_by old.pins).pin) → IsSeated s old new
+seated_by s old new a table lone number pins = record { table = table; lone = lone; number = number; pins = pins.0; unpinned = pins.2 ∙ a.unpinned; pinning = pins.1 }
 
 -- who is at rest tells of nothing
 pub rests_tells : (c : Caller) → IsAtRest c → TellsCut c.cut (seen_by c).state

@@ -1,5 +1,5 @@
 -- Tries that are turned back, and the last one, which takes place.
-use Rattle.std.proofs.Common.{◌≡◌, ◌⊎◌, ℕ, ◌+◌, ◌≤◌, ◌||◌, inl, inr, ⊎_elim, Bool, true, List, length, refl, sym, ap, ◌∙◌, subst, arith}
+use Rattle.std.proofs.Common.{◌≡◌, ◌⊎◌, ℕ, ◌+◌, ◌≤◌, ◌||◌, inl, inr, ⊎_elim, Bool, true, List, [], ◌++◌, length, refl, sym, ap, ◌∙◌, subst, arith}
 use Rattle.std.proofs.lemmas.List.{append-nil}
 use Rattle.std.specs.Prelude.{Option, Some, None, IfSome}
 use Rattle.pm_words.specs.declared.again.Again.TheVariants as again
@@ -25,19 +25,25 @@ use Rattle.pac_index.specs.declared.ended.Ended.{Ended}
 use Rattle.pac_index.specs.declared.ended.Ended.TheVariants as ended
 use Rattle.pac_index.specs.declared.rule.Member.{Member}
 use Rattle.cat_history.specs.Records.{change_of}
+use Rattle.cat_history.specs.declared.op.Write.{Write}
 use Rattle.index_core.specs.CoreCalls.{op_of}
-use Rattle.pac_index.specs.Budgets.{CallBack, CutsOff, PartBack, StopsAt, place_in}
-use Rattle.pac_index.specs.Cuts.{HasEnded, IsCutCall, IsCutTry, IsCutWithin, IsTried, StopsTry, own_cut}
+use Rattle.index_core.specs.MachineLaws.{place_told}
+use Rattle.index_core.specs.Weights.{added_by}
+use Rattle.pac_index.specs.declared.shared.Shared.{Shared}
+use Rattle.pac_index.specs.Budgets.{CutsOff, StopsAt, TriedBack, place_in}
+use Rattle.pac_index.specs.Cuts.{HasEnded, HasPaid, IsCutCall, IsCutTry, IsCutWithin, IsTried, StopsTry, own_cut}
 use Rattle.pac_index.specs.Kept.{placed_by}
-use Rattle.pac_index.specs.Calls.{Answers, OnTried, PartAnswers, counted_index, own_at}
-use Rattle.pac_index.specs.Callers.{IsAtRest, pins_of, seen_by, spare_of}
+use Rattle.pac_index.specs.Calls.{Answers, PartAnswers, counted_index, own_at}
+use Rattle.pac_index.specs.Callers.{IsAtRest, IsCallerOf, StaysCaller, pins_of, seen_by, spare_of}
 use Rattle.pac_index.specs.CutTurns.{IsCutTurn, IsCutTurnTry, StopsDated, StopsUndated, TurnCutsOff, TurnStops, TurnStopsAt}
 use Rattle.pac_index.specs.Pinned.{Pinned, PinMoved, WasPinned}
 use Rattle.pac_index.specs.Ends.{ended_of, ended_by, turn_ended_by, DoesNothing, EachIs, OnDone, IsTry, HasOnlyRead, AtLast, TurnedBack}
 use Rattle.pac_index.specs.Ends.EachIs.{no_step, one_more}
-use Rattle.pac_index.specs.Turns.{noted_in, HasMadeTurn, FoundHeld, OnTurn, MadeTurn, TurnAnswers, TurnHeld, TurnedAtLast}
+use Rattle.pac_index.specs.Outcomes.{OnceComesTo, RepeatComesTo, TurnComesTo, TurnTryComesTo, TurnTryRests}
+use Rattle.pac_index.specs.Turns.{noted_in, HasMadeTurn, FoundHeld, MadeTurn, TurnAnswers, TurnHeld, TurnedAtLast}
 use Rattle.epochs.specs.Kept.{first_epoch}
 use Rattle.epochs.specs.declared.rule.PinMember.{PinMember}
+use Rattle.pac_index.proofs.Budgeting.{pays_nothing, pays_then}
 use Rattle.pac_index.proofs.Known.{still_same}
 use Rattle.pac_index.proofs.Lists.{begins_self, begins_trans}
 
@@ -56,31 +62,50 @@ back_trans u v w p q = record {
   own = subst (λ (c : ℕ). placed_by c w.seen ≡ placed_by c v.seen) p.caller q.own ∙ p.own;
 }
 
--- a call that is turned back
+-- a call that has added no name and placed no write has read alone
 module _ (c : CoreCall) (n : ℕ) (v w : Member) where
+  pub reads_by : (answer : Once Placed) → added_by (op_of c) answer ≡ 0 → own_at v.state.caller n (change_of (op_of c)) (place_told (change_of (op_of c)) answer) ≡ [] → Answers c n v answer w → HasOnlyRead v w
+  reads_by answer none nothing is = record {
+    about = is.about;
+    caller = is.caller;
+    taken = let t = is.taken in omega arith;
+    added = let a = is.added in omega arith;
+    none_free = λ noted. is.none_free ∙ noted;
+    known = is.known;
+    seen = is.seen;
+    own = is.own ∙ ap (λ (l : List (ℕ × Write)). placed_by v.state.caller v.seen ++ l) nothing ∙ append-nil (placed_by v.state.caller v.seen);
+  }
+
+  -- so has one that is turned back,
   pub back_by : (answer : Once Placed) → ended_of answer ≡ None → Answers c n v answer w → HasOnlyRead v w
   back_by (once.Done placed) none is = absurd (cc)
   back_by (once.Spent clock) none is = absurd (cc)
-  back_by (once.Worn node word) none is = record {
+  back_by (once.Worn node word) none is = reads_by (once.Worn node word) refl refl is
+  back_by (once.Again why) none is = reads_by (once.Again why) refl refl is
+
+  -- and one that was cut off without a place of its own
+  pub stop_reads : (place : Option ℕ) → own_at v.state.caller n (change_of (op_of c)) place ≡ [] → StopsAt c n v place w → HasOnlyRead v w
+  stop_reads place nothing is = record {
     about = is.about;
     caller = is.caller;
     taken = let t = is.taken in omega arith;
-    added = let a = is.added in omega arith;
+    added = is.added;
     none_free = λ noted. is.none_free ∙ noted;
     known = is.known;
     seen = is.seen;
-    own = is.own ∙ append-nil (placed_by v.state.caller v.seen);
+    own = is.own ∙ ap (λ (l : List (ℕ × Write)). placed_by v.state.caller v.seen ++ l) nothing ∙ append-nil (placed_by v.state.caller v.seen);
   }
-  back_by (once.Again why) none is = record {
-    about = is.about;
-    caller = is.caller;
-    taken = let t = is.taken in omega arith;
-    added = let a = is.added in omega arith;
-    none_free = λ noted. is.none_free ∙ noted;
-    known = is.known;
-    seen = is.seen;
-    own = is.own ∙ append-nil (placed_by v.state.caller v.seen);
-  }
+
+  pub cut_off_reads : (place : Option ℕ) → own_at v.state.caller n (change_of (op_of c)) place ≡ [] → CutsOff c n v place w → HasOnlyRead v w
+  cut_off_reads place nothing is = ⊎_elim
+      (λ (none : (place ≡ None) × (w ≡ v)). subst (λ (x : Member). HasOnlyRead v x) (sym none.1) (back_self v))
+      (λ (stops : StopsAt c n v place w). stop_reads place nothing stops)
+      is
+
+-- of a call that asks for no change there is none
+pub nothing_own : (caller index : ℕ) (place : Option ℕ) → own_at caller index None place ≡ []
+nothing_own caller index None = refl
+nothing_own caller index (Some place) = refl
 
 -- a try that the epoch turned back has seen nothing
 pub pinned_back : {T : Type 0} (holds : Member → Once T → Member → Type 0) (old new : Caller) (answer : Once T) → (holds (seen_by old) answer (seen_by new) → HasOnlyRead (seen_by old) (seen_by new)) → Pinned holds old answer new
@@ -138,8 +163,8 @@ abbrev pub StillOrRests : Caller → Caller → Type 0
 StillOrRests old now = (now ≡ old) ⊎ IsAtRest now
 
 -- a try, tried again
-pub tries_again : {T : Type 0} (holds : ℕ → Member → Once T → Member → Type 0) (n : ℕ) (old : Member) (b a : Caller) (answer : Once T) → ((v w : Member) → holds n v answer w → HasOnlyRead v w) → Tries (λ v w. TurnedBack (holds n) DoesNothing v w) n old b.index (seen_by b) → ended_of answer ≡ None
-    → IsTried holds b answer a → Tries (λ v w. TurnedBack (holds n) DoesNothing v w) n old a.index (seen_by a)
+pub tries_again : {T : Type 0} (holds : ℕ → Member → Once T → Member → Type 0) (n : ℕ) (old : Member) (b a : Caller) (answer : Once T) → ((v w : Member) → holds n v answer w → HasOnlyRead v w) → Tries (TriedBack holds n) n old b.index (seen_by b) → ended_of answer ≡ None
+    → IsTried holds b answer a → Tries (TriedBack holds n) n old a.index (seen_by a)
 tries_again holds n old b a answer reads tries none is =
     let pinned = subst (λ (k : ℕ). Pinned (holds k) b answer a) tries.index is.pinned in
     record {
@@ -148,16 +173,14 @@ tries_again holds n old b a answer reads tries none is =
       back = back_trans old (seen_by b) (seen_by a) tries.back (pinned_back (holds n) b a answer (reads (seen_by b) (seen_by a)) pinned);
     }
 
-pub get_again : (name : List ℕ) (n : ℕ) (old : Member) (b a : Caller) (t : Tried Placed) → Tries (CallBack (call.Get name) n) n old b.index (seen_by b) → ended_by t ≡ None → OnTried t (λ answer. IsTried (Answers (call.Get name)) b answer a) (IsCutTry (call.Get name) b a)
-    → Tries (CallBack (call.Get name) n) n old a.index (seen_by a) × IsAtRest a
-get_again name n old b a (tried.Answered answer) tries none is = (tries_again (Answers (call.Get name)) n old b a answer (λ v w. back_by (call.Get name) n v w answer none) tries none is, is.rests)
-get_again name n old b a tried.Cut tries none is = absurd (cc)
+pub once_again : (T : Type 0) (holds : ℕ → Member → Once T → Member → Type 0) (c : CoreCall) (n : ℕ) (old : Member) (b a : Caller) (t : Tried T) → ((answer : Once T) → ended_of answer ≡ None → (v w : Member) → holds n v answer w → HasOnlyRead v w)
+    → Tries (TriedBack holds n) n old b.index (seen_by b) → ended_by t ≡ None → OnceComesTo holds c b t a → Tries (TriedBack holds n) n old a.index (seen_by a) × IsAtRest a
+once_again T holds c n old b a (tried.Answered answer) reads tries none is = (tries_again holds n old b a answer (reads answer none) tries none is, is.rests)
+once_again T holds c n old b a tried.Cut reads tries none is = absurd (cc)
 
-pub part_again : (low : List ℕ) (count n : ℕ) (old : Member) (b a : Caller) (t : Tried PartWords) → Tries (PartBack low count n) n old b.index (seen_by b) → ended_by t ≡ None → OnTried t (λ answer. IsTried (PartAnswers low count) b answer a) (IsCutTry (call.Part low count) b a)
-    → Tries (PartBack low count n) n old a.index (seen_by a) × IsAtRest a
-part_again low count n old b a (tried.Answered answer) tries none is =
-    (tries_again (PartAnswers low count) n old b a answer (λ v w part. back_by (call.Part low count) n v w (placed_of answer) (none_of answer none) part.looks) tries none is, is.rests)
-part_again low count n old b a tried.Cut tries none is = absurd (cc)
+-- a part that is turned back
+pub part_back_by : (low : List ℕ) (count n : ℕ) (answer : Once PartWords) → ended_of answer ≡ None → (v w : Member) → PartAnswers low count n v answer w → HasOnlyRead v w
+part_back_by low count n answer none v w part = back_by (call.Part low count) n v w (placed_of answer) (none_of answer none) part.looks
 
 pub none_else : {A : Type 0} (o : Option A) → ((x : A) → o ≡ Some x → ⊥) → o ≡ None
 none_else None never = refl
@@ -172,7 +195,7 @@ not_done_cut ended.Cut D C is never = is
 
 -- the last try: it is answered otherwise,
 pub call_ended : {T : Type 0} (holds : ℕ → Member → Once T → Member → Type 0) (n : ℕ) (old : Caller) (b a : Caller) (answer : Once T) → n ≡ old.index → ((m : ℕ) → counted_index m answer ≡ next_index m) → ((first second : ℕ) → answer ≡ once.Again (again.Epoch first second) → ⊥)
-    → Tries (λ v w. TurnedBack (holds n) DoesNothing v w) n (seen_by old) b.index (seen_by b) → IsTried holds b answer a → HasEnded (AtLast (λ v w. TurnedBack (holds n) DoesNothing v w) (λ before after. holds n before answer after)) old a
+    → Tries (TriedBack holds n) n (seen_by old) b.index (seen_by b) → IsTried holds b answer a → HasEnded (AtLast (TriedBack holds n) (λ before after. holds n before answer after)) old a
 call_ended holds n old b a answer same counted other tries is =
     let pinned = subst (λ (k : ℕ). Pinned (holds k) b answer a) tries.index is.pinned in
     record {
@@ -228,35 +251,34 @@ cut_ended back c old b a still number less tries is = record {
       tells = tells;
     }
 
-pub get_ends : (name : List ℕ) (old b a : Caller) (t : Tried Placed) (end : Ended Placed) → StillOrRests old b → b.number ≡ old.number → spare_of old ≤ spare_of b → Tries (CallBack (call.Get name) old.index) old.index (seen_by old) b.index (seen_by b) → ended_by t ≡ Some end
-    → OnTried t (λ answer. IsTried (Answers (call.Get name)) b answer a) (IsCutTry (call.Get name) b a)
-    → OnDone end (λ placed. HasEnded (AtLast (CallBack (call.Get name) old.index) (λ before after. Answers (call.Get name) old.index before (once.Done placed) after)) old a) (IsCutCall (CallBack (call.Get name) old.index) (call.Get name) old a)
-get_ends name old b a (tried.Answered (once.Done placed)) end still number less tries ends is =
-    let gives : ended.Done placed ≡ end = cc in
-    subst (λ (e : Ended Placed). OnDone e (λ placed. HasEnded (AtLast (CallBack (call.Get name) old.index) (λ before after. Answers (call.Get name) old.index before (once.Done placed) after)) old a) (IsCutCall (CallBack (call.Get name) old.index) (call.Get name) old a)) gives
-    (call_ended (Answers (call.Get name)) old.index old b a (once.Done placed) refl (λ m. refl) (λ first second no. cc) tries is)
-get_ends name old b a (tried.Answered (once.Spent clock)) end still number less tries ends is = absurd (had_pin (Answers (call.Get name) b.index) b a (once.Spent clock) (λ first second no. cc) is.pinned).says.reached
-get_ends name old b a (tried.Answered (once.Worn node word)) end still number less tries ends is = absurd (cc)
-get_ends name old b a (tried.Answered (once.Again why)) end still number less tries ends is = absurd (cc)
-get_ends name old b a tried.Cut end still number less tries ends is =
-    let gives : ended.Cut ≡ end = cc in
-    subst (λ (e : Ended Placed). OnDone e (λ placed. HasEnded (AtLast (CallBack (call.Get name) old.index) (λ before after. Answers (call.Get name) old.index before (once.Done placed) after)) old a) (IsCutCall (CallBack (call.Get name) old.index) (call.Get name) old a)) gives
-    (cut_ended (CallBack (call.Get name) old.index) (call.Get name) old b a still number less tries is)
+-- What the loop of tries keeps of its caller.
+abbrev pub TriedSoFar : Shared → (Member → Member → Type 0) → Caller → Caller → Type 0
+TriedSoFar s back_step old now = IsCallerOf s now × (now.number ≡ old.number) × (spare_of old ≤ spare_of now) × Tries back_step old.index (seen_by old) now.index (seen_by now) × StillOrRests old now × HasPaid old now
 
-pub part_ends_so : (low : List ℕ) (count : ℕ) (old b a : Caller) (t : Tried PartWords) (end : Ended PartWords) → StillOrRests old b → b.number ≡ old.number → spare_of old ≤ spare_of b → Tries (PartBack low count old.index) old.index (seen_by old) b.index (seen_by b) → ended_by t ≡ Some end
-    → OnTried t (λ answer. IsTried (PartAnswers low count) b answer a) (IsCutTry (call.Part low count) b a)
-    → OnDone end (λ words. HasEnded (AtLast (PartBack low count old.index) (λ before after. PartAnswers low count old.index before (once.Done words) after)) old a) (IsCutCall (PartBack low count old.index) (call.Part low count) old a)
-part_ends_so low count old b a (tried.Answered (once.Done words)) end still number less tries ends is =
-    let gives : ended.Done words ≡ end = cc in
-    subst (λ (e : Ended PartWords). OnDone e (λ words. HasEnded (AtLast (PartBack low count old.index) (λ before after. PartAnswers low count old.index before (once.Done words) after)) old a) (IsCutCall (PartBack low count old.index) (call.Part low count) old a)) gives
-    (call_ended (PartAnswers low count) old.index old b a (once.Done words) refl (λ m. refl) (λ first second no. cc) tries is)
-part_ends_so low count old b a (tried.Answered (once.Spent clock)) end still number less tries ends is = absurd (had_pin (PartAnswers low count b.index) b a (once.Spent clock) (λ first second no. cc) is.pinned).looks.says.reached
-part_ends_so low count old b a (tried.Answered (once.Worn node word)) end still number less tries ends is = absurd (cc)
-part_ends_so low count old b a (tried.Answered (once.Again why)) end still number less tries ends is = absurd (cc)
-part_ends_so low count old b a tried.Cut end still number less tries ends is =
+pub tries_start : (s : Shared) (back_step : Member → Member → Type 0) (old : Caller) → IsCallerOf s old → TriedSoFar s back_step old old
+tries_start s back_step old is = (is, refl, omega arith, tries_begin back_step old.index (seen_by old), inl refl, pays_nothing old.left (seen_by old).taken)
+
+-- a try that is made again,
+pub tries_on : (T : Type 0) (s : Shared) (holds : ℕ → Member → Once T → Member → Type 0) (c : CoreCall) (old b a : Caller) (t : Tried T) → ((answer : Once T) → ended_of answer ≡ None → (v w : Member) → holds old.index v answer w → HasOnlyRead v w)
+    → TriedSoFar s (TriedBack holds old.index) old b → ended_by t ≡ None → StaysCaller s b a → OnceComesTo holds c b t a → HasPaid b a → spare_of b ≤ spare_of a → TriedSoFar s (TriedBack holds old.index) old a
+tries_on T s holds c old b a t reads so none stays is paid less =
+    let next = once_again T holds c old.index (seen_by old) b a t reads so.3 none is in
+    let spare : spare_of old ≤ spare_of a = let was = so.2 in omega arith in
+    (stays.0, stays.1 ∙ so.1, spare, next.0, inr next.1, pays_then old.left b.left a.left (seen_by old).taken (seen_by b).taken (seen_by a).taken so.5 paid)
+
+-- and the last one, of a call that has no limit
+pub tries_end : (T : Type 0) (s : Shared) (holds : ℕ → Member → Once T → Member → Type 0) (c : CoreCall) (old b a : Caller) (t : Tried T) (end : Ended T) → ((n clock : ℕ) (v w : Member) → holds n v (once.Spent clock) w → ⊥)
+    → TriedSoFar s (TriedBack holds old.index) old b → ended_by t ≡ Some end → OnceComesTo holds c b t a → RepeatComesTo holds c old end a
+tries_end T s holds c old b a (tried.Answered (once.Done value)) end unspent so ends is =
+    let gives : ended.Done value ≡ end = cc in
+    subst (λ (e : Ended T). RepeatComesTo holds c old e a) gives (call_ended holds old.index old b a (once.Done value) refl (λ m. refl) (λ first second no. cc) so.3 is)
+tries_end T s holds c old b a (tried.Answered (once.Spent clock)) end unspent so ends is =
+    absurd (unspent b.index clock (seen_by b) (seen_by a) (had_pin (holds b.index) b a (once.Spent clock) (λ first second no. cc) is.pinned))
+tries_end T s holds c old b a (tried.Answered (once.Worn node word)) end unspent so ends is = absurd (cc)
+tries_end T s holds c old b a (tried.Answered (once.Again why)) end unspent so ends is = absurd (cc)
+tries_end T s holds c old b a tried.Cut end unspent so ends is =
     let gives : ended.Cut ≡ end = cc in
-    subst (λ (e : Ended PartWords). OnDone e (λ words. HasEnded (AtLast (PartBack low count old.index) (λ before after. PartAnswers low count old.index before (once.Done words) after)) old a) (IsCutCall (PartBack low count old.index) (call.Part low count) old a)) gives
-    (cut_ended (PartBack low count old.index) (call.Part low count) old b a still number less tries is)
+    subst (λ (e : Ended T). RepeatComesTo holds c old e a) gives (cut_ended (TriedBack holds old.index) c old b a so.4 so.1 so.2 so.3 is)
 
 -- what is noted stays so
 stays_noted : (noted : Bool) (answer : TurnReply) → noted ≡ true → noted_in noted answer ≡ true
@@ -279,18 +301,14 @@ turn_reads epoch v w answer is = record {
 pub held_reads : (word : ℕ) (v w : Member) → TurnHeld word v w → HasOnlyRead v w
 held_reads word v w is = turn_reads first_epoch v w (reply.Held word) (is first_epoch)
 
--- What a try of a turn comes to.
-abbrev pub TriesTurn : ℕ → Caller → TriedTurn → Caller → Type 0
-TriesTurn parties b t a = OnTurn t (λ turned epoch advanced. MadeTurn parties (seen_by b) (pins_of b) turned epoch advanced (seen_by a) (pins_of a)) (λ word. TurnHeld word (seen_by b) (seen_by a) × (pins_of a ≡ pins_of b)) (IsCutTurnTry parties b a)
-
 -- a turn that finds the updater lock taken, and the last one, which is made or cut off
-pub turn_again : (parties : ℕ) (old : Member) (first : PinMember) (b a : Caller) (t : TriedTurn) → EachIs FoundHeld old (seen_by b) → HasOnlyRead old (seen_by b) → pins_of b ≡ first → turn_ended_by t ≡ None → TriesTurn parties b t a
+pub turn_again : (parties : ℕ) (old : Member) (first : PinMember) (b a : Caller) (t : TriedTurn) → EachIs FoundHeld old (seen_by b) → HasOnlyRead old (seen_by b) → pins_of b ≡ first → turn_ended_by t ≡ None → TurnTryComesTo parties b t a
     → EachIs FoundHeld old (seen_by a) × HasOnlyRead old (seen_by a) × (pins_of a ≡ first)
 turn_again parties old first b a (turn.Turned turned epoch advanced) tries back same none is = absurd (cc)
 turn_again parties old first b a (turn.Held word) tries back same none is = (one_more tries (word, is.0), back_trans old (seen_by b) (seen_by a) back (held_reads word (seen_by b) (seen_by a) is.0), is.1 ∙ same)
 turn_again parties old first b a turn.Cut tries back same none is = absurd (cc)
 
-pub turn_rests : (a : Caller) (t : TriedTurn) → turn_ended_by t ≡ None → OnTurn t (λ turned epoch advanced. IsAtRest a) (λ word. IsAtRest a) (Unit {0}) → IsAtRest a
+pub turn_rests : (a : Caller) (t : TriedTurn) → turn_ended_by t ≡ None → TurnTryRests t a → IsAtRest a
 turn_rests a (turn.Turned turned epoch advanced) none rests = rests
 turn_rests a (turn.Held word) none rests = rests
 turn_rests a turn.Cut none rests = absurd (cc)
@@ -310,18 +328,18 @@ turn_cut parties old b a still tries back same is = record {
     at_last : TurnCutsOff parties (seen_by b) (pins_of b) (seen_by a) (pins_of a) → AtLast FoundHeld (λ before after. TurnCutsOff parties before (pins_of old) after (pins_of a)) (seen_by old) (seen_by a)
     at_last cuts = record { before = seen_by b; tries = tries; back = back; last = subst (λ (p : PinMember). TurnCutsOff parties (seen_by b) p (seen_by a) (pins_of a)) same cuts }
 
-pub turn_ends_so : (parties : ℕ) (old b a : Caller) (t : TriedTurn) (end : Ended Turned) → StillOrRests old b → EachIs FoundHeld (seen_by old) (seen_by b) → HasOnlyRead (seen_by old) (seen_by b) → pins_of b ≡ pins_of old → turn_ended_by t ≡ Some end → TriesTurn parties b t a
-    → OnTurn t (λ turned epoch advanced. IsAtRest a) (λ word. IsAtRest a) (Unit {0}) → OnDone end (λ turned. IsAtRest a × TurnedAtLast parties (seen_by old) (pins_of old) turned (seen_by a) (pins_of a)) (IsCutTurn parties old a)
+pub turn_ends_so : (parties : ℕ) (old b a : Caller) (t : TriedTurn) (end : Ended Turned) → StillOrRests old b → EachIs FoundHeld (seen_by old) (seen_by b) → HasOnlyRead (seen_by old) (seen_by b) → pins_of b ≡ pins_of old → turn_ended_by t ≡ Some end → TurnTryComesTo parties b t a
+    → TurnTryRests t a → TurnComesTo parties old end a
 turn_ends_so parties old b a (turn.Turned turned epoch advanced) end still tries back same ends is rests =
     let gives : ended.Done turned ≡ end = cc in
-    subst (λ (e : Ended Turned). OnDone e (λ turned. IsAtRest a × TurnedAtLast parties (seen_by old) (pins_of old) turned (seen_by a) (pins_of a)) (IsCutTurn parties old a)) gives (
+    subst (λ (e : Ended Turned). TurnComesTo parties old e a) gives (
       rests,
       record { epoch = epoch; advanced = advanced; last = record { before = seen_by b; tries = tries; back = back; last = subst (λ (p : PinMember). MadeTurn parties (seen_by b) p turned epoch advanced (seen_by a) (pins_of a)) same is } },
     )
 turn_ends_so parties old b a (turn.Held word) end still tries back same ends is rests = absurd (cc)
 turn_ends_so parties old b a turn.Cut end still tries back same ends is rests =
     let gives : ended.Cut ≡ end = cc in
-    subst (λ (e : Ended Turned). OnDone e (λ turned. IsAtRest a × TurnedAtLast parties (seen_by old) (pins_of old) turned (seen_by a) (pins_of a)) (IsCutTurn parties old a)) gives (turn_cut parties old b a still tries back same is)
+    subst (λ (e : Ended Turned). TurnComesTo parties old e a) gives (turn_cut parties old b a still tries back same is)
 
 -- of a turn that was tried until it was made
 pub turned_at_last : (parties : ℕ) (old w : Member) (pins pins_now : PinMember) (turned : Turned) → TurnedAtLast parties old pins turned w pins_now → HasMadeTurn turned old w
@@ -346,7 +364,7 @@ cut_turn_reads parties v w pins pins_now is = ⊎_elim
     (λ (later : StopsDated parties v pins w pins_now). stops_reads later.epoch v w later.stops)
     is
 
-pub tried_reads : (parties : ℕ) (b a : Caller) (t : TriedTurn) → TriesTurn parties b t a → HasOnlyRead (seen_by b) (seen_by a)
+pub tried_reads : (parties : ℕ) (b a : Caller) (t : TriedTurn) → TurnTryComesTo parties b t a → HasOnlyRead (seen_by b) (seen_by a)
 tried_reads parties b a (turn.Turned turned epoch advanced) is = turn_reads epoch (seen_by b) (seen_by a) (reply.Turned turned) is.answers
 tried_reads parties b a (turn.Held word) is = held_reads word (seen_by b) (seen_by a) is.0
 tried_reads parties b a turn.Cut is = ⊎_elim

@@ -23,7 +23,7 @@ use Rattle.data_node.specs.Lists.{key_of}
 use Rattle.call_stages.specs.declared.once.Once.TheVariants as once
 use Rattle.node_ops.specs.declared.part.PartWords.{PartWords}
 use Rattle.node_ops.specs.Parts.{pairs_of}
-use Rattle.node_ops.specs.PartSteps.{entry_name}
+use Rattle.node_ops.specs.PartSteps.{entry_name, placed_of}
 use Rattle.cat_history.specs.declared.op.NameOp.TheVariants as op
 use Rattle.data_node.proofs.KeyLemmas.{word_fits, key-number}
 use Rattle.index_law.proofs.Maps.{after-longer}
@@ -32,37 +32,30 @@ use Rattle.index_core.specs.Listings.{ListsRange}
 use Rattle.index_core.specs.Weights.{added_if}
 use Rattle.pac_index.specs.declared.rule.About.{About}
 use Rattle.pac_index.specs.declared.rule.Member.{Member}
-use Rattle.pac_index.specs.Kept.{Begins, placed_by}
+use Rattle.pac_index.specs.Kept.{Begins}
 use Rattle.pac_index.specs.declared.caller.Caller.{Caller}
 use Rattle.pac_index.specs.declared.caller.CutCall.{CutCall}
-use Rattle.pac_index.specs.Budgets.{CutsOff, PartBack, StopsAt, place_in}
-use Rattle.pac_index.specs.Callers.{IsAtRest, seen_by}
-use Rattle.pac_index.specs.Calls.{PartAnswers, own_at}
+use Rattle.pac_index.specs.Budgets.{TriedBack, place_in}
+use Rattle.pac_index.specs.declared.shared.Shared.{Shared}
+use Rattle.pac_index.specs.Callers.{IsAtRest, IsCallerOf, StaysCaller, seen_by, spare_of}
+use Rattle.pac_index.specs.Calls.{PartAnswers}
 use Rattle.pac_index.specs.CutScans.{IsCutScan, IsPartCut, PartEnds, PartsEnd, ScanEnds, is_cut_scan}
-use Rattle.pac_index.specs.Cuts.{IsCutCall, IsCutWithin}
-use Rattle.pac_index.specs.Ends.{AtLast, DoesNothing, HasOnlyRead, TurnedBack}
+use Rattle.pac_index.specs.Cuts.{HasPaid, IsCutCall, IsCutWithin}
+use Rattle.pac_index.specs.Ends.{AtLast, HasOnlyRead}
 use Rattle.pac_index.specs.Scanned.{AreScanned, IsNamed, IsRead}
+use Rattle.pac_index.proofs.Budgeting.{pays_then}
 use Rattle.pac_index.proofs.Lists.{begins_self, begins_trans, begins_le}
-use Rattle.pac_index.proofs.Repeating.{StillOrRests, back_self, back_trans}
+use Rattle.pac_index.proofs.Repeating.{StillOrRests, back_self, back_trans, cut_off_reads, nothing_own, reads_by}
 
 -- a part that took place has read alone
 done_reads : (low : List ℕ) (count n : ℕ) (v w : Member) (words : PartWords) → PartAnswers low count n v (once.Done words) w → HasOnlyRead v w
-done_reads low count n v w words is = record {
-  about = is.looks.about;
-  caller = is.looks.caller;
-  taken = let t = is.looks.taken in omega arith;
-  added = let a = is.looks.added in added_none words.old a;
-  none_free = λ noted. is.looks.none_free ∙ noted;
-  known = is.looks.known;
-  seen = is.looks.seen;
-  own = is.looks.own ∙ append-nil (placed_by v.state.caller v.seen);
-}
+done_reads low count n v w words is = reads_by (call.Part low count) n v w (placed_of (once.Done words)) (added_none words.old) refl is.looks
   where
-    added_none : (old : Option ℕ) → w.added ≡ v.added + added_if (op.Get low) old → w.added ≡ v.added
-    added_none None is = omega arith
-    added_none (Some value) is = omega arith
+    added_none : (old : Option ℕ) → added_if (op.Get low) old ≡ 0
+    added_none None = refl
+    added_none (Some value) = refl
 
-module _ (low : List ℕ) (left n : ℕ) (old new : Member) (words : PartWords) (is : AtLast (TurnedBack (PartAnswers low left n) DoesNothing) (λ before after. PartAnswers low left n before (once.Done words) after) old new) where
+module _ (low : List ℕ) (left n : ℕ) (old new : Member) (words : PartWords) (is : AtLast (TriedBack (PartAnswers low left) n) (λ before after. PartAnswers low left n before (once.Done words) after) old new) where
   pub part_reads : HasOnlyRead old new
   part_reads = back_trans old is.before new is.back (done_reads low left n is.before new words is.last)
 
@@ -89,33 +82,11 @@ module _ (low : List ℕ) (left n : ℕ) (old new : Member) (words : PartWords) 
   }
 
 -- a part that was cut off has read alone
-nothing_own : (caller index : ℕ) (place : Option ℕ) → own_at caller index None place ≡ []
-nothing_own caller index None = refl
-nothing_own caller index (Some place) = refl
-
-stops_read : (low : List ℕ) (count n : ℕ) (v w : Member) (place : Option ℕ) → StopsAt (call.Part low count) n v place w → HasOnlyRead v w
-stops_read low count n v w place is = record {
-  about = is.about;
-  caller = is.caller;
-  taken = let t = is.taken in omega arith;
-  added = is.added;
-  none_free = λ noted. is.none_free ∙ noted;
-  known = is.known;
-  seen = is.seen;
-  own = is.own ∙ ap (λ (l : List (ℕ × Write)). placed_by v.state.caller v.seen ++ l) (nothing_own v.state.caller n place) ∙ append-nil (placed_by v.state.caller v.seen);
-}
-
-cuts_read : (low : List ℕ) (count n : ℕ) (v w : Member) (place : Option ℕ) → CutsOff (call.Part low count) n v place w → HasOnlyRead v w
-cuts_read low count n v w place is = ⊎_elim
-    (λ (none : (place ≡ None) × (w ≡ v)). subst (λ (x : Member). HasOnlyRead v x) (sym none.1) (back_self v))
-    (λ (stops : StopsAt (call.Part low count) n v place w). stops_read low count n v w place stops)
-    is
-
-pub cut_reads : (low : List ℕ) (count : ℕ) (old a : Caller) → IsCutCall (PartBack low count old.index) (call.Part low count) old a → HasOnlyRead (seen_by old) (seen_by a)
+pub cut_reads : (low : List ℕ) (count : ℕ) (old a : Caller) → IsCutCall (TriedBack (PartAnswers low count) old.index) (call.Part low count) old a → HasOnlyRead (seen_by old) (seen_by a)
 cut_reads low count old a is = ⊎_elim
     (λ (same : a ≡ old). subst (λ (d : Caller). HasOnlyRead (seen_by old) (seen_by d)) (sym same) (back_self (seen_by old)))
-    (λ (within : IsCutWithin (PartBack low count old.index) (call.Part low count) old a).
-    back_trans (seen_by old) within.last.before (seen_by a) within.last.back (cuts_read low count old.index within.last.before (seen_by a) (place_in a.cut) within.last.last))
+    (λ (within : IsCutWithin (TriedBack (PartAnswers low count) old.index) (call.Part low count) old a).
+    back_trans (seen_by old) within.last.before (seen_by a) within.last.back (cut_off_reads (call.Part low count) old.index within.last.before (seen_by a) (place_in a.cut) (nothing_own within.last.before.state.caller old.index (place_in a.cut)) within.last.last))
     is.cut
 
 -- and its caller tells of no more than that part
@@ -123,12 +94,12 @@ part_cut : (low : List ℕ) (count n : ℕ) (o : Option CutCall) → IfSome o (�
 part_cut low count n None is = tt
 part_cut low count n (Some cut) is = (low, count, is.0, is.1)
 
-pub cut_scan : (low : List ℕ) (count : ℕ) (old a : Caller) → IsCutCall (PartBack low count old.index) (call.Part low count) old a → IsCutScan old (record a { index = old.index })
+pub cut_scan : (low : List ℕ) (count : ℕ) (old a : Caller) → IsCutCall (TriedBack (PartAnswers low count) old.index) (call.Part low count) old a → IsCutScan old (record a { index = old.index })
 cut_scan low count old a is = record {
   spent = is.spent;
   cut = ⊎_elim
       (λ (same : a ≡ old). inl (ap (λ (d : Caller). record d { index = old.index }) same))
-      (λ (within : IsCutWithin (PartBack low count old.index) (call.Part low count) old a). inr (part_cut low count old.index a.cut within.tells))
+      (λ (within : IsCutWithin (TriedBack (PartAnswers low count) old.index) (call.Part low count) old a). inr (part_cut low count old.index a.cut within.tells))
       is.cut;
 }
 
@@ -300,3 +271,30 @@ fewer_to_come low (Some high) is named above =
     let few = few_keys low is in
     let more = ltb-true (key_of low) (key_of high) (sym (key-order low high (named-text low is) (named-text high named)) ∙ above) in
     omega (arith, few, more)
+
+-- What the loop over a scan's parts keeps of its caller.
+abbrev pub ReadSoFar : Shared → List ℕ → ℕ → Caller → Caller → Option (List ℕ) → ℕ → List ScanPart → Type 0
+ReadSoFar s from count old now next left parts = record {
+  caller : IsCallerOf s now;
+  number : now.number ≡ old.number;
+  index : now.index ≡ old.index;
+  still : StillOrRests old now;
+  over : next ≡ None → IsAtRest now;
+  paid : HasPaid old now;
+  spare : spare_of old ≤ spare_of now;
+  scans : Scans from count (seen_by old) (seen_by now) next left parts;
+}
+
+-- one part more
+pub part_on : (s : Shared) (from : List ℕ) (count : ℕ) (old b a : Caller) (next next' : Option (List ℕ)) (left left' : ℕ) (parts parts' : List ScanPart) → ReadSoFar s from count old b next left parts → StaysCaller s b a → a.index ≡ b.index → IsAtRest a → HasPaid b a
+    → spare_of b ≤ spare_of a → Scans from count (seen_by old) (seen_by a) next' left' parts' → ReadSoFar s from count old a next' left' parts'
+part_on s from count old b a next next' left left' parts parts' was stays index rests paid less scans = record {
+  caller = stays.0;
+  number = stays.1 ∙ was.number;
+  index = index ∙ was.index;
+  still = inr rests;
+  over = λ none. rests;
+  paid = pays_then old.left b.left a.left (seen_by old).taken (seen_by b).taken (seen_by a).taken was.paid paid;
+  spare = let more = was.spare in omega arith;
+  scans = scans;
+}

@@ -2,7 +2,7 @@
 use Rattle.std.proofs.Common.{◌≡◌, ◌≢◌, ℕ, zero, suc, ◌+◌, ◌<◌, ◌≤◌, ⊎_elim, true, false, eq-eqb, ne_eqb, List, [], ◌∷◌, ◌++◌, map, drop, set, refl, sym, ap, ◌∙◌, subst, arith}
 use Rattle.std.proofs.lemmas.Bool.{cases_eq}
 use Rattle.std.specs.Prelude.{◌==◌}
-use mathlib.Core.Option.{some, some-injective, some-ne-none}
+use mathlib.Core.Option.{some, some-ne-none}
 use lib.ListN.{get_elem?}
 use Rattle.cat_history.specs.declared.op.Write.{Write}
 use Rattle.index_law.proofs.Parties.{set_else, each_set, each_snoc}
@@ -21,8 +21,10 @@ use Rattle.pac_index.specs.Callers.{about_in}
 use Rattle.index_core.specs.MachineLaws.{AreIdle}
 use Rattle.index_core.proofs.MachineLaw.{with_idle, idle_weigh}
 use Rattle.pac_index.specs.Kept.{AllKnow, KnowsParts}
-use Rattle.pac_index.specs.Kept.{index_of, Fits, AllFit, one_if, times_in, added_in, opening_weight, IsHalfPaid, AllPaid, Kept, member_of, first_view, first_of, rest_of}
-use Rattle.pac_index.proofs.Lists.{times_append, times_set, times_snoc, added_append, added_set, added_snoc}
+use Rattle.pac_index.specs.Kept.{index_of, Fits, AllFit, one_of, times_in, added_in, added_of, opening_weight, IsHalfPaid, AllPaid, Kept, member_of, first_view, first_of, rest_of}
+use Rattle.pac_index.proofs.Rows.{alone}
+use Rattle.epochs.specs.Views.{one_if}
+use Rattle.epochs.proofs.ViewSums.{in_append, in_set, in_snoc}
 
 pub none_idle : (n : ℕ) → AreIdle (idle_states n) n
 none_idle n = record {
@@ -41,7 +43,7 @@ map-snoc f (x ∷ xs) e = ap (λ (t : List Member). f x ∷ t) (map-snoc f xs e)
 -- how often a number stands among the first parties
 times_first : (about : About) (k n : ℕ) → times_in n (map (member_of about) (idle_states (suc k))) ≡ times_in n (map (member_of about) (idle_states k)) + one_if (k == n)
 times_first about k n =
-    let split = ap (times_in n) (map-snoc (member_of about) (idle_states k) (idle_state k)) ∙ times_append n (map (member_of about) (idle_states k)) (member_of about (idle_state k) ∷ []) in
+    let split = ap (times_in n) (map-snoc (member_of about) (idle_states k) (idle_state k)) ∙ in_append (one_of n) (map (member_of about) (idle_states k)) (member_of about (idle_state k) ∷ []) in
     let one : times_in n (member_of about (idle_state k) ∷ []) ≡ one_if (k == n) = omega arith in
     omega arith
 
@@ -63,10 +65,6 @@ one_most about (suc k) n = ⊎_elim
 none_at : {A : Type 0} (P : Type 0) (i : ℕ) (a : A) → get_elem? [] i ≡ some a → P
 none_at P i a at = absurd (some-ne-none a (sym at))
 
-sole_view : (P : List Member → Type 0) (v : List Member) → P v → (i : ℕ) (u : List Member) → get_elem? (v ∷ []) i ≡ some u → P u
-sole_view P v is zero u at = subst P (some-injective v u at) is
-sole_view P v is (suc i) u at = absurd (some-ne-none u (sym at))
-
 -- the rule holds as the table is made
 pub opens : (s : Index) → IsIndex s → IsQuiet s → s.history ≡ [] → Kept (about_in s) (opening s.words [] (first_view (about_in s)))
 opens s is quiet none =
@@ -78,7 +76,7 @@ opens s is quiet none =
       states = states;
       history = [];
       index = subst IsIndex (λ k. record { layout = s.layout; generation = s.generation; words = s.words; states = states; base = s.base; history = none k; spare = 0 }) (respare (record s { states = states }) 0 index);
-      fits = sole_view (AllFit about states []) (first_view about) (λ k m at.
+      fits = alone (AllFit about states []) (first_view about) (λ k m at.
           let from = map_from (member_of about) states k m at in
           subst (Fits about states []) from.2 (record {
             same = refl;
@@ -91,10 +89,10 @@ opens s is quiet none =
           let o : Index = index_of about s.words states [] in
           let as_weight : weight_sum (world o) ≡ opening_weight about = idle_weigh o (none_idle n).idle in
           omega arith;
-      full = sole_view (AllPaid about (first_view about ∷ [])) (first_view about) (λ k m at noted.
+      full = alone (AllPaid about (first_view about ∷ [])) (first_view about) (λ k m at noted.
           let from = map_from (member_of about) states k m at in
           absurd (let no : false ≡ true = ap (λ (u : Member). u.none_free) from.2 ∙ noted in cc));
-      known = sole_view (AllKnow (index_of about s.words states [])) (first_view about) (λ k m at.
+      known = alone (AllKnow (index_of about s.words states [])) (first_view about) (λ k m at.
           let from = map_from (member_of about) states k m at in
           subst (KnowsParts (index_of about s.words states [])) from.2 (λ j a none. absurd (some-ne-none a (sym none))));
     }
@@ -113,14 +111,14 @@ divides about id v s kept at = record {
       (each_set (AllFit about kept.states kept.history) s.views id (rest_of v) (λ j u other there. kept.fits j u there) (behind v (kept.fits id v at)))
       (front v (kept.fits id v at));
   once = λ n.
-      let set_is = times_set n s.views id v (rest_of v) at in
-      let snoc_is = times_snoc n (set s.views id (rest_of v)) (first_of v) in
+      let set_is = in_set (one_of n) s.views id v (rest_of v) at in
+      let snoc_is = in_snoc (one_of n) (set s.views id (rest_of v)) (first_of v) in
       let parts = both_of n v in
       let before = kept.once n in
       omega arith;
   weight =
-      let set_is = added_set s.views id v (rest_of v) at in
-      let snoc_is = added_snoc (set s.views id (rest_of v)) (first_of v) in
+      let set_is = in_set added_of s.views id v (rest_of v) at in
+      let snoc_is = in_snoc added_of (set s.views id (rest_of v)) (first_of v) in
       let parts = both_added v in
       let before = kept.weight in
       omega arith;
@@ -149,8 +147,8 @@ divides about id v s kept at = record {
 
     still : IsHalfPaid about s.views → IsHalfPaid about views
     still was =
-        let set_is = added_set s.views id v (rest_of v) at in
-        let snoc_is = added_snoc (set s.views id (rest_of v)) (first_of v) in
+        let set_is = in_set added_of s.views id v (rest_of v) at in
+        let snoc_is = in_snoc added_of (set s.views id (rest_of v)) (first_of v) in
         let parts = both_added v in
         omega arith
 
@@ -203,23 +201,23 @@ meets about id v other w s kept at apart there =
           (λ j u away at'. each_set (AllFit about kept.states kept.history) s.views id (v ++ w) (λ i d off at''. kept.fits i d at'') (all_append about kept.states kept.history v w (kept.fits id v at) (kept.fits other w found)) j u at')
           (λ k m at'. absurd (some-ne-none m (sym at')));
       once = λ n.
-          let one = times_set n s.views id v (v ++ w) at in
-          let two = times_set n (set s.views id (v ++ w)) other w [] there in
-          let sum = times_append n v w in
+          let one = in_set (one_of n) s.views id v (v ++ w) at in
+          let two = in_set (one_of n) (set s.views id (v ++ w)) other w [] there in
+          let sum = in_append (one_of n) v w in
           let before = kept.once n in
           omega arith;
       weight =
-          let one = added_set s.views id v (v ++ w) at in
-          let two = added_set (set s.views id (v ++ w)) other w [] there in
-          let sum = added_append v w in
+          let one = in_set added_of s.views id v (v ++ w) at in
+          let two = in_set added_of (set s.views id (v ++ w)) other w [] there in
+          let sum = in_append added_of v w in
           let before = kept.weight in
           omega arith;
       full =
           let views = set (set s.views id (v ++ w)) other [] in
           let still : IsHalfPaid about s.views → IsHalfPaid about views = (λ was.
-          let one = added_set s.views id v (v ++ w) at in
-          let two = added_set (set s.views id (v ++ w)) other w [] there in
-          let sum = added_append v w in
+          let one = in_set added_of s.views id v (v ++ w) at in
+          let two = in_set added_of (set s.views id (v ++ w)) other w [] there in
+          let sum = in_append added_of v w in
           omega arith) in
           each_set (AllPaid about views) (set s.views id (v ++ w)) other []
           (λ j u away at'. each_set (AllPaid about views) s.views id (v ++ w) (λ i d off at'' k m here noted. still (kept.full i d at'' k m here noted))
@@ -247,9 +245,9 @@ enters about slots i s kept count fits = (
     history = kept.history;
     index = kept.index;
     fits = each_snoc (AllFit about kept.states kept.history) s.views [] (λ j v at. kept.fits j v at) (λ k m at. absurd (some-ne-none m (sym at)));
-    once = λ n. let snoc = times_snoc n s.views [] in let before = kept.once n in omega arith;
-    weight = let snoc = added_snoc s.views [] in let before = kept.weight in omega arith;
-    full = each_snoc (AllPaid about (s.views ++ [] ∷ [])) s.views [] (λ j v at k m here noted. let snoc = added_snoc s.views [] in let was = kept.full j v at k m here noted in omega arith) (λ k m at. absurd (some-ne-none m (sym at)));
+    once = λ n. let snoc = in_snoc (one_of n) s.views [] in let before = kept.once n in omega arith;
+    weight = let snoc = in_snoc added_of s.views [] in let before = kept.weight in omega arith;
+    full = each_snoc (AllPaid about (s.views ++ [] ∷ [])) s.views [] (λ j v at k m here noted. let snoc = in_snoc added_of s.views [] in let was = kept.full j v at k m here noted in omega arith) (λ k m at. absurd (some-ne-none m (sym at)));
     known = each_snoc (AllKnow (index_of about s.words kept.states kept.history)) s.views [] (λ j v at. kept.known j v at) (λ k m at. absurd (some-ne-none m (sym at)));
   },
   refl,

@@ -124,18 +124,21 @@ begun about id v s kept at rests =
     moved about id v u s.words h s kept at refl (subst IsIndex path index) fit (λ d other. stayed about kept.states h c u.state d other) (omega arith) (omega arith) (λ noted. inl noted)
     (λ a known. known) (kept.known id (v ∷ []) at 0 v refl)
 
--- the same where the step begins the turn
+-- The same where the party is told something new of itself before the step, as which its turn is in flight.
+allows_told : (about : About) (words slots id : ℕ) (me : Me (Unit {0}) (List Member)) (u : Member) (making : MakeTurn) (tells : Me (Unit {0}) (List Member) → ℕ → Me (Unit {0}) (List Member) → Type 0) → IsLone me → u.state.turn ≡ Some making
+    → action_address about.layout (making_asks making) < words → ((found : ℕ) (after : Me (Unit {0}) (List Member)) → IsLone after → TurnGoes making u (given (making_asks making) found) (party after) → tells me found after)
+    → ((s : State (Unit {0}) (List Member)) → Kept about s → get_elem? s.views id ≡ some (party me ∷ []) → Kept about (record { words = s.words; homes = s.homes; views = set s.views id (u ∷ []) })) → May about words slots id me (making_asks making) tells
+allows_told about words slots id me u making tells lone flies within tell told =
+    may about words slots id me (making_asks making) (TurnGoes making u) tells lone within tell
+    (λ f same s kept at small.
+    leaves_first about s id (making_asks making) f u (TurnGoes making u) (TurnGoes making u) (λ x w goes. goes)
+    (done about id u making f flies same (record { words = s.words; homes = s.homes; views = set s.views id (u ∷ []) }) (told s kept at) (set_here s.views id (u ∷ []) (party me ∷ []) at) small))
+
+-- so it is where the step begins the turn
 pub turn_allows_first : (about : About) (words slots id : ℕ) (me : Me (Unit {0}) (List Member)) → IsLone me → (party me).state.turn ≡ None → action_address about.layout (making_asks (turn_in (party me) first_epoch)) < words
     → May about words slots id me (making_asks (turn_in (party me) first_epoch)) StartsTurn
 turn_allows_first about words slots id me lone rests within =
-    let v = party me in
-    let making = turn_in v first_epoch in
-    let u = turning v in
-    may about words slots id me (making_asks making) (TurnGoes making u) StartsTurn lone within (λ found after alone goes. (alone, goes))
-    (λ f same s kept at fits.
-    leaves_first about s id (making_asks making) f u (TurnGoes making u) (TurnGoes making u) (λ x w goes. goes)
-    (done about id u making f refl same (record { words = s.words; homes = s.homes; views = set s.views id (u ∷ []) })
-    (begun about id v s kept at rests) (set_here s.views id (u ∷ []) (v ∷ []) at) fits))
+    allows_told about words slots id me (turning (party me)) (turn_in (party me) first_epoch) StartsTurn lone refl within (λ found after alone goes. (alone, goes)) (λ s kept at. begun about id (party me) s kept at rests)
 
 -- the parties and the views once a party that has the lock has the epoch of its turn
 dated : (about : About) (id : ℕ) (v : Member) (epoch : ℕ) (s : State (Unit {0}) (List Member)) (kept : Kept about s) → get_elem? s.views id ≡ some (v ∷ []) → v.state.turn ≡ Some (work_in v first_epoch) → 1 ≤ epoch → epoch < 2 ^ 64
@@ -155,15 +158,8 @@ dated about id v epoch s kept at flies positive fits =
     moved about id v u s.words h s kept at refl (subst IsIndex path law.kept) fit (λ d other. stayed about kept.states h c u.state d other) (omega arith) (omega arith) (λ noted. inl noted)
     (λ a known. known) (kept.known id (v ∷ []) at 0 v refl)
 
--- the same where the step is the first under the lock
+-- and where the step is the first under the lock
 pub work_allows_first : (about : About) (words slots id : ℕ) (me : Me (Unit {0}) (List Member)) (epoch : ℕ) → IsLone me → (party me).state.turn ≡ Some (work_in (party me) first_epoch) → 1 ≤ epoch → epoch < 2 ^ 64
     → action_address about.layout (making_asks (work_in (party me) epoch)) < words → May about words slots id me (making_asks (work_in (party me) epoch)) (StartsWork epoch)
 work_allows_first about words slots id me epoch lone flies positive fits within =
-    let v = party me in
-    let making = work_in v epoch in
-    let u = turning_at v epoch in
-    may about words slots id me (making_asks making) (TurnGoes making u) (StartsWork epoch) lone within (λ found after alone goes. (alone, goes))
-    (λ f same s kept at small.
-    leaves_first about s id (making_asks making) f u (TurnGoes making u) (TurnGoes making u) (λ x w goes. goes)
-    (done about id u making f refl same (record { words = s.words; homes = s.homes; views = set s.views id (u ∷ []) })
-    (dated about id v epoch s kept at flies positive fits) (set_here s.views id (u ∷ []) (v ∷ []) at) small))
+    allows_told about words slots id me (turning_at (party me) epoch) (work_in (party me) epoch) (StartsWork epoch) lone refl within (λ found after alone goes. (alone, goes)) (λ s kept at. dated about id (party me) epoch s kept at flies positive fits)

@@ -18,9 +18,10 @@ use Rattle.pac_index.specs.declared.rule.Member.{Member}
 use Rattle.pac_index.specs.declared.shared.Shared.{Shared}
 use Rattle.pac_index.specs.declared.tried.TriedTurn.{TriedTurn}
 use Rattle.pac_index.specs.declared.tried.TriedTurn.TheVariants as turn
-use Rattle.pac_index.specs.Callers.{IsAtRest, IsCallerOf, TellsCut, pairs, pins_of, seen_by}
+use Rattle.pac_index.specs.Callers.{IsAtRest, IsCallerOf, StaysCaller, TellsCut, pairs, pins_of, seen_by}
 use Rattle.pac_index.specs.Calls.{run_of}
-use Rattle.pac_index.specs.CutTurns.{IsCutTurnTry, StopsDated, StopsUndated, TurnStops, TurnStopsAt}
+use Rattle.pac_index.specs.CutTurns.{StopsDated, StopsUndated, TurnStops, TurnStopsAt}
+use Rattle.pac_index.specs.Outcomes.{TurnTryComesTo, TurnTryRests}
 use Rattle.pac_index.specs.Turns.{HasLock, IsDated, MadeTurn, OnTurn, TurnAnswers, TurnGoes, TurnHeld, TurnRuns, noted_by, turn_in, turning, work_in}
 use Rattle.pac_index.proofs.Remaining.{IsSeated, rests_tells, unplaced_caller}
 
@@ -82,7 +83,7 @@ module _ (s : Shared) (b a : Caller) (is : IsCallerOf s b) (rests : IsAtRest b) 
   Ran t = OnTurn t (λ turned epoch advanced. MadeTurn s.epochs.parties (seen_by b) (pins_of b) turned epoch advanced (seen_by a) (pins_of a)) (λ word. TurnHeld word (seen_by b) (seen_by a) × (pins_of a ≡ pins_of b))
       ((a.left ≡ Some 0) × TurnStops s.epochs.parties (seen_by b) (pins_of b) (seen_by a) (pins_of a))
 
-  pub turned_caller : (t : TriedTurn) → Ran t → IsCallerOf s a
+  turned_caller : (t : TriedTurn) → Ran t → IsCallerOf s a
   turned_caller (turn.Turned turned epoch advanced) ran = (answered_so epoch (reply.Turned turned) ran.answers).0
   turned_caller (turn.Held word) ran = (answered_so first_epoch (reply.Held word) (ran.0 first_epoch)).0
   turned_caller turn.Cut ran = ⊎_elim
@@ -90,13 +91,15 @@ module _ (s : Shared) (b a : Caller) (is : IsCallerOf s b) (rests : IsAtRest b) 
       (λ (later : StopsDated s.epochs.parties (seen_by b) (pins_of b) (seen_by a) (pins_of a)). stopped_so later.epoch ran.0 later.stops)
       ran.1
 
-  pub turned_rests : (t : TriedTurn) → Ran t → OnTurn t (λ turned epoch advanced. IsAtRest a) (λ word. IsAtRest a) (Unit {0})
+  pub turned_stays : (t : TriedTurn) → Ran t → StaysCaller s b a
+  turned_stays t ran = (turned_caller t ran, seated.number)
+
+  pub turned_rests : (t : TriedTurn) → Ran t → TurnTryRests t a
   turned_rests (turn.Turned turned epoch advanced) ran = (answered_so epoch (reply.Turned turned) ran.answers).1
   turned_rests (turn.Held word) ran = (answered_so first_epoch (reply.Held word) (ran.0 first_epoch)).1
   turned_rests turn.Cut ran = tt
 
-  pub turned_told : (t : TriedTurn) → Ran t → OnTurn t (λ turned epoch advanced. MadeTurn s.epochs.parties (seen_by b) (pins_of b) turned epoch advanced (seen_by a) (pins_of a)) (λ word. TurnHeld word (seen_by b) (seen_by a) × (pins_of a ≡ pins_of b))
-      (IsCutTurnTry s.epochs.parties b a)
+  pub turned_told : (t : TriedTurn) → Ran t → TurnTryComesTo s.epochs.parties b t a
   turned_told (turn.Turned turned epoch advanced) ran = ran
   turned_told (turn.Held word) ran = ran
   turned_told turn.Cut ran = record { spent = ran.0; cut = inr ran.1 }

@@ -1,11 +1,12 @@
 -- Tries of a put or a delete, the turns between them, and how they end.
-use Rattle.std.proofs.Common.{◌≡◌, ℕ, zero, suc, ◌+◌, ◌-◌, ◌≤◌, inr, Bool, true, false, ◌||◌, length, refl, sym, ap, ◌∙◌, subst, inl, ⊎_elim, arith}
+use Rattle.std.proofs.Common.{◌≡◌, ℕ, zero, suc, ◌+◌, ◌-◌, ◌≤◌, ◌⊎◌, inr, Bool, true, false, ◌||◌, length, refl, sym, ap, ◌∙◌, subst, inl, ⊎_elim, arith}
 use Rattle.std.specs.Prelude.{Option, Some, None, IfSome, List, vec_len, vec_capacity}
 use Rattle.std.specs.FinMap.{len}
 use Rattle.cat_history.specs.Maps.{Map, map_of, at}
 use Rattle.cat_history.specs.Writes.{after}
 use Rattle.cat_history.specs.Records.{change_of}
 use Rattle.cat_history.specs.declared.op.Write.{Write}
+use Rattle.pm_words.specs.declared.again.Again.{Again}
 use Rattle.pm_words.specs.declared.again.Again.TheVariants as again
 use Rattle.call_stages.specs.declared.once.Once.{Once}
 use Rattle.call_stages.specs.declared.once.Once.TheVariants as once
@@ -31,21 +32,22 @@ use Rattle.pac_index.specs.declared.rule.Member.{Member}
 use Rattle.pac_index.specs.Kept.{Begins}
 use Rattle.pac_index.specs.declared.writes.WriteTry.TheVariants as write
 use Rattle.pac_index.specs.Budgets.{CutsOff, StopsAt, place_in}
-use Rattle.pac_index.specs.Cuts.{HasEnded, IsCutTry, IsCutWithin, IsTried, StopsTry}
-use Rattle.pac_index.specs.Calls.{Answers, OnTried, counted_index, own_at, own_of}
-use Rattle.pac_index.specs.Callers.{IsAtRest, pins_of, seen_by, spare_of}
+use Rattle.pac_index.specs.Cuts.{IsCutTry, IsCutWithin, IsTried, StopsTry}
+use Rattle.pac_index.specs.Calls.{Answers, counted_index, own_at, own_of}
+use Rattle.pac_index.specs.Callers.{HasMadeNone, IsAtRest, pins_of, seen_by, spare_of}
+use Rattle.pac_index.specs.Outcomes.{TakesSpare, TryComesTo, TryTakesSpare, WriteAnswered, WriteComesTo, WriteTakesSpare}
 use Rattle.pac_index.specs.CutTurns.{IsCutTurn, TurnCutsOff}
 use Rattle.pac_index.specs.CutWrites.{CutInTurn, HasTurnedWithin, IsCutBehind, IsCutWrite, NextSo, TryAnswered, TryBack, TryCut, TryCutInTurn, TryRoom, WriteSo, next_of}
 use Rattle.pac_index.specs.Ends.{ended_of, EachIs, HasOnlyRead, AtLast, IsTry, MovedEpoch}
 use Rattle.pac_index.specs.Ends.EachIs.{no_step, one_more}
 use Rattle.pac_index.specs.Turns.{FoundHeld, HasMadeTurn}
-use Rattle.pac_index.specs.Writes.{EndsSo, TurnedForRoom, TurnsBehind, WriteBack, HaveTurned, FoundFull}
+use Rattle.pac_index.specs.Writes.{TurnedForRoom, TurnsBehind, WriteBack, HaveTurned, FoundFull}
 use Rattle.pac_index.proofs.Lists.{begins_le}
 use Rattle.pac_index.proofs.Repeating.{StillOrRests, back_by, back_self, back_trans, cut_last, cut_room, cut_tells, cuts_turn_read, had_pin, pinned_try, same_index, tells_stopped, turn_reads}
 
 -- one try, by what it comes to
 module _ (c : CoreCall) (b a : Caller) where
-  answered : (answer : Once Placed) → ((first second : ℕ) → answer ≡ once.Again (again.Epoch first second) → ⊥) → IsTried (Answers c) b answer a → spare_of b ≤ spare_of a + length (own_of b c answer) → TryAnswered c b answer a
+  answered : (answer : Once Placed) → ((first second : ℕ) → answer ≡ once.Again (again.Epoch first second) → ⊥) → IsTried (Answers c) b answer a → TakesSpare c b answer a → TryAnswered c b answer a
   answered answer other is spare = record { rests = is.rests; index = is.index; answers = had_pin (Answers c b.index) b a answer other is.pinned; spare = spare }
 
   back_so : (answer : Once Placed) → ended_of answer ≡ None → TurnsBehind answer (seen_by a) (seen_by a) → IsTried (Answers c) b answer a → spare_of b ≤ spare_of a → TryBack c b a
@@ -56,7 +58,7 @@ module _ (c : CoreCall) (b a : Caller) where
     spare = spare;
   }
 
-  pub next_so : (t : Tried Placed) → OnTried t (λ answer. IsTried (Answers c) b answer a) (IsCutTry c b a) → OnTried t (λ answer. spare_of b ≤ spare_of a + length (own_of b c answer)) (Unit {0}) → NextSo c b (next_of t) a
+  pub next_so : (t : Tried Placed) → TryComesTo c b t a → TryTakesSpare c b t a → NextSo c b (next_of t) a
   next_so tried.Cut is spare = is
   next_so (tried.Answered (once.Done placed)) is spare = answered (once.Done placed) (λ first second no. cc) is spare
   next_so (tried.Answered (once.Spent clock)) is spare = answered (once.Spent clock) (λ first second no. cc) is spare
@@ -78,14 +80,14 @@ turned_within parties old a is = ⊎_elim
     is.cut
 
 -- a turn behind a try
-module _ (parties : ℕ) (c : CoreCall) (b v a : Caller) (same : (a.number ≡ v.number) × (a.index ≡ v.index) × (a.kept ≡ v.kept) × (a.cut ≡ v.cut)) where
+module _ (parties : ℕ) (c : CoreCall) (b v a : Caller) (same : HasMadeNone v a) where
   room_same : spare_of a ≡ spare_of v
-  room_same = ap (λ (k : _). vec_capacity k - vec_len k) same.2
+  room_same = ap (λ (k : _). vec_capacity k - vec_len k) same.1
 
   pub line_back : (turned : Turned) → TryAnswered c b (once.Again again.LogFull) v → HasTurnedWithin parties v (Some turned) a → TryBack c b a
   line_back turned t turn = record {
     rests = turn.0;
-    index = same.1 ∙ t.index;
+    index = same.0 ∙ t.index;
     back = record { answer = once.Again again.LogFull; again = refl; tried = seen_by v; told = inl t.answers; next = (turned, turn.1) };
     spare = let less = t.spare in let room = room_same in omega arith;
   }
@@ -93,28 +95,25 @@ module _ (parties : ℕ) (c : CoreCall) (b v a : Caller) (same : (a.number ≡ v
   pub node_room : (turned : Turned) → TryAnswered c b (once.Again again.NoFree) v → HasTurnedWithin parties v (Some turned) a → TryRoom c b turned.none_free a
   node_room turned t turn = record {
     rests = turn.0;
-    index = same.1 ∙ t.index;
+    index = same.0 ∙ t.index;
     room = record { tried = seen_by v; refused = t.answers; turned = turned; turn = turn.1; told = refl };
     spare = let less = t.spare in let room = room_same in omega arith;
   }
 
-  pub line_cut : TryAnswered c b (once.Again again.LogFull) v → HasTurnedWithin parties v None a → TryCut parties c b a
-  line_cut t cut = inr (record {
+  cut_behind : (why : Again) → (◌≡◌ {A = Once Placed} (once.Again why) (once.Again again.LogFull)) ⊎ (◌≡◌ {A = Once Placed} (once.Again why) (once.Again again.NoFree)) → TryAnswered c b (once.Again why) v → HasTurnedWithin parties v None a → TryCut parties c b a
+  cut_behind why wants t cut = inr (record {
     spent = cut.0;
-    index = same.1 ∙ t.index;
-    uncut = same.3 ∙ t.rests.2;
-    cut = record { answer = once.Again again.LogFull; wants = inl refl; tried = seen_by v; told = t.answers; pins = pins_of v; pins_now = pins_of a; cut = cut.1 };
+    index = same.0 ∙ t.index;
+    uncut = same.2 ∙ t.rests.2;
+    cut = record { answer = once.Again why; wants = wants; tried = seen_by v; told = t.answers; pins = pins_of v; pins_now = pins_of a; cut = cut.1 };
     spare = let less = t.spare in let room = room_same in omega arith;
   })
 
+  pub line_cut : TryAnswered c b (once.Again again.LogFull) v → HasTurnedWithin parties v None a → TryCut parties c b a
+  line_cut t cut = cut_behind again.LogFull (inl refl) t cut
+
   pub node_cut : TryAnswered c b (once.Again again.NoFree) v → HasTurnedWithin parties v None a → TryCut parties c b a
-  node_cut t cut = inr (record {
-    spent = cut.0;
-    index = same.1 ∙ t.index;
-    uncut = same.3 ∙ t.rests.2;
-    cut = record { answer = once.Again again.NoFree; wants = inr refl; tried = seen_by v; told = t.answers; pins = pins_of v; pins_now = pins_of a; cut = cut.1 };
-    spare = let less = t.spare in let room = room_same in omega arith;
-  })
+  node_cut t cut = cut_behind again.NoFree (inr refl) t cut
 
 pub turned_reads : (turned : Turned) (v w : Member) → HasMadeTurn turned v w → HasOnlyRead v w
 turned_reads turned v w is = back_trans v is.before w is.back (turn_reads is.last.0 is.before w (reply.Turned turned) is.last.1)
@@ -269,11 +268,8 @@ never_full name limit n old w full = (full.last.last.refused.says refl).0
 
 -- ---- how such a call ends
 
-abbrev WriteEnds : ℕ → CoreCall → Caller → Ended Placed → Caller → Type 0
-WriteEnds parties c old e a = EndsSo e (λ answer. HasEnded (AtLast (WriteBack c old.index) (λ before after. Answers c old.index before answer after)) old a) (HasEnded (FoundFull c old.index) old a) (IsCutWrite parties c old a)
-
 module _ (parties : ℕ) (c : CoreCall) (turns : ℕ) (old b a : Caller) (so : Writing c old.index turns (seen_by old) b.index (seen_by b)) where
-  done_so : (answer : Once Placed) → ((m : ℕ) → counted_index m answer ≡ next_index m) → TryAnswered c b answer a → HasEnded (AtLast (WriteBack c old.index) (λ before after. Answers c old.index before answer after)) old a
+  done_so : (answer : Once Placed) → ((m : ℕ) → counted_index m answer ≡ next_index m) → TryAnswered c b answer a → WriteAnswered c old answer a
   done_so answer counted t = record {
     rests = t.rests;
     index = t.index ∙ counted b.index ∙ ap next_index so.index;
@@ -314,7 +310,7 @@ module _ (parties : ℕ) (c : CoreCall) (turns : ℕ) (old b a : Caller) (so : W
         spare = let more = is.spare in omega arith;
       })
 
-  pub write_ends : (e : Ended Placed) → StillOrRests old b → b.number ≡ old.number → spare_of old ≤ spare_of b → WriteSo parties c b (write.Ended e) a → WriteEnds parties c old e a
+  pub write_ends : (e : Ended Placed) → StillOrRests old b → b.number ≡ old.number → spare_of old ≤ spare_of b → WriteSo parties c b (write.Ended e) a → WriteComesTo parties c old e a
   write_ends (ended.Done placed) still number less t = done_so (once.Done placed) (λ m. refl) t
   write_ends (ended.Spent clock) still number less t = done_so (once.Spent clock) (λ m. refl) t
   write_ends ended.Full still number less t = absurd t
@@ -327,7 +323,7 @@ own_same old now c answer number index =
     ap (λ (k : ℕ). length (own_at k now.index change (place_told change answer))) number ∙ ap (λ (k : ℕ). length (own_at old.number k change (place_told change answer))) index
 
 pub spare_ends : (parties : ℕ) (end : Ended Placed) (c : CoreCall) (old now a : Caller) → now.number ≡ old.number → now.index ≡ old.index → spare_of old ≤ spare_of now → WriteSo parties c now (write.Ended end) a
-    → EndsSo end (λ answer. spare_of old ≤ spare_of a + length (own_of old c answer)) (spare_of old ≤ spare_of a) (Unit {0})
+    → WriteTakesSpare c old end a
 spare_ends parties (ended.Done placed) c old now a number index most t = let same = own_same old now c (once.Done placed) number index in let fits = t.spare in omega arith
 spare_ends parties (ended.Spent clock) c old now a number index most t = let same = own_same old now c (once.Spent clock) number index in let fits = t.spare in omega arith
 spare_ends parties ended.Full c old now a number index most t = absurd t

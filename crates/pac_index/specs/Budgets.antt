@@ -14,7 +14,7 @@ use Rattle.pac_index.specs.declared.caller.CutCall.{CutCall}
 use Rattle.pac_index.specs.declared.ran.Ran.{Ran}
 use Rattle.pac_index.specs.declared.ran.Ran.TheVariants as ran
 use Rattle.pac_index.specs.declared.rule.Member.{Member}
-use Rattle.pac_index.specs.Calls.{Answers, PartAnswers, own_at, run_of}
+use Rattle.pac_index.specs.Calls.{own_at, run_of}
 use Rattle.pac_index.specs.Ends.{DoesNothing, TurnedBack}
 use Rattle.pac_index.specs.Kept.{Begins, KnowsStill, placed_by, machine_in}
 
@@ -58,12 +58,9 @@ abbrev pub place_in : Option CutCall → Option ℕ
 place_in None = None
 place_in (Some cut) = cut.place
 
--- A try of a call, and of a part of a range scan, that was turned back, with nothing behind it.
-abbrev pub CallBack : CoreCall → ℕ → Member → Member → Type 0
-CallBack call index old new = TurnedBack (Answers call index) DoesNothing old new
-
-abbrev pub PartBack : List ℕ → ℕ → ℕ → Member → Member → Type 0
-PartBack low count index old new = TurnedBack (PartAnswers low count index) DoesNothing old new
+-- A try that was turned back, with nothing behind it: of what is answered this holds, by the index of its call.
+abbrev pub TriedBack : {T : Type 0} → (ℕ → Member → Once T → Member → Type 0) → ℕ → Member → Member → Type 0
+TriedBack holds index old new = TurnedBack (holds index) DoesNothing old new
 
 -- A call was cut off within its last try: before the first step of that, or behind one.
 abbrev pub CutsOff : CoreCall → ℕ → Member → Option ℕ → Member → Type 0

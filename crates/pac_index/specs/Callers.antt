@@ -79,6 +79,18 @@ pub record IsCallerOf (s : Shared) (c : Caller) : Type 0 where
   pub unpinned : IsUnpinned c.pins
   pub pinning : c.pins.party ≡ c.number
 
+-- It may make calls: it is a caller of this index, and not the last one, which is the updater's.
+abbrev pub MayCall : Shared → Caller → Type 0
+MayCall s c = IsCallerOf s c × (c.number < s.about.layout.callers)
+
+-- It is a caller of this index still, of the same number.
+abbrev pub StaysCaller : Shared → Caller → Caller → Type 0
+StaysCaller s old new = IsCallerOf s new × (new.number ≡ old.number)
+
+-- It has counted no call, kept no write and tells of no other call that was cut off.
+abbrev pub HasMadeNone : Caller → Caller → Type 0
+HasMadeNone old new = (new.index ≡ old.index) × (new.kept ≡ old.kept) × (new.cut ≡ old.cut)
+
 -- The callers of this index from number 0 on, each at the place of its number.
 pub record HasCallers (s : Shared) (n : ℕ) (callers : List Caller) : Type 0 where
   pub count : length callers ≡ n

@@ -43,6 +43,7 @@ use Rattle.index_law.specs.Facts.{facts_of}
 use Rattle.index_law.specs.Weights.{index_weight, weight_sum}
 use Rattle.cat_history.specs.declared.op.NameOp.{NameOp}
 use Rattle.atomic_table.specs.Table.{State, Me, Allows}
+use Rattle.epochs.specs.Views.{one_if, in_view, in_views}
 use Rattle.pac_index.specs.declared.rule.About.{About}
 use Rattle.pac_index.specs.declared.rule.AnsweredPart.{AnsweredPart}
 use Rattle.pac_index.specs.declared.rule.Member.{Member}
@@ -89,27 +90,26 @@ pub record Fits (about : About) (states : List PartyState) (history : List Write
 abbrev pub AllFit : About → List PartyState → List Write → List Member → Type 0
 AllFit about states history view = (k : ℕ) (m : Member) → get_elem? view k ≡ some m → Fits about states history m
 
--- How often a number stands among the parties of a view, and of all views.
-abbrev pub one_if : Bool → ℕ
-one_if true = 1
-one_if false = 0
+-- One for the party of this number.
+abbrev pub one_of : ℕ → Member → ℕ
+one_of n m = one_if (m.state.caller == n)
 
+-- How often a number stands among the parties of a view, and of all views.
 abbrev pub times_in : ℕ → List Member → ℕ
-times_in n [] = 0
-times_in n (m ∷ ms) = one_if (m.state.caller == n) + times_in n ms
+times_in n v = in_view (one_of n) v
 
 abbrev pub times_in_all : ℕ → List (List Member) → ℕ
-times_in_all n [] = 0
-times_in_all n (v ∷ vs) = times_in n v + times_in_all n vs
+times_in_all n vs = in_views (one_of n) vs
 
--- How many names the parties of a view have added, with those that their calls in flight show.
+-- How many names a party has added, with one that its call in flight shows; and those of a view, and of all views.
+abbrev pub added_of : Member → ℕ
+added_of m = m.added + showing m.state.machine
+
 abbrev pub added_in : List Member → ℕ
-added_in [] = 0
-added_in (m ∷ ms) = (m.added + showing m.state.machine) + added_in ms
+added_in v = in_view added_of v
 
 abbrev pub added_in_all : List (List Member) → ℕ
-added_in_all [] = 0
-added_in_all (v ∷ vs) = added_in v + added_in_all vs
+added_in_all vs = in_views added_of vs
 
 -- What the index weighed as the run began.
 abbrev pub opening_weight : About → ℕ

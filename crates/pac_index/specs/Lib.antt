@@ -15,6 +15,7 @@ pub mod Turns
 pub mod Writes
 pub mod Pinned
 pub mod Rechecked
+pub mod Outcomes
 -- crates below, for those above that name them through this one
 pub use Rattle.node_ops
 pub use Rattle.index_core.specs.image_layer_rules

@@ -1,5 +1,5 @@
 -- What a whole range scan is answered.
-use Rattle.std.specs.Prelude.{ℕ, ◌<◌, ◌≤◌, ◌^◌, Bool, List, length, flat_map, All, IfSome}
+use Rattle.std.specs.Prelude.{ℕ, ◌<◌, ◌≤◌, ◌^◌, Bool, true, false, List, length, flat_map, All, IfSome}
 use Rattle.cat_key.specs.Names.{IsName}
 use Rattle.cat_key.specs.declared.Pair.{Pair}
 use Rattle.cat_history.specs.Maps.{map_of}
@@ -37,3 +37,8 @@ pub record AreScanned (from : List ℕ) (count : ℕ) (cut : Bool) (old new : Me
   pub within : All (λ part. part.place ≤ length new.seen) parts
   pub rise : Rise (flat_map (λ part. part.pairs) parts)
   pub named : All IsNamed parts
+
+-- What a scan read that comes to this: all its parts where it is done, and those before it was cut off.
+abbrev pub HasScanned : List ℕ → ℕ → Member → Scanned → Member → Type 0
+HasScanned from count old scanned new =
+    OnScan scanned (AreScanned from count false old new) (AreScanned from count true old new)

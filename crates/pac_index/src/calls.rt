@@ -1,5 +1,5 @@
 ghost use Rattle.pac_index.specs.declared.shared.Shared.{Shared};
-ghost use Rattle.std.specs.Prelude.{OnOk, IfSome, Some, ◌≡◌, ◌+◌, ◌++◌, ◌≤◌, ◌<◌, ◌^◌, length};
+ghost use Rattle.std.specs.Prelude.{OnOk, IfSome, Some, ◌≡◌, ◌+◌, ◌++◌, ◌≤◌, ◌^◌, length};
 ghost use Rattle.cat_history.specs.Records.{change_of};
 ghost use Rattle.index_core.specs.CoreCalls.{MayBegin, op_of, most_writes};
 ghost use Rattle.index_core.specs.declared.party.CoreCall.TheVariants as call;
@@ -7,9 +7,10 @@ ghost use Rattle.pm_words.specs.declared.again.Again.TheVariants as again;
 ghost use Rattle.call_stages.specs.declared.once.Once.TheVariants as once;
 ghost use Rattle.index_core.specs.MachineLaws.{place_told};
 ghost use Rattle.pac_index.specs.declared.tried.Tried.TheVariants as tried;
-ghost use Rattle.pac_index.specs.Cuts.{HasPaid, IsCutTry, IsTried};
-ghost use Rattle.pac_index.specs.Calls.{Answers, PartAnswers, OnTried, own_at, own_of, counted_index};
-ghost use Rattle.pac_index.specs.Callers.{IsCallerOf, spare_of, pairs};
+ghost use Rattle.pac_index.specs.Cuts.{HasPaid};
+ghost use Rattle.pac_index.specs.Calls.{own_at, counted_index};
+ghost use Rattle.pac_index.specs.Callers.{IsCallerOf, MayCall, StaysCaller, spare_of, pairs};
+ghost use Rattle.pac_index.specs.Outcomes.{PartTryComesTo, TryComesTo, TryTakesSpare};
 
 use crate::caller::{Caller, CutCall, PlacedWrite};
 use crate::gate::{Gate, OpenGate, Pace};
@@ -40,18 +41,13 @@ impl Shared {
         value: u64,
         limit: u64,
     ) -> Tried<Placed>
-        requires caller { IsCallerOf self.now caller.old }
-        requires worker { caller.old.number < self.now.about.layout.callers }
+        requires may { MayCall self.now caller.old }
         requires limit { limit ≤ 2 ^ 62 }
         requires spare { 1 ≤ spare_of caller.old }
-        ensures caller { IsCallerOf self.now caller.new }
-        ensures number { caller.new.number ≡ caller.old.number }
-        ensures tried { OnTried result
-            (λ answer. IsTried (Answers (call.Put name.now value limit)) caller.old answer caller.new)
-            (IsCutTry (call.Put name.now value limit) caller.old caller.new) }
+        ensures stays { StaysCaller self.now caller.old caller.new }
+        ensures tried { TryComesTo (call.Put name.now value limit) caller.old result caller.new }
         ensures paid { HasPaid caller.old caller.new }
-        ensures spare { OnTried result (λ answer. spare_of caller.old ≤ spare_of caller.new + length
-            (own_of caller.old (call.Put name.now value limit) answer)) (Unit {0}) }
+        ensures spare { TryTakesSpare (call.Put name.now value limit) caller.old result caller.new }
     {
         let name = *name;
         self.try_call(caller, CoreCall::Put { name, value, limit }, &OpenGate)
@@ -59,12 +55,9 @@ impl Shared {
 
     /// One try of a get by one of the callers before the last, with a pin as a put has one.
     pub fn get_once(&self, caller: &mut Caller, name: &Name) -> Tried<Placed>
-        requires caller { IsCallerOf self.now caller.old }
-        requires worker { caller.old.number < self.now.about.layout.callers }
-        ensures caller { IsCallerOf self.now caller.new }
-        ensures number { caller.new.number ≡ caller.old.number }
-        ensures tried { OnTried result (λ answer. IsTried (Answers (call.Get name.now)) caller.old answer caller.new)
-            (IsCutTry (call.Get name.now) caller.old caller.new) }
+        requires may { MayCall self.now caller.old }
+        ensures stays { StaysCaller self.now caller.old caller.new }
+        ensures tried { TryComesTo (call.Get name.now) caller.old result caller.new }
         ensures paid { HasPaid caller.old caller.new }
         ensures spare { spare_of caller.old ≤ spare_of caller.new }
     {
@@ -74,18 +67,13 @@ impl Shared {
     /// One try of a delete by one of the callers before the last, with a pin, refused and placed as a put is. One that
     /// leaves few names may merge its node with the next one.
     pub fn del_once(&self, caller: &mut Caller, name: &Name, limit: u64) -> Tried<Placed>
-        requires caller { IsCallerOf self.now caller.old }
-        requires worker { caller.old.number < self.now.about.layout.callers }
+        requires may { MayCall self.now caller.old }
         requires limit { limit ≤ 2 ^ 62 }
         requires spare { 1 ≤ spare_of caller.old }
-        ensures caller { IsCallerOf self.now caller.new }
-        ensures number { caller.new.number ≡ caller.old.number }
-        ensures tried { OnTried result
-            (λ answer. IsTried (Answers (call.Del name.now limit)) caller.old answer caller.new)
-            (IsCutTry (call.Del name.now limit) caller.old caller.new) }
+        ensures stays { StaysCaller self.now caller.old caller.new }
+        ensures tried { TryComesTo (call.Del name.now limit) caller.old result caller.new }
         ensures paid { HasPaid caller.old caller.new }
-        ensures spare { OnTried result (λ answer. spare_of caller.old ≤ spare_of caller.new + length
-            (own_of caller.old (call.Del name.now limit) answer)) (Unit {0}) }
+        ensures spare { TryTakesSpare (call.Del name.now limit) caller.old result caller.new }
     {
         let name = *name;
         self.try_call(caller, CoreCall::Del { name, limit }, &OpenGate)
@@ -95,12 +83,9 @@ impl Shared {
     /// the first `count` names from the low one on, of those that the low one's node has, with their numbers as the map
     /// has them at a place of the part's time, and tells where they end.
     pub fn part_once(&self, caller: &mut Caller, low: &Name, count: u64) -> Tried<PartWords>
-        requires caller { IsCallerOf self.now caller.old }
-        requires worker { caller.old.number < self.now.about.layout.callers }
-        ensures caller { IsCallerOf self.now caller.new }
-        ensures number { caller.new.number ≡ caller.old.number }
-        ensures tried { OnTried result (λ answer. IsTried (PartAnswers low.now count) caller.old answer caller.new)
-            (IsCutTry (call.Part low.now count) caller.old caller.new) }
+        requires may { MayCall self.now caller.old }
+        ensures stays { StaysCaller self.now caller.old caller.new }
+        ensures tried { PartTryComesTo low.now count caller.old result caller.new }
         ensures paid { HasPaid caller.old caller.new }
         ensures spare { spare_of caller.old ≤ spare_of caller.new }
     {
@@ -110,17 +95,13 @@ impl Shared {
 
     /// One try of a call on one name, with the gate before its first step and between its steps on the index.
     pub fn try_call<G: Gate>(&self, caller: &mut Caller, call: CoreCall, gate: &G) -> Tried<Placed>
-        requires caller { IsCallerOf self.now caller.old }
-        requires worker { caller.old.number < self.now.about.layout.callers }
+        requires may { MayCall self.now caller.old }
         requires begins { MayBegin call }
         requires spare { most_writes call ≤ spare_of caller.old }
-        ensures caller { IsCallerOf self.now caller.new }
-        ensures number { caller.new.number ≡ caller.old.number }
-        ensures tried { OnTried result (λ answer. IsTried (Answers call) caller.old answer caller.new)
-            (IsCutTry call caller.old caller.new) }
+        ensures stays { StaysCaller self.now caller.old caller.new }
+        ensures tried { TryComesTo call caller.old result caller.new }
         ensures paid { HasPaid caller.old caller.new }
-        ensures spare { OnTried result (λ answer. spare_of caller.old ≤ spare_of caller.new + length
-            (own_of caller.old call answer)) (Unit {0}) }
+        ensures spare { TryTakesSpare call caller.old result caller.new }
     {
         let mut pace = Pace::begin(gate, caller, caller.index);
         self.try_at_pace(caller, &call, &mut pace)
@@ -134,17 +115,13 @@ impl Shared {
         call: &CoreCall,
         pace: &mut Pace<'_, G>,
     ) -> Tried<Placed>
-        requires caller { IsCallerOf self.now caller.old }
-        requires worker { caller.old.number < self.now.about.layout.callers }
+        requires may { MayCall self.now caller.old }
         requires begins { MayBegin call.now }
         requires spare { most_writes call.now ≤ spare_of caller.old }
-        ensures caller { IsCallerOf self.now caller.new }
-        ensures number { caller.new.number ≡ caller.old.number }
-        ensures tried { OnTried result (λ answer. IsTried (Answers call.now) caller.old answer caller.new)
-            (IsCutTry call.now caller.old caller.new) }
+        ensures stays { StaysCaller self.now caller.old caller.new }
+        ensures tried { TryComesTo call.now caller.old result caller.new }
         ensures paid { HasPaid caller.old caller.new }
-        ensures spare { OnTried result (λ answer. spare_of caller.old ≤ spare_of caller.new + length
-            (own_of caller.old call.now answer)) (Unit {0}) }
+        ensures spare { TryTakesSpare call.now caller.old result caller.new }
     {
         if caller.is_spent() {
             return Tried::Cut;
@@ -184,12 +161,9 @@ impl Shared {
         name: Name,
         pace: &mut Pace<'_, G>,
     ) -> Tried<Placed>
-        requires caller { IsCallerOf self.now caller.old }
-        requires worker { caller.old.number < self.now.about.layout.callers }
-        ensures caller { IsCallerOf self.now caller.new }
-        ensures number { caller.new.number ≡ caller.old.number }
-        ensures tried { OnTried result (λ answer. IsTried (Answers (call.Get name)) caller.old answer caller.new)
-            (IsCutTry (call.Get name) caller.old caller.new) }
+        requires may { MayCall self.now caller.old }
+        ensures stays { StaysCaller self.now caller.old caller.new }
+        ensures tried { TryComesTo (call.Get name) caller.old result caller.new }
         ensures paid { HasPaid caller.old caller.new }
         ensures spare { spare_of caller.old ≤ spare_of caller.new }
     {
@@ -204,12 +178,9 @@ impl Shared {
         count: u64,
         pace: &mut Pace<'_, G>,
     ) -> Tried<PartWords>
-        requires caller { IsCallerOf self.now caller.old }
-        requires worker { caller.old.number < self.now.about.layout.callers }
-        ensures caller { IsCallerOf self.now caller.new }
-        ensures number { caller.new.number ≡ caller.old.number }
-        ensures tried { OnTried result (λ answer. IsTried (PartAnswers low count) caller.old answer caller.new)
-            (IsCutTry (call.Part low count) caller.old caller.new) }
+        requires may { MayCall self.now caller.old }
+        ensures stays { StaysCaller self.now caller.old caller.new }
+        ensures tried { PartTryComesTo low count caller.old result caller.new }
         ensures paid { HasPaid caller.old caller.new }
         ensures spare { spare_of caller.old ≤ spare_of caller.new }
     {

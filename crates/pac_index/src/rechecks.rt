@@ -6,7 +6,7 @@ ghost use Rattle.pac_index.specs.Kept.{IsLone, party};
 ghost use Rattle.pac_index.specs.Budgets.{Pays};
 ghost use Rattle.pac_index.specs.Cuts.{HasPaid};
 ghost use Rattle.pac_index.specs.Calls.{OnTried};
-ghost use Rattle.pac_index.specs.Callers.{IsAtRest, IsCallerOf};
+ghost use Rattle.pac_index.specs.Callers.{IsAtRest, MayCall, StaysCaller};
 ghost use Rattle.pac_index.specs.CutRechecks.{HasLookedOnce, IsCutRecheck};
 ghost use Rattle.pac_index.specs.Pinned.{Pinned};
 ghost use Rattle.pac_index.specs.Rechecked.{Rechecked};
@@ -33,12 +33,10 @@ impl Shared {
     /// it was to list at most, and all of them where those are no fewer than a node has slots. Of a node and a version
     /// word of no such part it says nothing about names. It counts as no call: the index of the next one stays.
     pub fn recheck_once(&self, caller: &mut Caller, node: u64, version: u64) -> Tried<Same>
-        requires caller { IsCallerOf self.now caller.old }
-        requires worker { caller.old.number < self.now.about.layout.callers }
+        requires may { MayCall self.now caller.old }
         requires node { node < self.now.about.layout.nodes }
-        ensures caller { IsCallerOf self.now caller.new }
-        ensures same { (caller.new.number ≡ caller.old.number) × (caller.new.index ≡ caller.old.index) ×
-            (caller.new.kept ≡ caller.old.kept) }
+        ensures stays { StaysCaller self.now caller.old caller.new }
+        ensures same { (caller.new.index ≡ caller.old.index) × (caller.new.kept ≡ caller.old.kept) }
         ensures rests { OnTried result (λ answer. IsAtRest caller.new) (Unit {0}) }
         ensures tried { OnTried result (λ answer. Pinned (Rechecked node version) caller.old answer caller.new)
             (IsCutRecheck caller.old caller.new) }

@@ -1,15 +1,9 @@
 //! Calls that are made again until they take place, which may wait for a node that another caller holds.
 
-ghost use Rattle.std.specs.Prelude.{◌≡◌, ◌≤◌, ◌<◌};
-ghost use Rattle.call_stages.specs.declared.once.Once.TheVariants as once;
-ghost use Rattle.index_core.specs.declared.party.CoreCall.TheVariants as call;
-ghost use Rattle.pac_index.specs.Budgets.{CallBack, PartBack};
-ghost use Rattle.pac_index.specs.Cuts.{HasEnded, HasPaid, IsCutCall};
-ghost use Rattle.pac_index.specs.Calls.{Answers, PartAnswers};
-ghost use Rattle.pac_index.specs.Callers.{IsAtRest, IsCallerOf, pins_of, spare_of, seen_by};
-ghost use Rattle.pac_index.specs.CutTurns.{IsCutTurn};
-ghost use Rattle.pac_index.specs.Ends.{AtLast, OnDone};
-ghost use Rattle.pac_index.specs.Turns.{TurnedAtLast};
+ghost use Rattle.std.specs.Prelude.{◌≤◌};
+ghost use Rattle.pac_index.specs.Cuts.{HasPaid};
+ghost use Rattle.pac_index.specs.Callers.{HasMadeNone, IsCallerOf, MayCall, StaysCaller, spare_of};
+ghost use Rattle.pac_index.specs.Outcomes.{GetComesTo, PartComesTo, TurnComesTo};
 
 use crate::caller::Caller;
 use crate::ended::Ended;
@@ -26,15 +20,9 @@ impl Shared {
     /// A get by one of the callers before the last, which is the updater's. It takes no lock. It is tried again while
     /// it is turned back, so it may wait for as long as others lock the node or change it under the get.
     pub fn get<R: Wait>(&self, rt: &R, caller: &mut Caller, name: &Name) -> Ended<Placed>
-        requires caller { IsCallerOf self.now caller.old }
-        requires worker { caller.old.number < self.now.about.layout.callers }
-        ensures caller { IsCallerOf self.now caller.new }
-        ensures number { caller.new.number ≡ caller.old.number }
-        ensures done { OnDone result
-            (λ placed. HasEnded (AtLast (CallBack (call.Get name.now) caller.old.index)
-            (λ before after. Answers (call.Get name.now) caller.old.index before (once.Done placed) after))
-            caller.old caller.new)
-            (IsCutCall (CallBack (call.Get name.now) caller.old.index) (call.Get name.now) caller.old caller.new) }
+        requires may { MayCall self.now caller.old }
+        ensures stays { StaysCaller self.now caller.old caller.new }
+        ensures done { GetComesTo name.now caller.old result caller.new }
         ensures paid { HasPaid caller.old caller.new }
         ensures spare { spare_of caller.old ≤ spare_of caller.new }
     {
@@ -49,15 +37,9 @@ impl Shared {
         name: Name,
         gate: &G,
     ) -> Ended<Placed>
-        requires caller { IsCallerOf self.now caller.old }
-        requires worker { caller.old.number < self.now.about.layout.callers }
-        ensures caller { IsCallerOf self.now caller.new }
-        ensures number { caller.new.number ≡ caller.old.number }
-        ensures done { OnDone result
-            (λ placed. HasEnded (AtLast (CallBack (call.Get name) caller.old.index)
-            (λ before after. Answers (call.Get name) caller.old.index before (once.Done placed) after))
-            caller.old caller.new)
-            (IsCutCall (CallBack (call.Get name) caller.old.index) (call.Get name) caller.old caller.new) }
+        requires may { MayCall self.now caller.old }
+        ensures stays { StaysCaller self.now caller.old caller.new }
+        ensures done { GetComesTo name caller.old result caller.new }
         ensures paid { HasPaid caller.old caller.new }
         ensures spare { spare_of caller.old ≤ spare_of caller.new }
     {
@@ -79,15 +61,9 @@ impl Shared {
         low: &Name,
         count: u64,
     ) -> Ended<PartWords>
-        requires caller { IsCallerOf self.now caller.old }
-        requires worker { caller.old.number < self.now.about.layout.callers }
-        ensures caller { IsCallerOf self.now caller.new }
-        ensures number { caller.new.number ≡ caller.old.number }
-        ensures done { OnDone result
-            (λ words. HasEnded (AtLast (PartBack low.now count caller.old.index)
-            (λ before after. PartAnswers low.now count caller.old.index before (once.Done words) after))
-            caller.old caller.new)
-            (IsCutCall (PartBack low.now count caller.old.index) (call.Part low.now count) caller.old caller.new) }
+        requires may { MayCall self.now caller.old }
+        ensures stays { StaysCaller self.now caller.old caller.new }
+        ensures done { PartComesTo low.now count caller.old result caller.new }
         ensures paid { HasPaid caller.old caller.new }
         ensures spare { spare_of caller.old ≤ spare_of caller.new }
     {
@@ -103,15 +79,9 @@ impl Shared {
         count: u64,
         gate: &G,
     ) -> Ended<PartWords>
-        requires caller { IsCallerOf self.now caller.old }
-        requires worker { caller.old.number < self.now.about.layout.callers }
-        ensures caller { IsCallerOf self.now caller.new }
-        ensures number { caller.new.number ≡ caller.old.number }
-        ensures done { OnDone result
-            (λ words. HasEnded (AtLast (PartBack low count caller.old.index)
-            (λ before after. PartAnswers low count caller.old.index before (once.Done words) after))
-            caller.old caller.new)
-            (IsCutCall (PartBack low count caller.old.index) (call.Part low count) caller.old caller.new) }
+        requires may { MayCall self.now caller.old }
+        ensures stays { StaysCaller self.now caller.old caller.new }
+        ensures done { PartComesTo low count caller.old result caller.new }
         ensures paid { HasPaid caller.old caller.new }
         ensures spare { spare_of caller.old ≤ spare_of caller.new }
     {
@@ -128,15 +98,9 @@ impl Shared {
         count: u64,
         pace: &mut Pace<'_, G>,
     ) -> Ended<PartWords>
-        requires caller { IsCallerOf self.now caller.old }
-        requires worker { caller.old.number < self.now.about.layout.callers }
-        ensures caller { IsCallerOf self.now caller.new }
-        ensures number { caller.new.number ≡ caller.old.number }
-        ensures done { OnDone result
-            (λ words. HasEnded (AtLast (PartBack low count caller.old.index)
-            (λ before after. PartAnswers low count caller.old.index before (once.Done words) after))
-            caller.old caller.new)
-            (IsCutCall (PartBack low count caller.old.index) (call.Part low count) caller.old caller.new) }
+        requires may { MayCall self.now caller.old }
+        ensures stays { StaysCaller self.now caller.old caller.new }
+        ensures done { PartComesTo low count caller.old result caller.new }
         ensures paid { HasPaid caller.old caller.new }
         ensures spare { spare_of caller.old ≤ spare_of caller.new }
     {
@@ -153,12 +117,9 @@ impl Shared {
     /// for as long as that one has it.
     pub fn turn<R: Wait>(&self, rt: &R, caller: &mut Caller) -> Ended<Turned>
         requires caller { IsCallerOf self.now caller.old }
-        ensures caller { IsCallerOf self.now caller.new }
-        ensures same { (caller.new.number ≡ caller.old.number) × (caller.new.index ≡ caller.old.index) ×
-            (caller.new.kept ≡ caller.old.kept) × (caller.new.cut ≡ caller.old.cut) }
-        ensures done { OnDone result (λ turned. IsAtRest caller.new × TurnedAtLast self.now.epochs.parties
-            (seen_by caller.old) (pins_of caller.old) turned (seen_by caller.new) (pins_of caller.new))
-            (IsCutTurn self.now.epochs.parties caller.old caller.new) }
+        ensures stays { StaysCaller self.now caller.old caller.new }
+        ensures same { HasMadeNone caller.old caller.new }
+        ensures done { TurnComesTo self.now.epochs.parties caller.old result caller.new }
         ensures paid { HasPaid caller.old caller.new }
     {
         self.turn_at(rt, caller, &OpenGate)
@@ -167,12 +128,9 @@ impl Shared {
     /// A turn of the updater by any caller with the gate in the same way.
     pub fn turn_at<R: Wait, G: Gate>(&self, rt: &R, caller: &mut Caller, gate: &G) -> Ended<Turned>
         requires caller { IsCallerOf self.now caller.old }
-        ensures caller { IsCallerOf self.now caller.new }
-        ensures same { (caller.new.number ≡ caller.old.number) × (caller.new.index ≡ caller.old.index) ×
-            (caller.new.kept ≡ caller.old.kept) × (caller.new.cut ≡ caller.old.cut) }
-        ensures done { OnDone result (λ turned. IsAtRest caller.new × TurnedAtLast self.now.epochs.parties
-            (seen_by caller.old) (pins_of caller.old) turned (seen_by caller.new) (pins_of caller.new))
-            (IsCutTurn self.now.epochs.parties caller.old caller.new) }
+        ensures stays { StaysCaller self.now caller.old caller.new }
+        ensures same { HasMadeNone caller.old caller.new }
+        ensures done { TurnComesTo self.now.epochs.parties caller.old result caller.new }
         ensures paid { HasPaid caller.old caller.new }
     {
         let mut pace = Pace::begin(gate, caller, caller.index);
@@ -187,12 +145,9 @@ impl Shared {
         pace: &mut Pace<'_, G>,
     ) -> Ended<Turned>
         requires caller { IsCallerOf self.now caller.old }
-        ensures caller { IsCallerOf self.now caller.new }
-        ensures same { (caller.new.number ≡ caller.old.number) × (caller.new.index ≡ caller.old.index) ×
-            (caller.new.kept ≡ caller.old.kept) × (caller.new.cut ≡ caller.old.cut) }
-        ensures done { OnDone result (λ turned. IsAtRest caller.new × TurnedAtLast self.now.epochs.parties
-            (seen_by caller.old) (pins_of caller.old) turned (seen_by caller.new) (pins_of caller.new))
-            (IsCutTurn self.now.epochs.parties caller.old caller.new) }
+        ensures stays { StaysCaller self.now caller.old caller.new }
+        ensures same { HasMadeNone caller.old caller.new }
+        ensures done { TurnComesTo self.now.epochs.parties caller.old result caller.new }
         ensures paid { HasPaid caller.old caller.new }
     {
         for _ in rt.forever() {

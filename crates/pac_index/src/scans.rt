@@ -1,10 +1,10 @@
 //! Whole range scans: parts, one after another.
 
-ghost use Rattle.std.specs.Prelude.{◌≡◌, ◌≤◌, ◌<◌, IfOk, IfSome, false, true};
+ghost use Rattle.std.specs.Prelude.{◌≡◌, ◌≤◌, IfOk, IfSome};
 ghost use Rattle.pac_index.specs.Cuts.{HasPaid};
-ghost use Rattle.pac_index.specs.Callers.{IsCallerOf, spare_of, seen_by};
+ghost use Rattle.pac_index.specs.Callers.{MayCall, StaysCaller, spare_of, seen_by};
 ghost use Rattle.pac_index.specs.Ends.{HasOnlyRead};
-ghost use Rattle.pac_index.specs.Scanned.{AreScanned, IsRead, OnScan};
+ghost use Rattle.pac_index.specs.Scanned.{HasScanned, IsRead};
 ghost use Rattle.pac_index.specs.CutScans.{PartEnds, PartsEnd, ScanEnds, is_cut_scan};
 
 use crate::caller::Caller;
@@ -43,15 +43,12 @@ impl Shared {
         from: &Name,
         count: u64,
     ) -> Result<Scanned, NoMemory>
-        requires caller { IsCallerOf self.now caller.old }
-        requires worker { caller.old.number < self.now.about.layout.callers }
-        ensures caller { IsCallerOf self.now caller.new }
-        ensures number { caller.new.number ≡ caller.old.number }
+        requires may { MayCall self.now caller.old }
+        ensures stays { StaysCaller self.now caller.old caller.new }
         ensures ends { ScanEnds result caller.old caller.new }
         ensures reads { HasOnlyRead (seen_by caller.old) (seen_by caller.new) }
-        ensures done { IfOk result (λ scanned. OnScan scanned
-            (AreScanned from.now count false (seen_by caller.old) (seen_by caller.new))
-            (AreScanned from.now count true (seen_by caller.old) (seen_by caller.new))) }
+        ensures done { IfOk result
+            (λ scanned. HasScanned from.now count (seen_by caller.old) scanned (seen_by caller.new)) }
         ensures paid { HasPaid caller.old caller.new }
         ensures spare { spare_of caller.old ≤ spare_of caller.new }
     {
@@ -68,15 +65,12 @@ impl Shared {
         count: u64,
         gate: &G,
     ) -> Result<Scanned, NoMemory>
-        requires caller { IsCallerOf self.now caller.old }
-        requires worker { caller.old.number < self.now.about.layout.callers }
-        ensures caller { IsCallerOf self.now caller.new }
-        ensures number { caller.new.number ≡ caller.old.number }
+        requires may { MayCall self.now caller.old }
+        ensures stays { StaysCaller self.now caller.old caller.new }
         ensures ends { ScanEnds result caller.old caller.new }
         ensures reads { HasOnlyRead (seen_by caller.old) (seen_by caller.new) }
-        ensures done { IfOk result (λ scanned. OnScan scanned
-            (AreScanned from count false (seen_by caller.old) (seen_by caller.new))
-            (AreScanned from count true (seen_by caller.old) (seen_by caller.new))) }
+        ensures done { IfOk result
+            (λ scanned. HasScanned from count (seen_by caller.old) scanned (seen_by caller.new)) }
         ensures paid { HasPaid caller.old caller.new }
         ensures spare { spare_of caller.old ≤ spare_of caller.new }
     {
@@ -99,16 +93,13 @@ impl Shared {
         count: u64,
         pace: &mut Pace<'_, G>,
     ) -> Result<Scanned, NoMemory>
-        requires caller { IsCallerOf self.now caller.old }
-        requires worker { caller.old.number < self.now.about.layout.callers }
-        ensures caller { IsCallerOf self.now caller.new }
-        ensures number { caller.new.number ≡ caller.old.number }
+        requires may { MayCall self.now caller.old }
+        ensures stays { StaysCaller self.now caller.old caller.new }
         ensures index { caller.new.index ≡ caller.old.index }
         ensures ends { PartsEnd result caller.old caller.new }
         ensures reads { HasOnlyRead (seen_by caller.old) (seen_by caller.new) }
-        ensures parts { IfOk result (λ scanned. OnScan scanned
-            (AreScanned from count false (seen_by caller.old) (seen_by caller.new))
-            (AreScanned from count true (seen_by caller.old) (seen_by caller.new))) }
+        ensures parts { IfOk result
+            (λ scanned. HasScanned from count (seen_by caller.old) scanned (seen_by caller.new)) }
         ensures paid { HasPaid caller.old caller.new }
         ensures spare { spare_of caller.old ≤ spare_of caller.new }
     {
@@ -138,10 +129,8 @@ impl Shared {
         left: u64,
         pace: &mut Pace<'_, G>,
     ) -> Result<Option<ScanPart>, NoMemory>
-        requires caller { IsCallerOf self.now caller.old }
-        requires worker { caller.old.number < self.now.about.layout.callers }
-        ensures caller { IsCallerOf self.now caller.new }
-        ensures number { caller.new.number ≡ caller.old.number }
+        requires may { MayCall self.now caller.old }
+        ensures stays { StaysCaller self.now caller.old caller.new }
         ensures index { caller.new.index ≡ caller.old.index }
         ensures ends { PartEnds result caller.old caller.new }
         ensures reads { HasOnlyRead (seen_by caller.old) (seen_by caller.new) }

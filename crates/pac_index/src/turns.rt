@@ -9,8 +9,9 @@ ghost use Rattle.epochs.specs.Seats.{IsSeatOf, known_by};
 ghost use Rattle.pac_index.specs.Kept.{IsLone, party};
 ghost use Rattle.pac_index.specs.Budgets.{Pays};
 ghost use Rattle.pac_index.specs.Cuts.{HasPaid};
-ghost use Rattle.pac_index.specs.Callers.{IsAtRest, IsCallerOf, pins_of, seen_by};
-ghost use Rattle.pac_index.specs.CutTurns.{IsCutTurnTry, TurnStops};
+ghost use Rattle.pac_index.specs.Callers.{HasMadeNone, IsCallerOf, StaysCaller};
+ghost use Rattle.pac_index.specs.CutTurns.{TurnStops};
+ghost use Rattle.pac_index.specs.Outcomes.{TurnTryComesTo, TurnTryRests};
 ghost use Rattle.pac_index.specs.Turns.{IsDated, OnTurn, MadeTurn, TurnHeld, TurnReady, WorkStepsOn};
 ghost use Rattle.pac_index.specs.Turns.{turn_in, turning, turning_at, work_in, TurnGoes};
 
@@ -36,16 +37,10 @@ impl Shared {
     /// lock taken; then the epoch isn't touched. It takes no pin, places no write and counts no call.
     pub fn turn_once(&self, caller: &mut Caller) -> TriedTurn
         requires caller { IsCallerOf self.now caller.old }
-        ensures caller { IsCallerOf self.now caller.new }
-        ensures same { (caller.new.number ≡ caller.old.number) × (caller.new.index ≡ caller.old.index) ×
-            (caller.new.kept ≡ caller.old.kept) × (caller.new.cut ≡ caller.old.cut) }
-        ensures rests { OnTurn result (λ turned epoch advanced. IsAtRest caller.new) (λ word. IsAtRest caller.new)
-            (Unit {0}) }
-        ensures told { OnTurn result (λ turned epoch advanced. MadeTurn self.now.epochs.parties (seen_by caller.old)
-            (pins_of caller.old) turned epoch advanced (seen_by caller.new) (pins_of caller.new))
-            (λ word. TurnHeld word (seen_by caller.old) (seen_by caller.new) ×
-            (pins_of caller.new ≡ pins_of caller.old))
-            (IsCutTurnTry self.now.epochs.parties caller.old caller.new) }
+        ensures stays { StaysCaller self.now caller.old caller.new }
+        ensures same { HasMadeNone caller.old caller.new }
+        ensures rests { TurnTryRests result caller.new }
+        ensures told { TurnTryComesTo self.now.epochs.parties caller.old result caller.new }
         ensures paid { HasPaid caller.old caller.new }
     {
         let mut pace = Pace::begin(&OpenGate, caller, caller.index);
@@ -57,16 +52,10 @@ impl Shared {
     pub fn turn_at_gate<G: Gate>(&self, caller: &mut Caller, turn: u64, gate: &G) -> TriedTurn
         requires caller { IsCallerOf self.now caller.old }
         requires updater { caller.old.number ≡ self.now.about.layout.callers }
-        ensures caller { IsCallerOf self.now caller.new }
-        ensures same { (caller.new.number ≡ caller.old.number) × (caller.new.index ≡ caller.old.index) ×
-            (caller.new.kept ≡ caller.old.kept) × (caller.new.cut ≡ caller.old.cut) }
-        ensures rests { OnTurn result (λ turned epoch advanced. IsAtRest caller.new) (λ word. IsAtRest caller.new)
-            (Unit {0}) }
-        ensures told { OnTurn result (λ turned epoch advanced. MadeTurn self.now.epochs.parties (seen_by caller.old)
-            (pins_of caller.old) turned epoch advanced (seen_by caller.new) (pins_of caller.new))
-            (λ word. TurnHeld word (seen_by caller.old) (seen_by caller.new) ×
-            (pins_of caller.new ≡ pins_of caller.old))
-            (IsCutTurnTry self.now.epochs.parties caller.old caller.new) }
+        ensures stays { StaysCaller self.now caller.old caller.new }
+        ensures same { HasMadeNone caller.old caller.new }
+        ensures rests { TurnTryRests result caller.new }
+        ensures told { TurnTryComesTo self.now.epochs.parties caller.old result caller.new }
         ensures paid { HasPaid caller.old caller.new }
     {
         let mut pace = Pace::begin(gate, caller, turn);
@@ -76,16 +65,10 @@ impl Shared {
     /// One try of a turn by any of the callers, in a call that goes at this pace.
     pub(crate) fn try_turn<G: Gate>(&self, caller: &mut Caller, pace: &mut Pace<'_, G>) -> TriedTurn
         requires caller { IsCallerOf self.now caller.old }
-        ensures caller { IsCallerOf self.now caller.new }
-        ensures same { (caller.new.number ≡ caller.old.number) × (caller.new.index ≡ caller.old.index) ×
-            (caller.new.kept ≡ caller.old.kept) × (caller.new.cut ≡ caller.old.cut) }
-        ensures rests { OnTurn result (λ turned epoch advanced. IsAtRest caller.new) (λ word. IsAtRest caller.new)
-            (Unit {0}) }
-        ensures told { OnTurn result (λ turned epoch advanced. MadeTurn self.now.epochs.parties (seen_by caller.old)
-            (pins_of caller.old) turned epoch advanced (seen_by caller.new) (pins_of caller.new))
-            (λ word. TurnHeld word (seen_by caller.old) (seen_by caller.new) ×
-            (pins_of caller.new ≡ pins_of caller.old))
-            (IsCutTurnTry self.now.epochs.parties caller.old caller.new) }
+        ensures stays { StaysCaller self.now caller.old caller.new }
+        ensures same { HasMadeNone caller.old caller.new }
+        ensures rests { TurnTryRests result caller.new }
+        ensures told { TurnTryComesTo self.now.epochs.parties caller.old result caller.new }
         ensures paid { HasPaid caller.old caller.new }
     {
         if caller.is_spent() {

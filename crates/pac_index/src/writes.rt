@@ -1,14 +1,12 @@
 //! Puts and deletes that are made again until they take place, with turns of the updater where they need them.
 
-ghost use Rattle.std.specs.Prelude.{◌≡◌, ◌+◌, ◌≤◌, ◌<◌, ◌^◌, length};
+ghost use Rattle.std.specs.Prelude.{◌≡◌, ◌≤◌, ◌^◌};
 ghost use Rattle.index_core.specs.declared.party.CoreCall.TheVariants as call;
 ghost use Rattle.index_core.specs.CoreCalls.{MayBegin, most_writes};
-ghost use Rattle.pac_index.specs.Cuts.{HasEnded, HasPaid};
-ghost use Rattle.pac_index.specs.Calls.{Answers, own_of};
-ghost use Rattle.pac_index.specs.Callers.{IsAtRest, IsCallerOf, spare_of};
-ghost use Rattle.pac_index.specs.CutWrites.{HasTurnedWithin, IsCutWrite, NextSo, WriteSo, next_of};
-ghost use Rattle.pac_index.specs.Ends.{AtLast};
-ghost use Rattle.pac_index.specs.Writes.{EndsSo, FoundFull, WriteBack};
+ghost use Rattle.pac_index.specs.Cuts.{HasPaid};
+ghost use Rattle.pac_index.specs.Callers.{HasMadeNone, IsAtRest, IsCallerOf, MayCall, StaysCaller, spare_of};
+ghost use Rattle.pac_index.specs.CutWrites.{HasTurnedWithin, NextSo, WriteSo, next_of};
+ghost use Rattle.pac_index.specs.Outcomes.{DelComesTo, WriteComesTo, WriteTakesSpare};
 
 use crate::caller::Caller;
 use crate::ended::Ended;
@@ -57,22 +55,14 @@ impl Shared {
         value: u64,
         limit: u64,
     ) -> Ended<Placed>
-        requires caller { IsCallerOf self.now caller.old }
-        requires worker { caller.old.number < self.now.about.layout.callers }
+        requires may { MayCall self.now caller.old }
         requires limit { limit ≤ 2 ^ 62 }
         requires spare { 1 ≤ spare_of caller.old }
-        ensures caller { IsCallerOf self.now caller.new }
-        ensures number { caller.new.number ≡ caller.old.number }
-        ensures ends { EndsSo result
-            (λ answer. HasEnded (AtLast (WriteBack (call.Put name.now value limit) caller.old.index)
-            (λ before after. Answers (call.Put name.now value limit) caller.old.index before answer after))
-            caller.old caller.new)
-            (HasEnded (FoundFull (call.Put name.now value limit) caller.old.index) caller.old caller.new)
-            (IsCutWrite self.now.epochs.parties (call.Put name.now value limit) caller.old caller.new) }
+        ensures stays { StaysCaller self.now caller.old caller.new }
+        ensures ends { WriteComesTo self.now.epochs.parties (call.Put name.now value limit) caller.old result
+            caller.new }
         ensures paid { HasPaid caller.old caller.new }
-        ensures spare { EndsSo result (λ answer. spare_of caller.old ≤ spare_of caller.new + length
-            (own_of caller.old (call.Put name.now value limit) answer))
-            (spare_of caller.old ≤ spare_of caller.new) (Unit {0}) }
+        ensures spare { WriteTakesSpare (call.Put name.now value limit) caller.old result caller.new }
     {
         let name = *name;
         self.write(rt, caller, CoreCall::Put { name, value, limit }, &OpenGate)
@@ -86,21 +76,13 @@ impl Shared {
         name: &Name,
         limit: u64,
     ) -> Ended<Placed>
-        requires caller { IsCallerOf self.now caller.old }
-        requires worker { caller.old.number < self.now.about.layout.callers }
+        requires may { MayCall self.now caller.old }
         requires limit { limit ≤ 2 ^ 62 }
         requires spare { 1 ≤ spare_of caller.old }
-        ensures caller { IsCallerOf self.now caller.new }
-        ensures number { caller.new.number ≡ caller.old.number }
-        ensures ends { EndsSo result
-            (λ answer. HasEnded (AtLast (WriteBack (call.Del name.now limit) caller.old.index)
-            (λ before after. Answers (call.Del name.now limit) caller.old.index before answer after))
-            caller.old caller.new)
-            ⊥
-            (IsCutWrite self.now.epochs.parties (call.Del name.now limit) caller.old caller.new) }
+        ensures stays { StaysCaller self.now caller.old caller.new }
+        ensures ends { DelComesTo self.now.epochs.parties name.now limit caller.old result caller.new }
         ensures paid { HasPaid caller.old caller.new }
-        ensures spare { EndsSo result (λ answer. spare_of caller.old ≤ spare_of caller.new + length
-            (own_of caller.old (call.Del name.now limit) answer)) ⊥ (Unit {0}) }
+        ensures spare { WriteTakesSpare (call.Del name.now limit) caller.old result caller.new }
     {
         let name = *name;
         self.write(rt, caller, CoreCall::Del { name, limit }, &OpenGate)
@@ -114,22 +96,13 @@ impl Shared {
         call: CoreCall,
         gate: &G,
     ) -> Ended<Placed>
-        requires caller { IsCallerOf self.now caller.old }
-        requires worker { caller.old.number < self.now.about.layout.callers }
+        requires may { MayCall self.now caller.old }
         requires begins { MayBegin call }
         requires spare { most_writes call ≤ spare_of caller.old }
-        ensures caller { IsCallerOf self.now caller.new }
-        ensures number { caller.new.number ≡ caller.old.number }
-        ensures ends { EndsSo result
-            (λ answer. HasEnded (AtLast (WriteBack call caller.old.index)
-            (λ before after. Answers call caller.old.index before answer after))
-            caller.old caller.new)
-            (HasEnded (FoundFull call caller.old.index) caller.old caller.new)
-            (IsCutWrite self.now.epochs.parties call caller.old caller.new) }
+        ensures stays { StaysCaller self.now caller.old caller.new }
+        ensures ends { WriteComesTo self.now.epochs.parties call caller.old result caller.new }
         ensures paid { HasPaid caller.old caller.new }
-        ensures spare { EndsSo result (λ answer. spare_of caller.old ≤ spare_of caller.new + length
-            (own_of caller.old call answer))
-            (spare_of caller.old ≤ spare_of caller.new) (Unit {0}) }
+        ensures spare { WriteTakesSpare call caller.old result caller.new }
     {
         let mut pace = Pace::begin(gate, caller, caller.index);
         let mut turns = 0u64;
@@ -158,12 +131,10 @@ impl Shared {
         call: &CoreCall,
         pace: &mut Pace<'_, G>,
     ) -> WriteTry
-        requires caller { IsCallerOf self.now caller.old }
-        requires worker { caller.old.number < self.now.about.layout.callers }
+        requires may { MayCall self.now caller.old }
         requires begins { MayBegin call.now }
         requires spare { most_writes call.now ≤ spare_of caller.old }
-        ensures caller { IsCallerOf self.now caller.new }
-        ensures number { caller.new.number ≡ caller.old.number }
+        ensures stays { StaysCaller self.now caller.old caller.new }
         ensures tried { WriteSo self.now.epochs.parties call.now caller.old result caller.new }
         ensures paid { HasPaid caller.old caller.new }
     {
@@ -190,12 +161,10 @@ impl Shared {
         call: &CoreCall,
         pace: &mut Pace<'_, G>,
     ) -> WriteNext
-        requires caller { IsCallerOf self.now caller.old }
-        requires worker { caller.old.number < self.now.about.layout.callers }
+        requires may { MayCall self.now caller.old }
         requires begins { MayBegin call.now }
         requires spare { most_writes call.now ≤ spare_of caller.old }
-        ensures caller { IsCallerOf self.now caller.new }
-        ensures number { caller.new.number ≡ caller.old.number }
+        ensures stays { StaysCaller self.now caller.old caller.new }
         ensures next { NextSo call.now caller.old result caller.new }
         ensures paid { HasPaid caller.old caller.new }
     {
@@ -212,9 +181,8 @@ impl Shared {
     ) -> Option<Turned>
         requires caller { IsCallerOf self.now caller.old }
         requires rests { IsAtRest caller.old }
-        ensures caller { IsCallerOf self.now caller.new }
-        ensures same { (caller.new.number ≡ caller.old.number) × (caller.new.index ≡ caller.old.index) ×
-            (caller.new.kept ≡ caller.old.kept) × (caller.new.cut ≡ caller.old.cut) }
+        ensures stays { StaysCaller self.now caller.old caller.new }
+        ensures same { HasMadeNone caller.old caller.new }
         ensures turned { HasTurnedWithin self.now.epochs.parties caller.old result caller.new }
         ensures paid { HasPaid caller.old caller.new }
     {

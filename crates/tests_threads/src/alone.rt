@@ -2,7 +2,7 @@
 
 ghost use Rattle.std.specs.Prelude.{◌≡◌, ◌<◌};
 ghost use Rattle.pm_words.specs.Layouts.{IsLayout};
-ghost use Rattle.pac_index.specs.Callers.{IsCallerOf};
+ghost use Rattle.pac_index.specs.Callers.{MayCall, StaysCaller};
 
 use crate::meeting::{fresh, take_last};
 use crate::playing::LIMIT;
@@ -42,8 +42,8 @@ fn tries(
     caller: &mut Caller,
     name: &Name,
 ) -> Option<[Option<(Option<u64>, u64)>; 4]>
-    requires { IsCallerOf shared.now caller.old × (caller.old.number < shared.now.about.layout.callers) }
-    ensures { IsCallerOf shared.now caller.new × (caller.new.number ≡ caller.old.number) }
+    requires { MayCall shared.now caller.old }
+    ensures { StaysCaller shared.now caller.old caller.new }
 {
     caller.reserve(1).ok()?;
     let put = tried(shared.put_once(caller, name, 1, LIMIT));
@@ -64,8 +64,8 @@ fn waits<R: Wait>(
     caller: &mut Caller,
     name: &Name,
 ) -> Option<[Option<(Option<u64>, u64)>; 4]>
-    requires { IsCallerOf shared.now caller.old × (caller.old.number < shared.now.about.layout.callers) }
-    ensures { IsCallerOf shared.now caller.new × (caller.new.number ≡ caller.old.number) }
+    requires { MayCall shared.now caller.old }
+    ensures { StaysCaller shared.now caller.old caller.new }
 {
     caller.reserve(1).ok()?;
     let put = ended(shared.put(rt, caller, name, 2, LIMIT));
@@ -121,8 +121,8 @@ fn a_caller_alone_is_answered_as_by_a_map(rt: HostRuntime) -> Result<(), Fail> {
 
 /// At which place a recheck tells that the node of a part is the same still, if it does.
 fn rechecked(shared: &Shared, caller: &mut Caller, words: &PartWords) -> Option<u64>
-    requires { IsCallerOf shared.now caller.old × (caller.old.number < shared.now.about.layout.callers) }
-    ensures { IsCallerOf shared.now caller.new × (caller.new.number ≡ caller.old.number) }
+    requires { MayCall shared.now caller.old }
+    ensures { StaysCaller shared.now caller.old caller.new }
 {
     if words.node >= shared.layout().nodes() {
         return None;
@@ -135,8 +135,8 @@ fn rechecked(shared: &Shared, caller: &mut Caller, words: &PartWords) -> Option<
 
 /// A put, and whether it took place.
 fn put(shared: &Shared, caller: &mut Caller, name: &Name) -> Option<()>
-    requires { IsCallerOf shared.now caller.old × (caller.old.number < shared.now.about.layout.callers) }
-    ensures { IsCallerOf shared.now caller.new × (caller.new.number ≡ caller.old.number) }
+    requires { MayCall shared.now caller.old }
+    ensures { StaysCaller shared.now caller.old caller.new }
 {
     caller.reserve(1).ok()?;
     match shared.put_once(caller, name, 1, LIMIT) {
@@ -147,8 +147,8 @@ fn put(shared: &Shared, caller: &mut Caller, name: &Name) -> Option<()>
 
 /// A part of a name's node, and rechecks of it: at once, behind a get, and behind a put of the name.
 fn rechecks(shared: &Shared, caller: &mut Caller, name: &Name) -> Option<[Option<u64>; 3]>
-    requires { IsCallerOf shared.now caller.old × (caller.old.number < shared.now.about.layout.callers) }
-    ensures { IsCallerOf shared.now caller.new × (caller.new.number ≡ caller.old.number) }
+    requires { MayCall shared.now caller.old }
+    ensures { StaysCaller shared.now caller.old caller.new }
 {
     put(shared, caller, name)?;
     let words = match shared.part_once(caller, name, 3) {

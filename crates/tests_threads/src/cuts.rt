@@ -3,7 +3,7 @@
 ghost use Rattle.std.specs.Prelude.{◌≡◌, ◌<◌};
 ghost use Rattle.pm_words.specs.Layouts.{IsLayout};
 ghost use Rattle.recovery.specs.index_core.specs.Indexes.{parties_of};
-ghost use Rattle.pac_index.specs.Callers.{HasCallers, IsCallerOf};
+ghost use Rattle.pac_index.specs.Callers.{HasCallers, MayCall, StaysCaller};
 
 use crate::meeting::{fresh, put_back, take_last};
 use crate::playing::LIMIT;
@@ -42,8 +42,8 @@ fn has_place(caller: &Caller) -> bool {
 /// One try of a put of a name by a caller that may make so many steps: whether it was answered, and whether it has its
 /// place.
 fn put_within(shared: &Shared, caller: &mut Caller, name: &Name, steps: u64) -> Option<(bool, bool)>
-    requires { IsCallerOf shared.now caller.old × (caller.old.number < shared.now.about.layout.callers) }
-    ensures { IsCallerOf shared.now caller.new × (caller.new.number ≡ caller.old.number) }
+    requires { MayCall shared.now caller.old }
+    ensures { StaysCaller shared.now caller.old caller.new }
 {
     caller.reserve(1).ok()?;
     if caller.is_spent() {

@@ -4,7 +4,7 @@ ghost use Rattle.std.specs.Prelude.{◌≡◌, ◌+◌, ◌<◌, [], length, IfO
 ghost use denote.Param.Send.{IsSync};
 ghost use Rattle.pm_words.specs.Layouts.{IsLayout};
 ghost use Rattle.recovery.specs.index_core.specs.Lone.{IsQuiet};
-ghost use Rattle.pac_index.specs.Callers.{IsCallerOf, HasCallers};
+ghost use Rattle.pac_index.specs.Callers.{HasCallers, IsCallerOf, MayCall, StaysCaller};
 
 use crate::playing::{Finished, Notes, Plan, Reply, plays};
 use crate::telling::{are_told, do_rise};
@@ -30,7 +30,7 @@ fn make_turns<R: Wait>(
     done: &AtomicBool,
 ) -> (Caller, u64)
     requires { IsCallerOf shared.now caller × (caller.number ≡ shared.now.about.layout.callers) }
-    ensures { IsCallerOf shared.now result.0 × (result.0.number ≡ caller.number) }
+    ensures { StaysCaller shared.now caller result.0 }
 {
     let mut caller = caller;
     let mut emptied = 0u64;
@@ -57,10 +57,10 @@ fn both<R: Threads + Wait + Sync>(
     two: Caller,
     plans: [Plan; 2],
 ) -> (Finished, Finished)
-    requires one { IsCallerOf shared.now one × (one.number < shared.now.about.layout.callers) }
-    requires two { IsCallerOf shared.now two × (two.number < shared.now.about.layout.callers) }
-    ensures one { IsCallerOf shared.now result.0.caller × (result.0.caller.number ≡ one.number) }
-    ensures two { IsCallerOf shared.now result.1.caller × (result.1.caller.number ≡ two.number) }
+    requires one { MayCall shared.now one }
+    requires two { MayCall shared.now two }
+    ensures one { StaysCaller shared.now one result.0.caller }
+    ensures two { StaysCaller shared.now two result.1.caller }
 {
     let [first, second] = plans;
     join(
@@ -83,29 +83,27 @@ fn all_four<R: Threads + Wait + Sync>(
     plans: [Plan; 4],
     done: &AtomicBool,
 ) -> ((Finished, Finished), (Finished, Finished))
-    requires one { IsCallerOf shared.now one × (one.number < shared.now.about.layout.callers) }
-    requires two { IsCallerOf shared.now two × (two.number < shared.now.about.layout.callers) }
-    requires three { IsCallerOf shared.now three × (three.number < shared.now.about.layout.callers) }
-    requires four { IsCallerOf shared.now four × (four.number < shared.now.about.layout.callers) }
-    ensures one { IsCallerOf shared.now result.0.0.caller × (result.0.0.caller.number ≡ one.number) }
-    ensures two { IsCallerOf shared.now result.0.1.caller × (result.0.1.caller.number ≡ two.number) }
-    ensures three { IsCallerOf shared.now result.1.0.caller × (result.1.0.caller.number ≡ three.number) }
-    ensures four { IsCallerOf shared.now result.1.1.caller × (result.1.1.caller.number ≡ four.number) }
+    requires one { MayCall shared.now one }
+    requires two { MayCall shared.now two }
+    requires three { MayCall shared.now three }
+    requires four { MayCall shared.now four }
+    ensures one { StaysCaller shared.now one result.0.0.caller }
+    ensures two { StaysCaller shared.now two result.0.1.caller }
+    ensures three { StaysCaller shared.now three result.1.0.caller }
+    ensures four { StaysCaller shared.now four result.1.1.caller }
 {
     let [first, second, third, fourth] = plans;
     let played = join(
         rt,
         move || -> (Finished, Finished)
-            requires { IsSync R.row × IsCallerOf shared.now one × (one.number < shared.now.about.layout.callers) ×
-                IsCallerOf shared.now two × (two.number < shared.now.about.layout.callers) }
-            ensures { (IsCallerOf shared.entry.now result.0.caller × (result.0.caller.number ≡ one.number)) ×
-                (IsCallerOf shared.entry.now result.1.caller × (result.1.caller.number ≡ two.number)) }
+            requires { IsSync R.row × MayCall shared.now one × MayCall shared.now two }
+            ensures { StaysCaller shared.entry.now one result.0.caller ×
+                StaysCaller shared.entry.now two result.1.caller }
         { both(rt, shared, alloc, gate, one, two, [first, second]) },
         move || -> (Finished, Finished)
-            requires { IsSync R.row × IsCallerOf shared.now three × (three.number < shared.now.about.layout.callers) ×
-                IsCallerOf shared.now four × (four.number < shared.now.about.layout.callers) }
-            ensures { (IsCallerOf shared.entry.now result.0.caller × (result.0.caller.number ≡ three.number)) ×
-                (IsCallerOf shared.entry.now result.1.caller × (result.1.caller.number ≡ four.number)) }
+            requires { IsSync R.row × MayCall shared.now three × MayCall shared.now four }
+            ensures { StaysCaller shared.entry.now three result.0.caller ×
+                StaysCaller shared.entry.now four result.1.caller }
         { both(rt, shared, alloc, gate, three, four, [third, fourth]) },
     );
     done.store(true, Ordering::SeqCst);
@@ -126,30 +124,28 @@ fn all_turning<R: Threads + Wait + Sync>(
     plans: [Plan; 4],
     turns: u64,
 ) -> (((Finished, Finished), (Finished, Finished)), (Caller, u64))
-    requires one { IsCallerOf shared.now one × (one.number < shared.now.about.layout.callers) }
-    requires two { IsCallerOf shared.now two × (two.number < shared.now.about.layout.callers) }
-    requires three { IsCallerOf shared.now three × (three.number < shared.now.about.layout.callers) }
-    requires four { IsCallerOf shared.now four × (four.number < shared.now.about.layout.callers) }
+    requires one { MayCall shared.now one }
+    requires two { MayCall shared.now two }
+    requires three { MayCall shared.now three }
+    requires four { MayCall shared.now four }
     requires updater { IsCallerOf shared.now updater × (updater.number ≡ shared.now.about.layout.callers) }
-    ensures one { IsCallerOf shared.now result.0.0.0.caller × (result.0.0.0.caller.number ≡ one.number) }
-    ensures two { IsCallerOf shared.now result.0.0.1.caller × (result.0.0.1.caller.number ≡ two.number) }
-    ensures three { IsCallerOf shared.now result.0.1.0.caller × (result.0.1.0.caller.number ≡ three.number) }
-    ensures four { IsCallerOf shared.now result.0.1.1.caller × (result.0.1.1.caller.number ≡ four.number) }
-    ensures updater { IsCallerOf shared.now result.1.0 × (result.1.0.number ≡ updater.number) }
+    ensures one { StaysCaller shared.now one result.0.0.0.caller }
+    ensures two { StaysCaller shared.now two result.0.0.1.caller }
+    ensures three { StaysCaller shared.now three result.0.1.0.caller }
+    ensures four { StaysCaller shared.now four result.0.1.1.caller }
+    ensures updater { StaysCaller shared.now updater result.1.0 }
 {
     let flag = AtomicBool::new(false);
     let done = &flag;
     join(
         rt,
         move || -> ((Finished, Finished), (Finished, Finished))
-            requires { IsSync R.row × IsCallerOf shared.now one × (one.number < shared.now.about.layout.callers) ×
-                IsCallerOf shared.now two × (two.number < shared.now.about.layout.callers) ×
-                IsCallerOf shared.now three × (three.number < shared.now.about.layout.callers) ×
-                IsCallerOf shared.now four × (four.number < shared.now.about.layout.callers) }
-            ensures { (IsCallerOf shared.entry.now result.0.0.caller × (result.0.0.caller.number ≡ one.number)) ×
-                (IsCallerOf shared.entry.now result.0.1.caller × (result.0.1.caller.number ≡ two.number)) ×
-                (IsCallerOf shared.entry.now result.1.0.caller × (result.1.0.caller.number ≡ three.number)) ×
-                (IsCallerOf shared.entry.now result.1.1.caller × (result.1.1.caller.number ≡ four.number)) }
+            requires { IsSync R.row × MayCall shared.now one × MayCall shared.now two × MayCall shared.now three ×
+                MayCall shared.now four }
+            ensures { StaysCaller shared.entry.now one result.0.0.caller ×
+                StaysCaller shared.entry.now two result.0.1.caller ×
+                StaysCaller shared.entry.now three result.1.0.caller ×
+                StaysCaller shared.entry.now four result.1.1.caller }
         { all_four(rt, shared, alloc, gate, one, two, three, four, plans, done) },
         move || make_turns(rt, shared, updater, turns, done),
     )

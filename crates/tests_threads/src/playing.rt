@@ -2,7 +2,7 @@
 
 ghost use Rattle.std.specs.Prelude.{◌≡◌, ◌<◌, ◌≤◌, IfSome};
 ghost use Rattle.recovery.specs.index_core.specs.CoreCalls.{MayBegin, most_writes};
-ghost use Rattle.pac_index.specs.Callers.{IsCallerOf};
+ghost use Rattle.pac_index.specs.Callers.{MayCall, StaysCaller};
 
 use crate::telling::mixed;
 use crate::watch::Watch;
@@ -157,8 +157,8 @@ pub(crate) fn once(
     asks: Asks,
     gate: &Watch,
 ) -> Option<Once<Placed>>
-    requires { IsCallerOf shared.now caller.old × (caller.old.number < shared.now.about.layout.callers) }
-    ensures { IsCallerOf shared.now caller.new × (caller.new.number ≡ caller.old.number) }
+    requires { MayCall shared.now caller.old }
+    ensures { StaysCaller shared.now caller.old caller.new }
 {
     let call = call_of(name, asks)?;
     caller.reserve(1).ok()?;
@@ -177,8 +177,8 @@ fn tries(
     gate: &Watch,
     notes: &mut Notes,
 ) -> Option<()>
-    requires { IsCallerOf shared.now caller.old × (caller.old.number < shared.now.about.layout.callers) }
-    ensures { IsCallerOf shared.now caller.new × (caller.new.number ≡ caller.old.number) }
+    requires { MayCall shared.now caller.old }
+    ensures { StaysCaller shared.now caller.old caller.new }
 {
     let mut back = None;
     for _ in 0..TRIES {
@@ -205,8 +205,8 @@ fn writes<R: Wait>(
     asks: Asks,
     gate: &Watch,
 ) -> Option<Ended<Placed>>
-    requires { IsCallerOf shared.now caller.old × (caller.old.number < shared.now.about.layout.callers) }
-    ensures { IsCallerOf shared.now caller.new × (caller.new.number ≡ caller.old.number) }
+    requires { MayCall shared.now caller.old }
+    ensures { StaysCaller shared.now caller.old caller.new }
 {
     let call = call_of(name, asks)?;
     caller.reserve(1).ok()?;
@@ -254,8 +254,8 @@ fn lists<R: Wait>(
     gate: &Watch,
     notes: &mut Notes,
 ) -> Option<()>
-    requires { IsCallerOf shared.now caller.old × (caller.old.number < shared.now.about.layout.callers) }
-    ensures { IsCallerOf shared.now caller.new × (caller.new.number ≡ caller.old.number) }
+    requires { MayCall shared.now caller.old }
+    ensures { StaysCaller shared.now caller.old caller.new }
 {
     let (number, index) = (caller.number(), caller.index());
     match shared.part_at(rt, caller, low, count, gate) {
@@ -326,8 +326,8 @@ fn waits<R: Wait>(
     gate: &Watch,
     notes: &mut Notes,
 ) -> Option<()>
-    requires { IsCallerOf shared.now caller.old × (caller.old.number < shared.now.about.layout.callers) }
-    ensures { IsCallerOf shared.now caller.new × (caller.new.number ≡ caller.old.number) }
+    requires { MayCall shared.now caller.old }
+    ensures { StaysCaller shared.now caller.old caller.new }
 {
     let none = Placed {
         old: None,
@@ -351,8 +351,8 @@ fn scans<R: Wait>(
     from: Name,
     notes: &mut Notes,
 ) -> Option<()>
-    requires { IsCallerOf shared.now caller.old × (caller.old.number < shared.now.about.layout.callers) }
-    ensures { IsCallerOf shared.now caller.new × (caller.new.number ≡ caller.old.number) }
+    requires { MayCall shared.now caller.old }
+    ensures { StaysCaller shared.now caller.old caller.new }
 {
     let number = caller.number();
     match shared.scan(rt, alloc, caller, &from, SCAN) {
@@ -372,8 +372,8 @@ fn plays_one<R: Wait>(
     gate: &Watch,
     notes: &mut Notes,
 ) -> Option<()>
-    requires { IsCallerOf shared.now caller.old × (caller.old.number < shared.now.about.layout.callers) }
-    ensures { IsCallerOf shared.now caller.new × (caller.new.number ≡ caller.old.number) }
+    requires { MayCall shared.now caller.old }
+    ensures { StaysCaller shared.now caller.old caller.new }
 {
     let name = plan.name(number)?;
     match plan.habit {
@@ -405,8 +405,8 @@ pub(crate) fn plays<R: Wait>(
     plan: Plan,
     gate: &Watch,
 ) -> Finished
-    requires { IsCallerOf shared.now caller × (caller.number < shared.now.about.layout.callers) }
-    ensures { IsCallerOf shared.now result.caller × (result.caller.number ≡ caller.number) }
+    requires { MayCall shared.now caller }
+    ensures { StaysCaller shared.now caller result.caller }
 {
     let mut caller = caller;
     let mut notes = Notes {

@@ -2,7 +2,7 @@
 
 ghost use Rattle.std.specs.Prelude.{◌≡◌, ◌<◌};
 ghost use Rattle.pm_words.specs.Layouts.{IsLayout};
-ghost use Rattle.pac_index.specs.Callers.{IsCallerOf};
+ghost use Rattle.pac_index.specs.Callers.{MayCall, StaysCaller};
 
 use crate::meeting::{fresh, put_back, take_last};
 use crate::playing::{Asks, once};
@@ -57,8 +57,8 @@ fn are_wanted(parts: &[ScanPart], place: u64, wanted: &[Wanted]) -> bool {
 /// A call of the letter of this number: a put of its number from 1 on, which is made once more if it was turned back,
 /// as one is that splits its node; or a get.
 fn calls(shared: &Shared, caller: &mut Caller, number: u64, puts: bool) -> Option<()>
-    requires { IsCallerOf shared.now caller.old × (caller.old.number < shared.now.about.layout.callers) }
-    ensures { IsCallerOf shared.now caller.new × (caller.new.number ≡ caller.old.number) }
+    requires { MayCall shared.now caller.old }
+    ensures { StaysCaller shared.now caller.old caller.new }
 {
     let gate = Watch::new(None);
     let name = letter(number)?;
@@ -75,8 +75,8 @@ fn calls(shared: &Shared, caller: &mut Caller, number: u64, puts: bool) -> Optio
 
 /// A call of each of the first five letters.
 fn five_calls(shared: &Shared, caller: &mut Caller, puts: bool) -> Option<()>
-    requires { IsCallerOf shared.now caller.old × (caller.old.number < shared.now.about.layout.callers) }
-    ensures { IsCallerOf shared.now caller.new × (caller.new.number ≡ caller.old.number) }
+    requires { MayCall shared.now caller.old }
+    ensures { StaysCaller shared.now caller.old caller.new }
 {
     for number in 0..5 {
         calls(shared, caller, number, puts)?;
@@ -93,8 +93,8 @@ fn scans<R: Wait>(
     row: Row<'_>,
     place: u64,
 ) -> Option<bool>
-    requires { IsCallerOf shared.now caller.old × (caller.old.number < shared.now.about.layout.callers) }
-    ensures { IsCallerOf shared.now caller.new × (caller.new.number ≡ caller.old.number) }
+    requires { MayCall shared.now caller.old }
+    ensures { StaysCaller shared.now caller.old caller.new }
 {
     let (from, count, wanted) = row;
     let low = letter(from)?;
@@ -113,8 +113,8 @@ fn other_scan<R: Wait>(
     rows: &[Row<'_>],
     place: u64,
 ) -> Option<usize>
-    requires { IsCallerOf shared.now caller.old × (caller.old.number < shared.now.about.layout.callers) }
-    ensures { IsCallerOf shared.now caller.new × (caller.new.number ≡ caller.old.number) }
+    requires { MayCall shared.now caller.old }
+    ensures { StaysCaller shared.now caller.old caller.new }
 {
     for (k, row) in rows.iter().copied().enumerate() {
         if !scans(rt, shared, alloc, caller, row, place)? {

@@ -3,6 +3,5 @@ pub mod Making
 pub mod Playing
 pub mod Meeting
 pub mod Gathering
-pub mod Rows
 pub mod Turning
 pub mod PlacedCounts

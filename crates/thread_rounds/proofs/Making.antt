@@ -48,19 +48,20 @@ use Rattle.pac_index.specs.declared.rule.About.{About}
 use Rattle.pac_index.specs.declared.rule.Member.{Member}
 use Rattle.pac_index.specs.declared.ended.Ended.{Ended}
 use Rattle.pac_index.specs.declared.ended.Ended.TheVariants as ended
-use Rattle.pac_index.specs.Budgets.{CallBack, CutsOff, Pays, StopsAt, place_in}
-use Rattle.pac_index.specs.Cuts.{HasEnded, IsCutCall, IsCutWithin}
+use Rattle.pac_index.specs.Budgets.{CutsOff, Pays, StopsAt, TriedBack, place_in}
+use Rattle.pac_index.specs.Cuts.{IsCutWithin}
 use Rattle.pac_index.specs.Callers.{IsAtRest, seen_by}
 use Rattle.pac_index.specs.CrashMeetings.{change_in_flight, one_put, put_in_flight}
 use Rattle.pac_index.specs.CutScans.{IsCutScan, IsPartCut}
 use Rattle.pac_index.specs.CutWrites.{IsCutBehind, IsCutWrite}
 use Rattle.pac_index.specs.Kept.{placed_by, noted}
 use Rattle.pac_index.specs.Calls.{Answers, own_at}
-use Rattle.pac_index.specs.Ends.{AtLast, HasOnlyRead, OnDone}
-use Rattle.pac_index.specs.Writes.{EndsSo, FoundFull, WriteBack}
+use Rattle.pac_index.specs.Ends.{AtLast, HasOnlyRead}
+use Rattle.pac_index.specs.Outcomes.{GetComesTo, WriteComesTo}
+use Rattle.pac_index.specs.Writes.{FoundFull, WriteBack}
 use Rattle.pac_index.specs.Scanned.{AreScanned}
 use Rattle.pac_index.proofs.Lists.{begins_le, begins_trans}
-use Rattle.pac_index.proofs.Repeating.{back_self, back_trans}
+use Rattle.pac_index.proofs.Repeating.{back_self, back_trans, cut_off_reads, nothing_own, stop_reads}
 use Rattle.thread_rounds.specs.Made.{AnsweredOrCut, HasGone, IsMade, made, reply_told, write_mark}
 use Rattle.thread_rounds.proofs.Own.{own_between}
 
@@ -285,21 +286,7 @@ read-among c (Some one) changes reads is = subst (λ (o : Option Change). AreAmo
 -- one that has no place has left nothing of its own
 stopped-reads : (c : CoreCall) (index : ℕ) (old before new : Member) (place : Option ℕ) → HasOnlyRead old before → StopsAt c index before place new
     → own_at before.state.caller index (change_of (op_of c)) place ≡ [] → HasOnlyRead old new
-stopped-reads c index old before new place back is none = back_trans old before new back (record {
-  about = is.about;
-  caller = is.caller;
-  taken = let more = is.taken in omega arith;
-  added = is.added;
-  none_free = λ noted. is.none_free ∙ noted;
-  known = is.known;
-  seen = is.seen;
-  own = is.own ∙ ap (λ (l : List (ℕ × Write)). placed_by before.state.caller before.seen ++ l) none ∙ append-nil (placed_by before.state.caller before.seen);
-})
-
-cut-reads : (c : CoreCall) (index : ℕ) (old before new : Member) (place : Option ℕ) → HasOnlyRead old before → CutsOff c index before place new
-    → own_at before.state.caller index (change_of (op_of c)) place ≡ [] → HasOnlyRead old new
-cut-reads c index old before new place back (inl none) gone = subst (HasOnlyRead old) (sym none.1) back
-cut-reads c index old before new place back (inr is) gone = stopped-reads c index old before new place back is gone
+stopped-reads c index old before new place back is none = back_trans old before new back (stop_reads c index before new place none is)
 
 -- what is known of an op that asks for a change
 record IsWriteOp (o : NameOp) (change : Change) : Type 0 where
@@ -421,7 +408,7 @@ write-cut parties limit c old new writes limits mine uncut is = by is.cut
 
 -- a put or a delete, whichever it is
 pub write-made : (parties limit : ℕ) (c : CoreCall) (old new : Caller) → most_writes c ≡ 1 → limit_of c ≡ Some limit → (seen_by old).state.caller ≡ old.number → old.cut ≡ None → (end : Ended Placed)
-    → EndsSo end (λ answer. HasEnded (AtLast (WriteBack c old.index) (λ before after. Answers c old.index before answer after)) old new) (HasEnded (FoundFull c old.index) old new) (IsCutWrite parties c old new)
+    → WriteComesTo parties c old end new
     → IsMade limit old.number old.index (as_op (op_of c)) (reply_told (write_mark (place_in new.cut)) end) (seen_by old) (seen_by new) new.cut
 write-made parties limit c old new writes limits mine uncut (ended.Done placed) is =
     subst (IsMade limit old.number old.index (as_op (op_of c)) (reply.Old placed.old placed.place) (seen_by old) (seen_by new)) (sym is.rests.2)
@@ -449,7 +436,7 @@ index-alone reply ready old new same (inr stopped) = inr stopped
 
 -- it was answered, or cut off
 pub write-ends : (parties : ℕ) (c : CoreCall) (old new : Caller) (mark : CutMark) (end : Ended Placed)
-    → EndsSo end (λ answer. HasEnded (AtLast (WriteBack c old.index) (λ before after. Answers c old.index before answer after)) old new) (HasEnded (FoundFull c old.index) old new) (IsCutWrite parties c old new)
+    → WriteComesTo parties c old end new
     → AnsweredOrCut (reply_told mark end) old new
 write-ends parties c old new mark (ended.Done placed) is = inl (record { answered = tt; rests = is.rests; next = is.index })
 write-ends parties c old new mark (ended.Spent clock) is = inl (record { answered = tt; rests = is.rests; next = is.index })
@@ -458,7 +445,7 @@ write-ends parties c old new mark ended.Cut is = inr (record { begun = cut-begun
 
 -- a get
 pub get-made : (limit : ℕ) (name : List ℕ) (old new : Caller) → (seen_by old).state.caller ≡ old.number → old.cut ≡ None → (end : Ended Placed)
-    → OnDone end (λ placed. HasEnded (AtLast (CallBack (call.Get name) old.index) (λ before after. Answers (call.Get name) old.index before (once.Done placed) after)) old new) (IsCutCall (CallBack (call.Get name) old.index) (call.Get name) old new)
+    → GetComesTo name old end new
     → IsMade limit old.number old.index (op.Get name) (reply_told Read end) (seen_by old) (seen_by new) new.cut
 get-made limit name old new mine uncut (ended.Done placed) is =
     subst (IsMade limit old.number old.index (op.Get name) (reply.Old placed.old placed.place) (seen_by old) (seen_by new)) (sym is.rests.2)
@@ -480,23 +467,20 @@ get-made limit name old new mine uncut ended.Cut is = by is.cut
       unsettled = (read-found, read-lost);
     }
 
-    no-own : (caller : ℕ) (place : Option ℕ) → own_at caller old.index None place ≡ []
-    no-own caller None = refl
-    no-own caller (Some place) = refl
-
     of-this : (cut : Option CutCall) → IfSome cut (λ one. (one.call ≡ call.Get name) × (one.index ≡ old.index)) → IsOf (call.Get name) cut
     of-this None this = tt
     of-this (Some one) this = this.0
 
-    by : (new ≡ old) ⊎ IsCutWithin (CallBack (call.Get name) old.index) (call.Get name) old new → IsMade limit old.number old.index (op.Get name) (reply.Cut Read) (seen_by old) (seen_by new) new.cut
+    by : (new ≡ old) ⊎ IsCutWithin (TriedBack (Answers (call.Get name)) old.index) (call.Get name) old new → IsMade limit old.number old.index (op.Get name) (reply.Cut Read) (seen_by old) (seen_by new) new.cut
     by (inl same) =
         let none : new.cut ≡ None = ap (λ (d : Caller). d.cut) same ∙ uncut in
         read-made (subst (λ (d : Caller). HasOnlyRead (seen_by old) (seen_by d)) (sym same) (back_self (seen_by old))) (subst (IsOf (call.Get name)) (sym none) tt)
     by (inr within) =
-        read-made (cut-reads (call.Get name) old.index (seen_by old) within.last.before (seen_by new) (place_in new.cut) within.last.back within.last.last (no-own within.last.before.state.caller (place_in new.cut))) (of-this new.cut within.tells)
+        read-made (back_trans (seen_by old) within.last.before (seen_by new) within.last.back (cut_off_reads (call.Get name) old.index within.last.before (seen_by new) (place_in new.cut) (nothing_own within.last.before.state.caller old.index (place_in new.cut)) within.last.last))
+        (of-this new.cut within.tells)
 
 pub get-ends : (name : List ℕ) (old new : Caller) (end : Ended Placed)
-    → OnDone end (λ placed. HasEnded (AtLast (CallBack (call.Get name) old.index) (λ before after. Answers (call.Get name) old.index before (once.Done placed) after)) old new) (IsCutCall (CallBack (call.Get name) old.index) (call.Get name) old new)
+    → GetComesTo name old end new
     → AnsweredOrCut (reply_told Read end) old new
 get-ends name old new (ended.Done placed) is = inl (record { answered = tt; rests = is.rests; next = is.index })
 get-ends name old new (ended.Spent clock) is = absurd is

@@ -1,12 +1,12 @@
 //! One call of a round, made until it is answered or cut off.
 
-ghost use Rattle.std.specs.Prelude.{◌≡◌, ◌≢◌, ◌<◌, ◌≤◌, ◌^◌, IfOk, Some};
+ghost use Rattle.std.specs.Prelude.{◌≡◌, ◌≢◌, ◌≤◌, ◌^◌, IfOk, Some};
 ghost use Rattle.cat_history.specs.Records.{as_op};
 ghost use Rattle.cat_history.specs.declared.op.Op.TheVariants as op;
 ghost use Rattle.cat_history.specs.declared.record.Reply.TheVariants as reply;
 ghost use Rattle.pac_index.specs.index_core.specs.CoreCalls.{MayBegin, limit_of, most_writes, op_of};
 ghost use Rattle.pac_index.specs.Budgets.{place_in};
-ghost use Rattle.pac_index.specs.Callers.{IsCallerOf, seen_by};
+ghost use Rattle.pac_index.specs.Callers.{MayCall, StaysCaller, seen_by};
 ghost use Rattle.pac_index.specs.Cuts.{HasPaid};
 ghost use Rattle.caller_rounds.specs.Standing.{HasReportNumbers};
 ghost use Rattle.thread_rounds.specs.Made.{AnsweredOrCut, HasGone, IsMade, reply_told, write_mark};
@@ -29,11 +29,9 @@ pub(crate) fn reply_to<R: Wait, G: Gate>(
     limit: u64,
     gate: &G,
 ) -> Result<Reply, NoMemory>
-    requires caller { IsCallerOf shared.now caller.old }
-    requires worker { caller.old.number < shared.now.about.layout.callers }
+    requires may { MayCall shared.now caller.old }
     requires limit { limit ≤ 2 ^ 62 }
-    ensures caller { IsCallerOf shared.now caller.new }
-    ensures number { caller.new.number ≡ caller.old.number }
+    ensures stays { StaysCaller shared.now caller.old caller.new }
     ensures paid { IfOk result (λ _. HasPaid caller.old caller.new) }
     ensures gone { IfOk result (λ reply. HasGone limit op.now reply caller.old caller.new) }
     ensures told { IfOk result HasReportNumbers }
@@ -55,12 +53,10 @@ fn answer<R: Wait, G: Gate>(
     limit: u64,
     gate: &G,
 ) -> Result<Reply, NoMemory>
-    requires caller { IsCallerOf shared.now caller.old }
-    requires worker { caller.old.number < shared.now.about.layout.callers }
+    requires may { MayCall shared.now caller.old }
     requires steps { caller.old.left ≢ Some 0 }
     requires limit { limit ≤ 2 ^ 62 }
-    ensures caller { IsCallerOf shared.now caller.new }
-    ensures number { caller.new.number ≡ caller.old.number }
+    ensures stays { StaysCaller shared.now caller.old caller.new }
     ensures paid { IfOk result (λ _. HasPaid caller.old caller.new) }
     ensures made { IfOk result (λ reply. IsMade limit caller.old.number caller.old.index op.now reply
         (seen_by caller.old) (seen_by caller.new) caller.new.cut) }
@@ -93,13 +89,11 @@ fn write_reply<R: Wait, G: Gate>(
     call: CoreCall,
     gate: &G,
 ) -> Result<Reply, NoMemory>
-    requires caller { IsCallerOf shared.now caller.old }
-    requires worker { caller.old.number < shared.now.about.layout.callers }
+    requires may { MayCall shared.now caller.old }
     requires steps { caller.old.left ≢ Some 0 }
     requires begins { MayBegin call }
     requires writes { most_writes call ≡ 1 }
-    ensures caller { IsCallerOf shared.now caller.new }
-    ensures number { caller.new.number ≡ caller.old.number }
+    ensures stays { StaysCaller shared.now caller.old caller.new }
     ensures paid { IfOk result (λ _. HasPaid caller.old caller.new) }
     ensures made { IfOk result (λ reply. (limit : _) → limit_of call ≡ Some limit → IsMade limit caller.old.number
         caller.old.index (as_op (op_of call)) reply (seen_by caller.old) (seen_by caller.new) caller.new.cut) }
@@ -121,11 +115,9 @@ fn get_reply<R: Wait, G: Gate>(
     limit: u64,
     gate: &G,
 ) -> Reply
-    requires caller { IsCallerOf shared.now caller.old }
-    requires worker { caller.old.number < shared.now.about.layout.callers }
+    requires may { MayCall shared.now caller.old }
     requires steps { caller.old.left ≢ Some 0 }
-    ensures caller { IsCallerOf shared.now caller.new }
-    ensures number { caller.new.number ≡ caller.old.number }
+    ensures stays { StaysCaller shared.now caller.old caller.new }
     ensures paid { HasPaid caller.old caller.new }
     ensures made { IsMade limit caller.old.number caller.old.index (op.Get name) result (seen_by caller.old)
         (seen_by caller.new) caller.new.cut }
@@ -147,11 +139,9 @@ fn scan_reply<R: Wait, G: Gate>(
     limit: u64,
     gate: &G,
 ) -> Result<Reply, NoMemory>
-    requires caller { IsCallerOf shared.now caller.old }
-    requires worker { caller.old.number < shared.now.about.layout.callers }
+    requires may { MayCall shared.now caller.old }
     requires steps { caller.old.left ≢ Some 0 }
-    ensures caller { IsCallerOf shared.now caller.new }
-    ensures number { caller.new.number ≡ caller.old.number }
+    ensures stays { StaysCaller shared.now caller.old caller.new }
     ensures paid { IfOk result (λ _. HasPaid caller.old caller.new) }
     ensures made { IfOk result (λ reply. IsMade limit caller.old.number caller.old.index (op.Scan from count) reply
         (seen_by caller.old) (seen_by caller.new) caller.new.cut) }

@@ -1,7 +1,7 @@
 //! The worker of one caller: all its calls of a round, one after another.
 
 ghost use Rattle.std.specs.Prelude.{◌≡◌, ◌<◌, ◌≤◌, ◌^◌, [], None, All, IfOk};
-ghost use Rattle.pac_index.specs.Callers.{IsAtRest, IsCallerOf, seen_by};
+ghost use Rattle.pac_index.specs.Callers.{IsAtRest, IsCallerOf, MayCall, StaysCaller, seen_by};
 ghost use Rattle.pac_index.specs.Ends.{HasOnlyRead};
 ghost use Rattle.thread_rounds.specs.Played.{IsNew, IsPlayedBy, budget_of};
 
@@ -53,8 +53,7 @@ fn makes_calls<R: Wait, G: Gate>(
     plan: &RoundPlan,
     gate: &G,
 ) -> Result<Played, NoMemory>
-    requires caller { IsCallerOf shared.now caller }
-    requires worker { caller.number < shared.now.about.layout.callers }
+    requires may { MayCall shared.now caller }
     requires new { IsNew caller }
     requires limit { plan.now.limit ≤ 2 ^ 62 }
     ensures { IfOk result (IsPlayedBy shared.now plan.now caller) }
@@ -86,8 +85,7 @@ fn makes_turns<G: Gate>(shared: &Shared, caller: Caller, plan: &RoundPlan, gate:
     requires caller { IsCallerOf shared.now caller }
     requires updater { caller.number ≡ shared.now.about.layout.callers }
     requires new { IsNew caller }
-    ensures caller { IsCallerOf shared.now result }
-    ensures number { result.number ≡ caller.number }
+    ensures stays { StaysCaller shared.now caller result }
     ensures read { HasOnlyRead (seen_by caller) (seen_by result) }
     ensures uncut { result.cut ≡ None }
     ensures rests { plan.now.crash ≡ None → IsAtRest result }

@@ -2,7 +2,7 @@
 
 ghost use Rattle.std.specs.Prelude.{◌≡◌, ◌<◌, [], length, IfOk};
 ghost use Rattle.index_core.specs.Lone.{IsQuiet};
-ghost use Rattle.pac_index.specs.Callers.{IsCallerOf, HasCallers};
+ghost use Rattle.pac_index.specs.Callers.{HasCallers, IsCallerOf, MayCall, StaysCaller};
 
 use crate::calls::{LIMIT, Mix, is_put, name_of};
 use call_stages::Once;
@@ -54,7 +54,7 @@ fn all_play<R: Threads + Sync>(
         callers,
         &|caller: Caller| -> Caller
             requires { IsCallerOf shared.now caller }
-            ensures { IsCallerOf shared.entry.now result × (result.number ≡ caller.number) }
+            ensures { StaysCaller shared.entry.now caller result }
         { plays(shared, caller, active, calls, mix) },
     )?;
     Ok(done)
@@ -63,7 +63,7 @@ fn all_play<R: Threads + Sync>(
 /// All calls of a caller, or those before the first that isn't answered. Only the first `active` ones have any.
 fn plays(shared: &Shared, caller: Caller, active: u64, calls: u64, mix: Mix) -> Caller
     requires { IsCallerOf shared.now caller }
-    ensures { IsCallerOf shared.now result × (result.number ≡ caller.number) }
+    ensures { StaysCaller shared.now caller result }
 {
     let mut caller = caller;
     if caller.number() >= shared.layout().callers().min(active) {
@@ -79,8 +79,8 @@ fn plays(shared: &Shared, caller: Caller, active: u64, calls: u64, mix: Mix) -> 
 
 /// Makes the call of this number until it takes place.
 fn takes_place(shared: &Shared, caller: &mut Caller, mix: Mix, number: u64) -> bool
-    requires { IsCallerOf shared.now caller.old × (caller.old.number < shared.now.about.layout.callers) }
-    ensures { IsCallerOf shared.now caller.new × (caller.new.number ≡ caller.old.number) }
+    requires { MayCall shared.now caller.old }
+    ensures { StaysCaller shared.now caller.old caller.new }
 {
     for _ in 0..TRIES {
         match once(shared, caller, mix, number) {
@@ -94,8 +94,8 @@ fn takes_place(shared: &Shared, caller: &mut Caller, mix: Mix, number: u64) -> b
 
 /// One try, and whether the call took place; None where there is no memory for it.
 fn once(shared: &Shared, caller: &mut Caller, mix: Mix, number: u64) -> Option<bool>
-    requires { IsCallerOf shared.now caller.old × (caller.old.number < shared.now.about.layout.callers) }
-    ensures { IsCallerOf shared.now caller.new × (caller.new.number ≡ caller.old.number) }
+    requires { MayCall shared.now caller.old }
+    ensures { StaysCaller shared.now caller.old caller.new }
 {
     caller.reserve(1).ok()?;
     let name = name_of(mix, caller.number(), number)?;

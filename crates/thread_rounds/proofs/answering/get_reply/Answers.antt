@@ -12,7 +12,7 @@ returns-clause-made g c =
     let caller = c.args.caller.now in
     let new = c.get_at-ended.new.caller in
     subst (λ (r : Reply). IsMade c.args.limit caller.number caller.index (op.Get c.args.name) r (seen_by caller) (seen_by new) new.cut) (sym c.told.ensures.reply)
-    (get-made c.args.limit c.args.name caller new c.requires.caller.number (has_step c.args.shared.now caller c.requires.caller c.requires.steps).2 c.get_at-ended.result c.get_at-ended.ensures.done)
+    (get-made c.args.limit c.args.name caller new c.requires.may.0.number (has_step c.args.shared.now caller c.requires.may.0 c.requires.steps).2 c.get_at-ended.result c.get_at-ended.ensures.done)
 
 pub returns-clause-ends : goal.returns-clause-ends
 returns-clause-ends g c =

@@ -22,9 +22,9 @@ returns-clause-made g c limit own =
     let asks = as_op (op_of c.args.call) in
     let reply = reply_told (write_mark (place_in new.cut)) c.write-ended.result in
     let same = c.in_ok-reserve.ensures.same in
-    let rests = has_step c.args.shared.now caller c.requires.caller c.requires.steps in
+    let rests = has_step c.args.shared.now caller c.requires.may.0 c.requires.steps in
     let made : IsMade limit ready.number ready.index asks reply (seen_by ready) (seen_by new) new.cut =
-    write-made c.args.shared.now.epochs.parties limit c.args.call ready new c.requires.writes own (c.in_ok-reserve.ensures.caller c.args.shared.now c.requires.caller).number (c.in_ok-reserve.ensures.bound.1 ∙ rests.2) c.write-ended.result c.write-ended.ensures.ends in
+    write-made c.args.shared.now.epochs.parties limit c.args.call ready new c.requires.writes own (c.in_ok-reserve.ensures.caller c.args.shared.now c.requires.may.0).number (c.in_ok-reserve.ensures.bound.1 ∙ rests.2) c.write-ended.result c.write-ended.ensures.ends in
     let seen : seen_by ready ≡ seen_by caller = ap (λ seat. party seat.me) same.0 in
     let mark : c.mark_of-mark.result ≡ write_mark (place_in new.cut) = c.mark_of-mark.ensures.mark ∙ ap (λ (o : Option CutCall). write_mark (place_in o)) c.cut.ensures in
     subst (λ (r : Reply). IsMade limit caller.number caller.index asks r (seen_by caller) (seen_by new) new.cut) (ap (λ (m : CutMark). reply_told m c.write-ended.result) (sym mark) ∙ sym c.told.ensures.reply)

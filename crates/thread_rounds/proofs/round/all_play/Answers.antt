@@ -3,7 +3,7 @@ use Rattle.std.specs.Prelude.{Ok, IfOk}
 use Rattle.pac_index.specs.declared.caller.Caller.{Caller}
 use Rattle.pac_index.proofs.Remaining.{unbounded_rests}
 use Rattle.thread_rounds.specs.Played.{IsPlayedBy}
-use Rattle.thread_rounds.proofs.Rows.{read_stands, stands_within, stands_read}
+use Rattle.pac_index.proofs.Rows.{read_stands, stands_within, stands_read}
 use Rattle.thread_rounds.proofs.round.all_play.Goals as goal
 
 pub map_vec-requires-after_bounds : goal.map_vec-requires-after_bounds

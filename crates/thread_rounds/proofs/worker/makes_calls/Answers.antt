@@ -29,8 +29,8 @@ loop-at-preserved g c =
           let pushed : c.loop-at.records.items ++ made c.number-number.result c.loop-at.index c.index-asked-at.result.op w.in_ok-reply.reply ∷ [] ≡ c.loop-at.records.items ++ made c.args.caller.number c.loop-at.index c.index-asked-at.result.op w.in_ok-reply.reply ∷ [] =
           ap (λ (n : ℕ). c.loop-at.records.items ++ made n c.loop-at.index c.index-asked-at.result.op w.in_ok-reply.reply ∷ []) before.1 in
           let next = one-made plan c.args.caller.number budget c.loop-at.at c.loop-at.caller c.loop-at.index c.loop-at.records.items before.2 c.index-asked-at.result less there
-          w.reply_to.new.caller w.in_ok-reply.reply (w.if-call-number.true ∙ before.1) w.reply_to.ensures.number small w.in_ok-reply.ensures.paid w.in_ok-reply.ensures.gone w.in_ok-reply.ensures.told in (
-            subst (IsCallerOf c.args.shared.now) (sym w.caller-is) w.reply_to.ensures.caller,
+          w.reply_to.new.caller w.in_ok-reply.reply (w.if-call-number.true ∙ before.1) w.reply_to.ensures.stays.1 small w.in_ok-reply.ensures.paid w.in_ok-reply.ensures.gone w.in_ok-reply.ensures.told in (
+            subst (IsCallerOf c.args.shared.now) (sym w.caller-is) w.reply_to.ensures.stays.0,
             before.1,
             subst (λ (i : ℕ). PlaysSoFar plan c.args.caller.number budget (c.loop-at.at + 1) c.if-call-number.caller i c.if-call-number.records.items) (sym w.index-is)
                 (subst (λ (rs : List Record). PlaysSoFar plan c.args.caller.number budget (c.loop-at.at + 1) c.if-call-number.caller (c.loop-at.index + 1) rs) (sym (ap (λ v. v.items) w.records-is ∙ w.in_ok-push.ensures.items ∙ pushed))

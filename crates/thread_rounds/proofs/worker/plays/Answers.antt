@@ -22,8 +22,8 @@ returns-else-number-callers g c =
     subst (λ (k : ℕ). placed_by k (seen_by turned).seen ≡ placed_by k (seen_by c.args.caller).seen) c.requires.caller.number read.own ∙ ap (placed_by number) c.requires.new.seen in
     let rests : budget_of plan.crash number ≡ None → IsAtRest turned = λ is. c.makes_turns-caller.ensures.rests (unbounded-joined plan.crash number is) in
     record {
-      of = c.makes_turns-caller.ensures.caller;
-      number = c.makes_turns-caller.ensures.number;
+      of = c.makes_turns-caller.ensures.stays.0;
+      number = c.makes_turns-caller.ensures.stays.1;
       has = subst (λ (l : List Op). HasPlayed plan.limit number (budget_of plan.crash number) l turned c.new.result.items) (sym (asked-none number plan.ops few))
           (subst (λ (l : List Record). HasPlayed plan.limit number (budget_of plan.crash number) [] turned l) (sym c.new.ensures.items)
           (nothing-played plan.limit number (budget_of plan.crash number) turned none (read.added ∙ c.requires.new.added) c.makes_turns-caller.ensures.uncut rests));

@@ -3,7 +3,7 @@ use mathlib.Core.Option.{some}
 use lib.ListN.{get_elem?}
 use Rattle.pac_index.specs.declared.caller.Caller.{Caller}
 use Rattle.pac_index.specs.Callers.{IsCallerOf}
-use Rattle.thread_trial.proofs.Rows.{read_stands, stands_within, stands_read}
+use Rattle.pac_index.proofs.Rows.{read_stands, stands_within, stands_read}
 use Rattle.thread_trial.proofs.crowd.all_play.Goals as goal
 
 pub map_vec-requires-after_bounds : goal.map_vec-requires-after_bounds

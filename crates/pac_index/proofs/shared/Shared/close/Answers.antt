@@ -2,14 +2,12 @@ use Rattle.index_core.specs.MachineLaws.{AreIdle}
 use Rattle.std.proofs.Common.{◌≡◌, ℕ, List, length, get_or, sym, ap, ◌∙◌, subst}
 use Rattle.std.specs.Mem.Slots.{slots_items}
 use Rattle.pm_words.specs.Images.{Row}
-use Rattle.atomic_table.specs.Table.{Final, Seen}
 use Rattle.index_core.specs.Indexes.{IsIndex}
-use Rattle.pac_index.specs.declared.rule.Member.{Member}
 use Rattle.pac_index.specs.declared.caller.PlacedWrite.{PlacedWrite}
-use Rattle.pac_index.specs.Kept.{Kept, index_of}
+use Rattle.pac_index.specs.Kept.{index_of}
 use Rattle.pac_index.specs.Stamps.{SettlesTo}
 use Rattle.pac_index.specs.Callers.{AreWritesOf, kept_by}
-use Rattle.pac_index.proofs.Closing.{closes, closed_writes, closed_word, meeting_in}
+use Rattle.pac_index.proofs.Closing.{closes, closed_writes, closed_word, final_of, meeting_in}
 use Rattle.pac_index.proofs.shared.Shared.close.Goals as goal
 
 pub in_order-requires : goal.in_order-requires
@@ -18,8 +16,8 @@ in_order-requires c =
     let callers = c.args.callers.items in
     let seat = c.gathered-seat.result in
     let words = slots_items c.close_with-closed.result.words in
-    let z = closes s callers seat.id words (slots_items c.close_with-closed.result.slots) c.requires.callers c.requires.rests
-    (subst (λ (v : List Member). Final (Seen (Kept s.table.shared.key) seat.id v) words (slots_items c.close_with-closed.result.slots)) (ap (λ q. q.0) c.gathered-seat.ensures.all) c.close_with-closed.ensures.values.2) in
+    let slots = slots_items c.close_with-closed.result.slots in
+    let z = closes s callers seat.id words slots c.requires.callers c.requires.rests (final_of s callers seat.id seat.me words slots c.gathered-seat.ensures.all c.close_with-closed.ensures.values.2) in
     let idle = subst (λ (n : ℕ). AreIdle c.in_ok-states.states.items n) (ap length c.as_slice.ensures.value ∙ c.requires.callers.count) c.in_ok-states.ensures in
     let kept : kept_by callers ≡ c.as_slice-3.result.now = sym (c.as_slice-3.ensures.value ∙ c.in_ok-kept.ensures ∙ ap kept_by c.as_slice-2.ensures.value) in (
       z.history,
@@ -33,8 +31,8 @@ of_parts-requires-clause-index c =
     let callers = c.args.callers.items in
     let seat = c.gathered-seat.result in
     let words = slots_items c.close_with-closed.result.words in
-    let z = closes s callers seat.id words (slots_items c.close_with-closed.result.slots) c.requires.callers c.requires.rests
-    (subst (λ (v : List Member). Final (Seen (Kept s.table.shared.key) seat.id v) words (slots_items c.close_with-closed.result.slots)) (ap (λ q. q.0) c.gathered-seat.ensures.all) c.close_with-closed.ensures.values.2) in
+    let slots = slots_items c.close_with-closed.result.slots in
+    let z = closes s callers seat.id words slots c.requires.callers c.requires.rests (final_of s callers seat.id seat.me words slots c.gathered-seat.ensures.all c.close_with-closed.ensures.values.2) in
     let states = c.in_ok-states.states.items in
     let idle = subst (λ (n : ℕ). AreIdle states n) (ap length c.as_slice.ensures.value ∙ c.requires.callers.count) c.in_ok-states.ensures in
     let kept : kept_by callers ≡ c.as_slice-3.result.now = sym (c.as_slice-3.ensures.value ∙ c.in_ok-kept.ensures ∙ ap kept_by c.as_slice-2.ensures.value) in
@@ -59,8 +57,8 @@ returns c =
     let callers = c.args.callers.items in
     let seat = c.gathered-seat.result in
     let words = slots_items c.close_with-closed.result.words in
-    let z = closes s callers seat.id words (slots_items c.close_with-closed.result.slots) c.requires.callers c.requires.rests
-    (subst (λ (v : List Member). Final (Seen (Kept s.table.shared.key) seat.id v) words (slots_items c.close_with-closed.result.slots)) (ap (λ q. q.0) c.gathered-seat.ensures.all) c.close_with-closed.ensures.values.2) in
+    let slots = slots_items c.close_with-closed.result.slots in
+    let z = closes s callers seat.id words slots c.requires.callers c.requires.rests (final_of s callers seat.id seat.me words slots c.gathered-seat.ensures.all c.close_with-closed.ensures.values.2) in
     let states = c.in_ok-states.states.items in
     let idle = subst (λ (n : ℕ). AreIdle states n) (ap length c.as_slice.ensures.value ∙ c.requires.callers.count) c.in_ok-states.ensures in
     let kept : kept_by callers ≡ c.as_slice-3.result.now = sym (c.as_slice-3.ensures.value ∙ c.in_ok-kept.ensures ∙ ap kept_by c.as_slice-2.ensures.value) in

@@ -1,13 +1,11 @@
-use Rattle.std.proofs.Common.{◌≡◌, List, map, ap, ◌∙◌, subst}
+use Rattle.std.proofs.Common.{◌≡◌, map, ap, ◌∙◌}
 use Rattle.std.specs.Mem.Slots.{slots_items}
 use Rattle.pm_words.specs.Images.{Row}
 use Rattle.pm_words.specs.Locations.{image_words}
 use Rattle.pm_words.specs.Rows.{durable_row}
 use Rattle.index_core.specs.CrashLaws.{evicted_by}
-use Rattle.atomic_table.specs.Table.{Final, Seen}
-use Rattle.pac_index.specs.declared.rule.Member.{Member}
 use Rattle.pac_index.specs.CrashMeetings.{cut_of}
-use Rattle.pac_index.specs.Kept.{Kept}
+use Rattle.pac_index.proofs.Closing.{final_of}
 use Rattle.pac_index.proofs.Crashes.{IsHeld, crash_of, holds, meets_so}
 use Rattle.pac_index.proofs.shared.Shared.crash.Goals as goal
 
@@ -19,8 +17,7 @@ returns c =
     let seat = c.gathered-seat.result in
     let words = slots_items c.close_with-closed.result.words in
     let slots = slots_items c.close_with-closed.result.slots in
-    let z : IsHeld s callers words = holds s callers seat.id words slots c.requires.callers
-    (subst (λ (v : List Member). Final (Seen (Kept s.table.shared.key) seat.id v) words slots) (ap (λ q. q.0) c.gathered-seat.ensures.all) c.close_with-closed.ensures.values.2) in
+    let z : IsHeld s callers words = holds s callers seat.id words slots c.requires.callers (final_of s callers seat.id seat.me words slots c.gathered-seat.ensures.all c.close_with-closed.ensures.values.2) in
     let made : c.of_words-memory.result ≡ record { layout = s.about.layout; words = words } = c.of_words-memory.ensures ∙ (λ k. record { layout = s.about.layout; words = c.in_ok-words.ensures k }) in
     let leaves =
     c.crash-image.ensures

@@ -1,37 +1,22 @@
-use Rattle.std.proofs.Common.{◌≤◌, refl, inl, inr, sym, ◌∙◌, arith}
-use Rattle.pac_index.specs.Budgets.{PartBack}
-use Rattle.pac_index.specs.Callers.{spare_of, seen_by}
-use Rattle.pac_index.proofs.Budgeting.{pays_nothing, pays_then}
-use Rattle.pac_index.proofs.Repeating.{tries_begin, part_again, part_ends_so, none_else}
+use Rattle.std.proofs.Common.{sym, ◌∙◌}
+use Rattle.node_ops.specs.declared.part.PartWords.{PartWords}
+use Rattle.index_core.specs.declared.party.CoreCall.TheVariants as call
+use Rattle.pac_index.specs.Budgets.{TriedBack}
+use Rattle.pac_index.specs.Calls.{PartAnswers}
+use Rattle.pac_index.proofs.Repeating.{none_else, part_back_by, tries_end, tries_on, tries_start}
 use Rattle.pac_index.proofs.shared.Shared.part_at_pace.Goals as goal
 
 pub loop-init : goal.loop-init
-loop-init g c =
-    let old = c.args.caller.now in (
-      c.requires.caller,
-      refl,
-      omega arith,
-      tries_begin (PartBack c.args.low c.args.count old.index) old.index (seen_by old),
-      inl refl,
-      pays_nothing old.left (seen_by old).taken,
-    )
+loop-init g c = tries_start c.args.self.now (TriedBack (PartAnswers c.args.low c.args.count) c.args.caller.now.index) c.args.caller.now c.requires.may.0
 
 pub loop-preserved : goal.loop-preserved
 loop-preserved g c =
     let old = c.args.caller.now in
-    let before = c.loop.caller in
-    let after = c.try_part.new.caller in
     let on = c.try_part.ensures in
-    let spare : spare_of old ≤ spare_of after = let was = c.loop.invariant.2 in let now = on.spare in omega arith in
-    let next = part_again c.args.low c.args.count old.index (seen_by old) before after c.try_part.result c.loop.invariant.3 (sym c.ended.ensures ∙ none_else c.ended.result c.in_default.not-Some) on.tried in (
-      on.caller,
-      on.number ∙ c.loop.invariant.1,
-      spare,
-      next.0,
-      inr next.1,
-      pays_then old.left before.left after.left (seen_by old).taken (seen_by before).taken (seen_by after).taken c.loop.invariant.5 on.paid,
-    )
+    tries_on PartWords c.args.self.now (PartAnswers c.args.low c.args.count) (call.Part c.args.low c.args.count) old c.loop.caller c.try_part.new.caller c.try_part.result (part_back_by c.args.low c.args.count old.index) c.loop.invariant
+    (sym c.ended.ensures ∙ none_else c.ended.result c.in_default.not-Some) on.stays on.tried on.paid on.spare
 
 pub returns-in-Some-ended-clause-done : goal.returns-in-Some-ended-clause-done
 returns-in-Some-ended-clause-done g c =
-    part_ends_so c.args.low c.args.count c.args.caller.now c.loop.caller c.try_part.new.caller c.try_part.result c.in-Some-ended.ended c.loop.invariant.4 c.loop.invariant.1 c.loop.invariant.2 c.loop.invariant.3 (sym c.ended.ensures ∙ c.in-Some-ended.is) c.try_part.ensures.tried
+    tries_end PartWords c.args.self.now (PartAnswers c.args.low c.args.count) (call.Part c.args.low c.args.count) c.args.caller.now c.loop.caller c.try_part.new.caller c.try_part.result c.in-Some-ended.ended
+    (λ n clock v w spent. spent.looks.says.reached) c.loop.invariant (sym c.ended.ensures ∙ c.in-Some-ended.is) c.try_part.ensures.tried

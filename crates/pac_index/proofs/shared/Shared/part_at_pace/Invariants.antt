@@ -1,10 +1,7 @@
-use Rattle.std.proofs.Common.{◌≡◌, ◌≤◌}
-use Rattle.pac_index.specs.Budgets.{PartBack}
-use Rattle.pac_index.specs.Cuts.{HasPaid}
-use Rattle.pac_index.specs.Callers.{IsCallerOf, spare_of, seen_by}
-use Rattle.pac_index.proofs.Repeating.{StillOrRests, Tries}
+use Rattle.pac_index.specs.Budgets.{TriedBack}
+use Rattle.pac_index.specs.Calls.{PartAnswers}
+use Rattle.pac_index.proofs.Repeating.{TriedSoFar}
 use Rattle.pac_index.proofs.shared.Shared.part_at_pace.Given as goal
 
 abbrev pub invariant-loop : goal.invariant-loop
-invariant-loop g l = IsCallerOf l.fn.self l.caller × (l.caller.number ≡ l.fn.caller.number) × (spare_of l.fn.caller ≤ spare_of l.caller) × Tries (PartBack l.fn.low l.fn.count l.fn.caller.index) l.fn.caller.index (seen_by l.fn.caller) l.caller.index (seen_by l.caller)
-    × StillOrRests l.fn.caller l.caller × HasPaid l.fn.caller l.caller
+invariant-loop g l = TriedSoFar l.fn.self (TriedBack (PartAnswers l.fn.low l.fn.count) l.fn.caller.index) l.fn.caller l.caller

@@ -10,7 +10,7 @@ use Rattle.pac_index.proofs.shared.Shared.write.Goals.{in-Back, in-NoRoom+else-n
 pub loop-init : goal.loop-init
 loop-init g c =
     let old = c.args.caller.now in (
-      c.requires.caller,
+      c.requires.may.0,
       refl,
       omega arith,
       writing_begins c.args.call old.index (seen_by old),
@@ -67,16 +67,16 @@ loop-preserved g c =
     let pays = pays_then old.left before.left now.left (seen_by old).taken (seen_by before).taken (seen_by now).taken c.loop.invariant.5 on.paid in
     elim c.match-try_to_write.branch [
       | in-Back w ↦ (
-        on.caller,
-        on.number ∙ c.loop.invariant.1,
+        on.stays.0,
+        on.stays.1 ∙ c.loop.invariant.1,
         (let was = c.loop.invariant.2 in let more = w.in-Back.ensures.tried.spare in omega arith),
         subst (λ (t : ℕ). Writing c.args.call old.index t (seen_by old) now.index (seen_by now)) (sym w.turns-is) (writing_back c.args.call old.index (seen_by old) c.loop.turns before.index now.index (seen_by before) (seen_by now) so w.in-Back.ensures.tried.index w.in-Back.ensures.tried.back),
         inr w.in-Back.ensures.tried.rests,
         pays,
       )
       | in-NoRoom+else-none_free w ↦ (
-        on.caller,
-        on.number ∙ c.loop.invariant.1,
+        on.stays.0,
+        on.stays.1 ∙ c.loop.invariant.1,
         (let was = c.loop.invariant.2 in let more = w.in-NoRoom.ensures.tried.spare in omega arith),
         (let more = w.saturating_add-turns.ensures in
             let is = w.turns-is in
