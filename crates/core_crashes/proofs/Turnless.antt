@@ -62,6 +62,7 @@ use Rattle.core_rounds.specs.Waiting.{one_if, one_put, one_write, puts_among, wr
 use Rattle.core_rounds.proofs.CoreMaps.{all_many, locks_remain, none_many}
 use Rattle.core_rounds.proofs.Waiting.{needs_none, waits_full, waits_placed}
 use Rattle.std.proofs.lemmas.Bool.{eq-eqb, ne_eqb}
+use Rattle.data_node.specs.Lines.{state_offset}
 use Rattle.core_rounds.specs.CrashWork.{most_events}
 use Rattle.core_crashes.specs.CrashMaps.{FindRoom, Gave, MakeNoTurns, Stoppable, anchors_left, calls_of, members_of}
 
@@ -307,8 +308,8 @@ module _ (core round mid : Index) (begins : BeginsRound core round) (kept : mid 
 
   -- log lines stand in words of their own
   lines_stay : line_state (world (round_index core 0)) ≡ line_state (world core)
-  lines_stay = column-same core.layout core.words (round_index core 0).words (line_count core.layout) (λ j. Cached (line_word 0 j))
-      (λ j here. at-set_other core.layout core.words Clock (Cached (line_word 0 j)) 0 tt (omega (arith, here), omega (arith, here), omega arith) (λ e. cc))
+  lines_stay = column-same core.layout core.words (round_index core 0).words (line_count core.layout) (λ j. Cached (line_word state_offset j))
+      (λ j here. at-set_other core.layout core.words Clock (Cached (line_word state_offset j)) 0 tt (omega (arith, here), omega (arith, here), omega arith) (λ e. cc))
 
   lines_are : line_state (world round) ≡ line_state (world core)
   lines_are = ap (λ (s : Index). line_state (world s)) begins.is ∙ lines_stay

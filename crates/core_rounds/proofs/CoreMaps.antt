@@ -36,6 +36,7 @@ use Rattle.pm_words.specs.declared.again.Again.{Again}
 use Rattle.recovery.specs.node_ops.specs.Asked.{name_asked}
 use Rattle.data_node.specs.Lists.{key_of}
 use Rattle.data_node.proofs.ListLemmas.{chain_closed, target_in}
+use Rattle.data_node.specs.Lines.{state_offset}
 use Rattle.shapes.specs.ShapeRounds.{IsShapeWithin}
 use Rattle.index_law.specs.Anchors.{anchors_of, anchors_in}
 use Rattle.index_law.specs.Worlds.{World, facts}
@@ -381,8 +382,8 @@ opened_line : (image : Row) (s : Index) (j : ℕ) → IsOpenedFrom image s → j
 opened_line image s j is small =
     let l = s.layout in
     let inside : (nat_lt j (line_count l) && nat_lt 0 8) ≡ true = rw (lt-ltb j (line_count l) small) refl in
-    column-here l s.words (line_count l) (λ n. Cached (line_word 0 n)) j small
-    ∙ sym (word_if-here (nat_lt j (line_count l) && nat_lt 0 8) (positions.at l s.words (Cached (line_word 0 j))) inside)
+    column-here l s.words (line_count l) (λ n. Cached (line_word state_offset n)) j small
+    ∙ sym (word_if-here (nat_lt j (line_count l) && nat_lt 0 8) (positions.at l s.words (Cached (line_word state_offset j))) inside)
     ∙ is.rests.empty j
 
 pub all_many : (test : ℕ → Bool) (n : ℕ) → ((k : ℕ) → k < n → test k ≡ true) → how_many test n ≡ n
@@ -412,7 +413,7 @@ opened_waits image s is lines puts few room =
 -- no line waits in it
 no_line : (s : Index) (j : ℕ) → line_count s.layout ≤ j → line_state (world s) j ≡ empty_state
 unfolding column
-no_line s j large = ap (λ b. cond b (positions.at s.layout s.words (Cached (line_word 0 j))) 0) (le-ltb j (line_count s.layout) large)
+no_line s j large = ap (λ b. cond b (positions.at s.layout s.words (Cached (line_word state_offset j))) 0) (le-ltb j (line_count s.layout) large)
 
 pub opened_lines : (image : Row) (s : Index) → IsOpenedFrom image s → HasNoLines s
 opened_lines image s is j = elim (cases_lt j (line_count s.layout)) [

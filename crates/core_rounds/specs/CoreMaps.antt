@@ -6,6 +6,7 @@ use Rattle.pm_words.specs.Images.{Row}
 use Rattle.pm_words.specs.Locations.{Line, word_at}
 use Rattle.pm_words.specs.Rows.{cached_row}
 use Rattle.pm_words.specs.declared.layout.Layout.{Layout}
+use Rattle.data_node.specs.Lines.{state_offset}
 use Rattle.shapes.specs.Anchors.{Anchors, put_anchors, del_anchors, merges, splits}
 use Rattle.shapes.specs.ShapeRounds.{IsShapeWithin}
 use Rattle.image_rules.specs.Rules.{header_generation}
@@ -115,11 +116,11 @@ OpenedIsMap = (image : Row) (s : Index) → IsOpenedFrom image s → IsOpenedMap
 -- So it is of an image.
 abbrev pub ImageHasNoLines : Row → Type 0
 ImageHasNoLines image = (c j : ℕ) → c < image.layout.callers → j < 8 →
-    word_at image.layout image.words (Line c j 0) ≡ empty_state
+    word_at image.layout image.words (Line c j state_offset) ≡ empty_state
 
 -- So many of the log lines of the image are READY, and the others are EMPTY.
 abbrev pub image_line : Row → ℕ → ℕ
-image_line image j = word_at image.layout image.words (Line (j / 8) (j % 8) 0)
+image_line image j = word_at image.layout image.words (Line (j / 8) (j % 8) state_offset)
 
 pub record ImageWaits (image : Row) (changes : ℕ) : Type 0 where
   pub ready : how_many (λ j. image_line image j == ready_state) (8 * image.layout.callers) ≡ changes

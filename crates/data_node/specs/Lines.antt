@@ -1,6 +1,7 @@
 -- What a line of the log may hold, by its words: a state, a kind, a node, an anchor, another node, and 0.
 use Rattle.std.specs.Prelude.{◌≡◌, ℕ, ◌<◌, ◌≤◌, ◌⊎◌, List}
 use Rattle.cat_key.specs.Names.{IsName, words_of}
+use Rattle.pm_words.specs.Codes.{empty_state, ready_state, split_kind, merge_kind}
 use Rattle.data_node.specs.Spots.{Spot}
 use Rattle.data_node.specs.Lists.{anchor_words}
 
@@ -21,11 +22,10 @@ left_offset = 6
 abbrev pub spare_offset : ℕ
 spare_offset = 7
 
--- A line that isn't EMPTY: a split or a merge of two nodes, with the anchor of the new or the merged one. Its state and
--- its kind are told by codes of the words.
+-- A line that isn't EMPTY: a split or a merge of two nodes, with the anchor of the new or the merged one.
 pub record IsEntry (nodes : ℕ) (s : Spot) : Type 0 where
-  pub state : s state_offset ≤ 2
-  pub kind : (s kind_offset ≡ 1) ⊎ (s kind_offset ≡ 2)
+  pub state : s state_offset ≤ ready_state
+  pub kind : (s kind_offset ≡ split_kind) ⊎ (s kind_offset ≡ merge_kind)
   pub node : (1 ≤ s line_node_offset) × (s line_node_offset < nodes)
   pub name : List ℕ
   pub is_name : IsName name
@@ -35,4 +35,4 @@ pub record IsEntry (nodes : ℕ) (s : Spot) : Type 0 where
 
 -- A line is EMPTY, or holds such a change.
 abbrev pub IsFitLine : ℕ → Spot → Type 0
-IsFitLine nodes s = (s state_offset ≡ 0) ⊎ IsEntry nodes s
+IsFitLine nodes s = (s state_offset ≡ empty_state) ⊎ IsEntry nodes s

@@ -8,6 +8,8 @@ use Rattle.pm_words.proofs.Kept.{evicted_row}
 use Rattle.version_lock.specs.Versions.{IsGeneration}
 use Rattle.data_node.specs.Lists.{ListNode}
 use Rattle.data_node.specs.Spots.{bitmap_offset}
+use Rattle.data_node.specs.Lines.{state_offset}
+use Rattle.image_rules.specs.Rules.{generation_offset}
 use Rattle.tree_update.specs.Changes.{change_starts}
 use Rattle.tree_update.specs.Stages.{Aim, aim_of}
 use Rattle.image_recovery_law.specs.search_layer.specs.Kept.{layer_of}
@@ -78,8 +80,8 @@ module _ (l : Layout) (list : List ListNode) (o : Columns) (rest : List law.Move
           row = row;
           clear = clear;
           fits = fits;
-          sure = sure_stores (stores l (word_number l (Header 5)) (generation_at here + 1)) Begins Raised (Trims (nodes_of list)) refl
-              (record { place = Header 5; value = suc o.generation; move = of_generation; word = refl; stored = omega arith; plan = plan }) sure;
+          sure = sure_stores (stores l (word_number l (Header generation_offset)) (generation_at here + 1)) Begins Raised (Trims (nodes_of list)) refl
+              (record { place = Header generation_offset; value = suc o.generation; move = of_generation; word = refl; stored = omega arith; plan = plan }) sure;
         },
       )
 
@@ -104,8 +106,8 @@ module _ (l : Layout) (list : List ListNode) (o : Columns) (rest : List law.Move
           row = row;
           clear = clear;
           fits = fits;
-          sure = sure_stores (stores l (word_number l (line_word 0 j)) 0) (Empties j) (Emptied j) (Empties (suc j)) refl
-              (record { place = line_word 0 j; value = 0; move = of_empty j within; word = refl; stored = refl; plan = plan }) sure;
+          sure = sure_stores (stores l (word_number l (line_word state_offset j)) 0) (Empties j) (Emptied j) (Empties (suc j)) refl
+              (record { place = line_word state_offset j; value = 0; move = of_empty j within; word = refl; stored = refl; plan = plan }) sure;
         },
       )
 

@@ -1,12 +1,15 @@
 -- A move of a recovery that is made, step by step.
-use Rattle.std.specs.Prelude.{ℕ, ◌+◌, ◌<◌, ◌^◌, List, [], ◌∷◌}
+use Rattle.std.specs.Prelude.{ℕ, ◌+◌, ◌<◌, ◌^◌, List}
 use Rattle.pm_words.specs.Codes.{empty_state}
 use Rattle.pm_words.specs.declared.action.Action.{Action}
 use Rattle.pm_words.specs.declared.machine.Turn.{Turn}
 use Rattle.pm_words.specs.declared.machine.Turn.TheVariants.{Go, Done}
 use Rattle.pm_words.specs.Images.{Row}
 use Rattle.pm_words.specs.Locations.{Header, Node, Cached, word_number, at}
+use Rattle.data_node.specs.Lists.{anchor_words}
 use Rattle.data_node.specs.Spots.{bitmap_offset}
+use Rattle.data_node.specs.Lines.{state_offset}
+use Rattle.image_rules.specs.Rules.{generation_offset}
 use Rattle.tree_update.specs.declared.change.Change.{Change}
 use Rattle.tree_update.specs.declared.change.Ended.{Ended}
 use Rattle.tree_update.specs.Changes.{IsChange, change_starts, change_asks, change_turned, change_left}
@@ -20,13 +23,11 @@ use Rattle.image_recovery.specs.Storings.{IsStoring, stores, storing_asks, stori
 
 -- the cached words of a line's anchor
 abbrev pub anchor_at : Row → ℕ → List ℕ
-anchor_at row line =
-    at row.layout row.words (Cached (line_word 3 line)) ∷ at row.layout row.words (Cached (line_word 4 line)) ∷
-    at row.layout row.words (Cached (line_word 5 line)) ∷ []
+anchor_at row line = anchor_words (λ offset. at row.layout row.words (Cached (line_word offset line)))
 
 -- the cached generation
 abbrev pub generation_at : Row → ℕ
-generation_at row = at row.layout row.words (Cached (Header 5))
+generation_at row = at row.layout row.words (Cached (Header generation_offset))
 
 -- A move names a node and a line that there are, and there is a next generation.
 abbrev pub MayMake : Row → Move → Type 0
@@ -38,11 +39,13 @@ MayMake row (Empty line) = line < line_count row.layout
 
 -- The move as it begins on these rows.
 abbrev pub making_of : Row → Move → Making
-making_of row Raise = Stores (stores row.layout (word_number row.layout (Header 5)) (generation_at row + 1))
+making_of row Raise =
+    Stores (stores row.layout (word_number row.layout (Header generation_offset)) (generation_at row + 1))
 making_of row (Trim node bitmap) = Stores (stores row.layout (word_number row.layout (Node node bitmap_offset)) bitmap)
 making_of row (Unset line) = Changes (change_starts row.layout (anchor_at row line) 0)
 making_of row (Set line node) = Changes (change_starts row.layout (anchor_at row line) (node + 1))
-making_of row (Empty line) = Stores (stores row.layout (word_number row.layout (line_word 0 line)) empty_state)
+making_of row (Empty line) =
+    Stores (stores row.layout (word_number row.layout (line_word state_offset line)) empty_state)
 
 abbrev pub making_asks : Making → Action
 making_asks (Stores storing) = storing_asks storing

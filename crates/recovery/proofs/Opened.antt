@@ -17,6 +17,7 @@ use Rattle.data_node.specs.Lists.{ListNode, MakeList, Rise, range_in}
 use Rattle.data_node.specs.Spots.{Spot}
 use Rattle.data_node.specs.Weights.{node_weight, total}
 use Rattle.data_node.proofs.ListLemmas.{chain_is, members_few}
+use Rattle.data_node.specs.Lines.{state_offset}
 use Rattle.image_rules.specs.Nodes.{image_spot, image_list}
 use Rattle.image_rules.specs.Sound as image
 use Rattle.image_rules.specs.Sound.{image_map, IsMapOf as IsImageMap}
@@ -63,11 +64,11 @@ none_weigh half status (suc n) none =
     ap (λ b. cond {A = ℕ} b half 0 + gone_weight half status n) (ne_eqb (status n) gone_status (none n (omega arith))) ∙ rest
 
 -- no log line of a recovered row is in use
-no_line : (l : Layout) (words : List ℕ) (o : Columns) (list : List ListNode) (safe : Columns) → Rests l list o (columns_in l words Cached) safe → (j : ℕ) → line_field l words Cached 0 j ≡ empty_state
+no_line : (l : Layout) (words : List ℕ) (o : Columns) (list : List ListNode) (safe : Columns) → Rests l list o (columns_in l words Cached) safe → (j : ℕ) → line_field l words Cached state_offset j ≡ empty_state
 unfolding column word_if
 no_line l words o list safe rests j =
-    let empty : cond (nat_lt j (line_count l) && true) (at l words (Cached (line_word 0 j))) 0 ≡ 0 = rests.empty j in
-    both (nat_lt j (line_count l)) (at l words (Cached (line_word 0 j))) ∙ empty
+    let empty : cond (nat_lt j (line_count l) && true) (at l words (Cached (line_word state_offset j))) 0 ≡ 0 = rests.empty j in
+    both (nat_lt j (line_count l)) (at l words (Cached (line_word state_offset j))) ∙ empty
   where
     both : (b : Bool) (x : ℕ) → cond b x 0 ≡ cond (b && true) x 0
     both true x = refl

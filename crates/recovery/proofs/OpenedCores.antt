@@ -14,7 +14,7 @@ use Rattle.version_lock.specs.Versions.{IsGeneration}
 use Rattle.data_node.specs.Lists.{next_offset}
 use Rattle.data_node.proofs.ListLemmas.{chain_is}
 use Rattle.image_rules.specs.Nodes.{image_list, image_spot}
-use Rattle.image_rules.specs.Rules.{header_generation}
+use Rattle.image_rules.specs.Rules.{header_generation, generation_offset}
 use Rattle.image_rules.proofs.FreshLemmas.{fresh_is_sound}
 use Rattle.image_rules.proofs.MapLemmas.{has_one_map}
 use Rattle.image_rules.proofs.WordLemmas.{image_spot-here}
@@ -41,7 +41,7 @@ if_ok P Q (Err e) then_q p = p
 -- ---- fresh images
 
 fresh_generation : (l : Layout) → header_generation l (fresh_words l) ≡ 1
-fresh_generation l = fresh_at l (Header 5) (omega arith)
+fresh_generation l = fresh_at l (Header generation_offset) (omega arith)
 
 -- there is a next generation of one
 pub fresh_is_early : (l : Layout) → IsGeneration (suc (header_generation l (fresh_words l)))

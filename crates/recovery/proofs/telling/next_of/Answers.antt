@@ -11,4 +11,4 @@ returns c =
     let word = c.node_word.ensures.word ∙ ap (λ (l : Layout). word_number l (Node c.args.node next_offset)) layout in
     let address = c.cached.ensures.address ∙ (λ k. cached_address (layout k) (word k)) in
     (λ k. slice_index (c.words.ensures.words k) (address k))
-    ∙ sym (spot_in-here c.args.memory.now.layout c.args.memory.now.words c.args.node 2 (c.requires.node, omega arith) (omega arith))
+    ∙ sym (spot_in-here c.args.memory.now.layout c.args.memory.now.words c.args.node next_offset (c.requires.node, omega arith) (omega arith))
