@@ -78,7 +78,7 @@ use Rattle.stopped_rounds.specs.declared.bounded_map.Bounded.{Bounded}
 use Rattle.stopped_rounds.specs.declared.bounded_map.Bounded.TheVariants as bounded
 use Rattle.stopped_rounds.specs.MoreCuts.{AreAmong}
 use Rattle.core_rounds.specs.CoreMaps.{calls_left_of, writes_left_of, IsUnlimited, anchors_made}
-use Rattle.core_rounds.proofs.CoreMaps.{full_exactly, full_weighs, no_put_adds, part_weighs, stays_low, told_full}
+use Rattle.core_rounds.proofs.CoreMaps.{full_exactly, full_same, no_put_adds, part_weighs, stays_low, told_full}
 use Rattle.core_rounds.proofs.CoreMaps.{told_map, told_placed, told_weighs, turned_map}
 use Rattle.core_crashes.specs.CrashMaps.{Gave, WasCutBy, added_within, Stoppable, CanTurn, IsGoing, IsStoppable}
 use Rattle.core_crashes.specs.CrashMaps.{anchors_by, anchors_changed, anchors_left, calls_of, writes_of, members_by}
@@ -629,7 +629,7 @@ module _ (s new : Index) (c : CoreCall) (caller : ℕ) (r : Whole) (still : IsSt
       let after = none_weigh new (ran.still caller still).calls in
       subst (λ (x : Result (Option ℕ) Full). weight_sum (world new) ≤ weight_sum (world s) + added_within (op_of c) (bounded.Answered x)) (sym done.2) (omega (arith, light, before, after))
   gave_weighs o is result (inr full) =
-      let light = full_weighs s c new r (is ∙ ap whole_of full.1) ran.runs in
+      let light = (full_same s c new r (is ∙ ap whole_of full.1) ran.runs).weighs in
       let before = none_weigh s still.calls in
       let after = none_weigh new (ran.still caller still).calls in
       subst (λ (x : Result (Option ℕ) Full). weight_sum (world new) ≤ weight_sum (world s) + added_within (op_of c) (bounded.Answered x)) (sym full.2) (omega (arith, light, before, after))

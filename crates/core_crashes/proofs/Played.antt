@@ -51,7 +51,7 @@ use Rattle.core_rounds.specs.index_core.proofs.Rounds.{round_is}
 use Rattle.core_rounds.specs.CoreMaps.{IsCoreMap}
 use Rattle.core_rounds.specs.Rounds.{IsLoneCrash}
 use Rattle.core_rounds.specs.Waiting.{puts_among}
-use Rattle.core_rounds.proofs.CoreMaps.{core_light, core_shape, opened_is_map}
+use Rattle.core_rounds.proofs.CoreMaps.{core_in_shape, opened_is_map}
 use Rattle.core_rounds.specs.CrashWork.{most_events}
 use Rattle.core_crashes.specs.CrashMaps.{MakeNoTurns, Stoppable, anchors_by, members_by, members_of, most_between}
 use Rattle.core_crashes.specs.CrashMaps.{state_of, weighs_of}
@@ -221,7 +221,7 @@ module _ (core mid stopped next : Index) (plan : RoundPlan) (crash : CrashPlan) 
   core_map = record { index = index; quiet = quiet; stamps = stamps; counted = refl }
 
   opens_within : IsShapeWithin slots nodes (weight_of core) (len base) base anchors
-  opens_within = record { shape = core_shape core (len base) core_map; light = core_light core (len base) core_map; few = omega arith }
+  opens_within = let within = core_in_shape core (len base) core_map in record { shape = within.shape; light = within.light; few = omega arith }
 
   in_shape : RoundInShape slots nodes base anchors h.stop.done
   in_shape =

@@ -1,6 +1,6 @@
 -- The index as a map of names: its names counted, its calls left, and its shape.
 use native.Mathlib.Nat.{mul-le-mul}
-use Rattle.std.proofs.Common.{◌≡◌, ◌≢◌, ℕ, ◌+◌, ◌-◌, ◌*◌, ◌<◌, ◌≤◌, ◌==◌, ◌&&◌, Bool, true, false, cond, zero, suc}
+use Rattle.std.proofs.Common.{◌≡◌, ◌≢◌, ℕ, ◌+◌, ◌-◌, ◌*◌, ◌/◌, ◌<◌, ◌≤◌, ◌==◌, ◌&&◌, Bool, true, false, cond, zero, suc}
 use Rattle.std.proofs.Common.{List, [], ◌∷◌, length, ◌⊎◌, ⊎_elim, refl, le_trans, inl, inr, sym, ap, ◌∙◌, subst}
 use Rattle.std.proofs.Common.{arith, length-append, ◌++◌, append-nil}
 use Rattle.std.specs.Prelude.{Option, ◌↔◌, ◌^◌, is_none, nat_lt, Some, None, OnErr, Result, Ok, Err}
@@ -17,7 +17,6 @@ use Rattle.pm_words.specs.Codes.{empty_state, ready_state}
 use Rattle.pm_words.specs.declared.layout.Layout.{Layout}
 use Rattle.shapes.specs.Members.{Member, members}
 use Rattle.shapes.specs.ShapeRounds.{PutsFull}
-use Rattle.shapes.specs.Weights.{IsShape, weight}
 use Rattle.cat_history.specs.Records.{as_op, change_of}
 use Rattle.cat_history.specs.declared.op.Change.{Change}
 use Rattle.cat_history.specs.declared.op.Write.{Write}
@@ -43,12 +42,13 @@ use Rattle.index_law.specs.Worlds.{World, facts}
 use Rattle.index_law.proofs.Holding.{idle_has_shape}
 use Rattle.index_law.proofs.Starts.{listed_within}
 use Rattle.recovery.specs.lone_call_law.specs.Merging.{NextIsWorn, next_node}
+use Rattle.recovery.specs.lone_call_law.specs.Locks.{fewest_locks}
 use Rattle.recovery.specs.lone_call_law.proofs.Locks.{worn_has_none}
 use Rattle.recovery.specs.index_core.specs.Indexes.{Index, IsIndex, map_of_index, world}
 use Rattle.recovery.specs.index_core.specs.Lone.{IsQuiet, FindsNoRoom, FindsWornNode, HasSameList, IsOver, IsWornNode}
 use Rattle.recovery.specs.index_core.specs.Lone.{IsWholeAnswer, RunsAlone, LeavesList, most_tries, SplitsFor}
 use Rattle.recovery.specs.index_core.specs.Lone.{SplitsNothing, MergesFor, MergesNothing, node_for, locks_left}
-use Rattle.recovery.specs.index_core.specs.Lone.{alone_writes, whole_of, part_whole}
+use Rattle.recovery.specs.index_core.specs.Lone.{IsMadeAgain, TakesLocks, alone_writes, whole_of, part_whole}
 use Rattle.recovery.specs.index_core.specs.declared.party.CoreCall.TheVariants as call
 use Rattle.recovery.specs.index_core.specs.declared.party.CoreCall.{CoreCall}
 use Rattle.recovery.specs.index_core.specs.declared.party.Whole.{Whole}
@@ -79,24 +79,29 @@ use Rattle.pm_words.specs.Locations as positions
 use Rattle.image_rules.specs.Sound.{IsMapOf, image_map}
 use Rattle.index_law.specs.Anchors.{image_anchors}
 use Rattle.core_rounds.specs.CoreMaps.{calls_left_of, writes_left_of, IsUnlimited, HasNoLines, IsCoreMap, IsOfRun}
-use Rattle.core_rounds.specs.CoreMaps.{OpenedIsMap, Waits, anchors_made}
+use Rattle.core_rounds.specs.CoreMaps.{OpenedIsMap, StaysQuiet, Waits, anchors_made, state_of}
+use Rattle.core_rounds.specs.Updated.{HoldsSame, IsInShape, UsesUp}
 use Rattle.core_rounds.specs.Waiting.{one_if}
 use Rattle.recovery.specs.Opened.{IsOpenedFrom}
 use Rattle.recovery.proofs.Opened.{with_room}
 
 -- a put of a name that the map lacks adds one, and of one that it has adds none
-pub put_counted : (s s' : Index) (name : List ℕ) (value names names' : ℕ) (old : Option ℕ) (b : Bool) → IsCoreMap s names → IsIndex s' → IsQuiet s' → HasLowStamps s' →
+pub put_counted : (s s' : Index) (name : List ℕ) (value names names' : ℕ) (old : Option ℕ) (b : Bool) → IsCoreMap s names → {calls writes : ℕ} → StaysQuiet s s' calls writes →
     old ≡ at (map_of_index s) name → map_of_index s' ≡ insert (map_of_index s) name value → is_some old ≡ b → names' ≡ cond b names (names + 1) → IsCoreMap s' names'
-put_counted s s' name value names names' old b was index quiet stamps told after is counts =
+put_counted s s' name value names names' old b was stays told after is counts =
     let m = map_of_index s in
     let has : is_some (at m name) ≡ b = sym (ap is_some told) ∙ is in
     record {
-      index = index;
-      quiet = quiet;
-      stamps = stamps;
+      index = stays.index;
+      quiet = stays.quiet;
+      stamps = stays.stamps was.stamps;
       counted = counts ∙ ap (λ (n : ℕ). cond b n (n + 1)) was.counted
           ∙ sym (ap len after ∙ len-insert nat_list_cmp_total m name value ∙ ap (λ (c : Bool). cond c (len m) (len m + 1)) has);
     }
+
+-- and so many names it has as long as it holds the same
+pub same_counted : (s s' : Index) (names : ℕ) → IsCoreMap s names → {calls writes : ℕ} → StaysQuiet s s' calls writes → HoldsSame (state_of s) (state_of s') → IsCoreMap s' names
+same_counted s s' names was stays same = record { index = stays.index; quiet = stays.quiet; stamps = stays.stamps was.stamps; counted = was.counted ∙ sym (ap len same.contents) }
 
 -- a map that has a name has one at least
 some_name : (m : Map) (name : List ℕ) → is_some (at m name) ≡ true → 1 ≤ len m
@@ -113,15 +118,15 @@ pub told_name : (s : Index) (name : List ℕ) (names : ℕ) (old : Option ℕ) �
 told_name s name names old was told is = let one = some_name (map_of_index s) name (sym (ap is_some told) ∙ is) in let counted = was.counted in omega (arith, one, counted)
 
 -- a removal of a name that the map has takes one, and of one that it lacks takes none
-pub removal_counted : (s s' : Index) (name : List ℕ) (names names' : ℕ) (old : Option ℕ) (b : Bool) → IsCoreMap s names → IsIndex s' → IsQuiet s' → HasLowStamps s' →
+pub removal_counted : (s s' : Index) (name : List ℕ) (names names' : ℕ) (old : Option ℕ) (b : Bool) → IsCoreMap s names → {calls writes : ℕ} → StaysQuiet s s' calls writes →
     old ≡ at (map_of_index s) name → map_of_index s' ≡ remove (map_of_index s) name → is_some old ≡ b → names' ≡ cond b (names - 1) names → IsCoreMap s' names'
-removal_counted s s' name names names' old b was index quiet stamps told after is counts =
+removal_counted s s' name names names' old b was stays told after is counts =
     let m = map_of_index s in
     let has : is_some (at m name) ≡ b = sym (ap is_some told) ∙ is in
     record {
-      index = index;
-      quiet = quiet;
-      stamps = stamps;
+      index = stays.index;
+      quiet = stays.quiet;
+      stamps = stays.stamps was.stamps;
       counted = counts ∙ ap (λ (n : ℕ). cond b (n - 1) n) was.counted
           ∙ sym (ap len after ∙ len-remove nat_list_cmp_total m name ∙ ap (λ (c : Bool). cond c (len m - 1) (len m)) has);
     }
@@ -156,6 +161,9 @@ few_names s names is =
 -- calls and turns leave it that of its run
 pub same_run : (s s' : Index) {l : Layout} {number : ℕ} → IsOfRun l number s → s'.layout ≡ s.layout → s'.generation ≡ s.generation → IsOfRun l number s'
 same_run s s' was layout generation = record { layout = layout ∙ was.layout; generation = generation ∙ was.generation }
+
+pub stays_run : (s s' : Index) {l : Layout} {number calls writes : ℕ} → IsOfRun l number s → StaysQuiet s s' calls writes → IsOfRun l number s'
+stays_run s s' was stays = same_run s s' was stays.layout stays.generation
 
 -- where calls are left, so are four locks of each node
 pub locks_remain : (s : Index) → 0 < calls_left_of s → 4 ≤ locks_left s
@@ -281,12 +289,18 @@ told_full s c new r is {caller} runs =
     let run : RunsAlone s caller c new whole.Full = subst (RunsAlone s caller c new) is runs in
     (run.answer.2, ap anchors_of run.list)
 
--- with no call in flight it has a shape that its members can have
-pub core_shape : (s : Index) (names : ℕ) → IsCoreMap s names → IsShape s.layout.slots s.layout.nodes (map_of_index s) (anchors_in (world s))
-core_shape s names is =
-    let shape = (idle_has_shape (world s) is.index.lawful (quiet_parties s is.quiet)).0 in
-    let few = shape.few in
-    record { ordered = shape.ordered; few = omega arith; fits = shape.fits }
+-- with no call in flight it has a shape that its members can have, and these weigh no more than all of it
+pub core_in_shape : (s : Index) (names : ℕ) → IsCoreMap s names → IsInShape (state_of s)
+core_in_shape s names is =
+    let both = idle_has_shape (world s) is.index.lawful (quiet_parties s is.quiet) in
+    let few = both.0.few in
+    let light = both.1 in
+    let slots = is.index.lawful.row.layout.slots in
+    record {
+      shape = record { ordered = both.0.ordered; few = omega arith; fits = both.0.fits };
+      enough = omega (arith, slots);
+      light = omega (arith, light);
+    }
 
 -- of what is left for writes a call takes one at most, for its write
 few_writes : (c : CoreCall) (r : Whole) (caller index : ℕ) → length (alone_writes caller index c r) ≤ most_writes c
@@ -311,10 +325,46 @@ writes_fall s s' c r caller runs spare =
     let both = length-append s.history (alone_writes caller runs.state.index c r) in
     omega (arith, few, grown, both, spare)
 
+pub calls_fall : (s s' : Index) (c : CoreCall) (caller : ℕ) → TakesLocks caller c s s' → calls_left_of s ≤ calls_left_of s' + 1
+calls_fall s s' c caller takes = ⊎_elim
+    (λ (one : locks_left s ≤ locks_left s' + 1). omega (arith, one))
+    (λ (again : IsMadeAgain caller c s × (locks_left s ≤ locks_left s' + most_tries c)). let few = few_tries c in let more = again.1 in omega (arith, few, more))
+    takes
+
+-- what a whole call leaves
+pub call_stays : (s s' : Index) (c : CoreCall) (r : Whole) (caller : ℕ) → RunsAlone s caller c s' r → IsIndex s' → IsQuiet s' → calls_left_of s ≤ calls_left_of s' + 1 → s.spare + length s.history ≤ s'.spare + length s'.history →
+    StaysQuiet s s' 1 (most_writes c)
+call_stays s s' c r caller runs index quiet calls spare = record {
+  index = index;
+  quiet = quiet;
+  stamps = stays_low s caller c s' r runs;
+  layout = runs.layout;
+  generation = runs.generation;
+  calls_left = calls;
+  writes_left = writes_fall s s' c r caller runs spare;
+}
+
+-- so much is used up of the map, which is seen as it was
+pub uses_of : (s seen s' : Index) {calls writes : ℕ} → s ≡ seen → StaysQuiet s s' calls writes → UsesUp (state_of seen) (state_of s') calls writes
+uses_of s seen s' {calls} {writes} is stays = subst (λ (v : Index). UsesUp (state_of v) (state_of s') calls writes) is (record {
+  bounds = record { slots = ap (λ (l : Layout). l.slots) stays.layout; most = ap (λ (l : Layout). l.nodes) stays.layout; callers = ap (λ (l : Layout). l.callers) stays.layout };
+  calls_left = stays.calls_left;
+  writes_left = stays.writes_left;
+})
+
+pub same_of : (s seen s' : Index) → s ≡ seen → HoldsSame (state_of s) (state_of s') → HoldsSame (state_of seen) (state_of s')
+same_of s seen s' is same = subst (λ (v : Index). HoldsSame (state_of v) (state_of s')) is same
+
 -- ---- turns of the updater
 
 stamp_low : (w : World) (n : ℕ) → stamp_in w n ≤ 1 → stamp_then w 1 n ≤ 1
 stamp_low w n low = elim (stamp_in w n == 0) as (λ b. cond b 1 (stamp_in w n) ≤ 1) [ true ↦ omega arith | false ↦ low ]
+
+-- a turn takes no lock
+pub turned_calls : (s s' : Index) (answer : Turned) → TurnsAlone s 1 1 answer s' → calls_left_of s' ≡ calls_left_of s
+turned_calls s s' answer t =
+    let locks : locks_left s' ≡ locks_left s = λ k. fewest_locks (t.is k).generation (t.lone.kept.facts k).version (t.is k).layout.nodes in
+    ap (λ (n : ℕ). n / 4) locks
 
 module _ (s s' : Index) (answer : Turned) (t : TurnsAlone s 1 1 answer s') where
   -- a turn leaves no stamp above its own
@@ -328,14 +378,29 @@ module _ (s s' : Index) (answer : Turned) (t : TurnsAlone s 1 1 answer s') where
       omega arith)
       (cases_eq (stamp_in (world s') n) 0)
 
-  -- nor does it change the names
+  -- nor does it change what it holds
+  pub turned_same : HoldsSame (state_of s) (state_of s')
+  turned_same = let weighs = t.weighs in record { contents = ap map_of_index t.is; anchors = (λ k. anchors_of (t.lone.kept.facts k).list); weighs = omega (arith, weighs) }
+
+  -- it uses up nothing; a core that was kept until then with no call in flight is kept so
+  pub turned_stays : {before : Index} → StaysQuiet before s 0 0 → IsIndex s' → IsQuiet s' → StaysQuiet before s' 0 0
+  turned_stays {before} was index quiet =
+      let calls = turned_calls s s' answer t in
+      let writes : writes_left_of s' ≡ writes_left_of s = ap writes_left_of t.is in
+      let calls_before = was.calls_left in
+      let writes_before = was.writes_left in
+      record {
+        index = index;
+        quiet = quiet;
+        stamps = λ low. turn_low index (was.stamps low);
+        layout = ap (λ (v : Index). v.layout) t.is ∙ was.layout;
+        generation = ap (λ (v : Index). v.generation) t.is ∙ was.generation;
+        calls_left = omega (arith, calls, calls_before);
+        writes_left = omega (arith, writes, writes_before);
+      }
+
   pub turned_map : (names : ℕ) → IsCoreMap s names → IsIndex s' → IsQuiet s' → IsCoreMap s' names
-  turned_map names was index quiet = record {
-    index = index;
-    quiet = quiet;
-    stamps = turn_low index was.stamps;
-    counted = was.counted ∙ ap (λ (v : Index). len (map_of_index v)) (sym t.is);
-  }
+  turned_map names was index quiet = record { index = index; quiet = quiet; stamps = turn_low index was.stamps; counted = was.counted ∙ ap (λ (v : Index). len (map_of_index v)) (sym t.is) }
 
   pub turned_run : {l : Layout} {number : ℕ} → IsOfRun l number s → IsOfRun l number s'
   turned_run was = record { layout = ap (λ (v : Index). v.layout) t.is ∙ was.layout; generation = ap (λ (v : Index). v.generation) t.is ∙ was.generation }
@@ -465,20 +530,25 @@ pub on-err : {A E : Type 0} (r : Result A E) (P : Type 0) → P → OnErr r P
 on-err (Ok a) P p = tt
 on-err (Err e) P p = p
 
--- its members weigh no more than all of it
-pub core_light : (s : Index) (names : ℕ) → IsCoreMap s names → weight s.layout.slots (map_of_index s) (anchors_in (world s)) ≤ weight_of s
-core_light s names is = let both = (idle_has_shape (world s) is.index.lawful (quiet_parties s is.quiet)).1 in omega (arith, both)
-
 -- a call adds one at most, and only where it adds a name
 pub told_weighs : (s : Index) (c : CoreCall) (new : Index) (r : Whole) (placed : Placed) → r ≡ whole.Placed placed → {caller : ℕ} → RunsAlone s caller c new r →
     weight_of new ≤ weight_of s + added_if (op_of c) placed.old
 told_weighs s c new r placed is {caller} runs = let run : RunsAlone s caller c new (whole.Placed placed) = subst (RunsAlone s caller c new) is runs in run.weighs
 
-pub full_weighs : (s : Index) (c : CoreCall) (new : Index) (r : Whole) → r ≡ whole.Full → {caller : ℕ} → RunsAlone s caller c new r → weight_of new ≤ weight_of s
-full_weighs s c new r is {caller} runs =
+-- what writes nothing and leaves the list holds what it held
+holds_same : (s new : Index) → new.base ≡ s.base → new.history ≡ s.history ++ [] → HasSameList s new → weight_of new ≤ weight_of s → HoldsSame (state_of s) (state_of new)
+holds_same s new base history list light = record {
+  contents = (λ k. after_all (map_of (base k)) (history k)) ∙ ap (after_all (map_of s.base)) (append-nil s.history);
+  anchors = ap anchors_of list;
+  weighs = light;
+}
+
+-- so does one that found no room
+pub full_same : (s : Index) (c : CoreCall) (new : Index) (r : Whole) → r ≡ whole.Full → {caller : ℕ} → RunsAlone s caller c new r → HoldsSame (state_of s) (state_of new)
+full_same s c new r is {caller} runs =
     let run : RunsAlone s caller c new whole.Full = subst (RunsAlone s caller c new) is runs in
     let weighs = run.weighs in
-    omega (arith, weighs)
+    holds_same s new run.base run.history run.list (omega (arith, weighs))
 
 pub no_put_adds : (o : Option ℕ) (asked : NameOp) → put_count asked ≡ 0 → added_if asked o ≡ 0
 no_put_adds None asked none = none
@@ -499,3 +569,9 @@ listed_adds low count (whole.Worn node word) = refl
 
 pub part_weighs : (s : Index) (low : List ℕ) (count : ℕ) (new : Index) (r : Whole) {caller : ℕ} → RunsAlone s caller (call.Part low count) new r → weight_of new ≤ weight_of s
 part_weighs s low count new r runs = let weighs = runs.weighs in let none = listed_adds low count r in omega (arith, weighs, none)
+
+-- a part of a scan holds what it held
+pub part_same : (s : Index) (low : List ℕ) (count : ℕ) (new : Index) (r : Whole) (words : PartWords) → r ≡ whole.Part words → {caller : ℕ} → RunsAlone s caller (call.Part low count) new r → HoldsSame (state_of s) (state_of new)
+part_same s low count new r words is {caller} runs =
+    let run : RunsAlone s caller (call.Part low count) new (whole.Part words) = subst (RunsAlone s caller (call.Part low count) new) is runs in
+    holds_same s new run.base run.history run.list (part_weighs s low count new (whole.Part words) run)

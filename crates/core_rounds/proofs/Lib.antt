@@ -9,4 +9,5 @@ pub mod RoundWaits
 pub mod ScanSteps
 pub mod Shortening
 pub mod Summing
+pub mod Using
 pub mod Waiting

@@ -11,6 +11,8 @@ use Rattle.cat_text.specs.ReportGrammar.{IsReportPart}
 use Rattle.shapes.specs.Anchors.{Anchors, past, next_of}
 use Rattle.shapes.specs.Weights.{IsShape}
 use Rattle.shapes.proofs.ScansByShape.{next-above, past-shorter, past-within}
+use Rattle.core_rounds.specs.Updated.{HoldsSame, KeepsBounds, UpdatedState, UsesUp, WaitOn}
+use Rattle.core_rounds.proofs.Using.{bounds-first, bounds-then, same-first, same-then}
 
 -- ---- its parts
 
@@ -102,3 +104,68 @@ module _ (m : Map) (anchors : Anchors) (from : List ℕ) (count place : ℕ) (lo
       let reads = subst (λ (o : Option (List ℕ)). Reads m anchors from count place o left parts) begins was in
       let follows = part_follows (λ _. m) from count 0 low left place parts p reads.goes is.part in
       reads-next m anchors from count place low left left' parts parts' p None reads is (follows.1 (omega (arith, fewer, none))) grown
+
+-- ---- the map beside it
+
+-- what is told of a part that is read of a map
+pub record IsRead (s : UpdatedState) (low : List ℕ) (left place : ℕ) (p : ScanPart) : Type 0 where
+  pub part : IsPart (λ _. s.contents) low left place p
+  pub here : p.place ≡ place
+  pub high : p.high ≡ next_of s.anchors low
+  pub told : IsReportPart p
+
+next-read : (first was : UpdatedState) (low : List ℕ) (left place : ℕ) (p : ScanPart) → HoldsSame first was → IsRead was low left place p → IsNext first.contents first.anchors low left place p
+next-read first was low left place p same read =
+    next-part first.contents first.anchors was.contents low left place p same.contents same.anchors read.part read.here read.high read.told
+
+-- the scan goes on behind its parts so far, on a map that holds what it held, and has calls left for the parts to come
+pub record Scanned (first now : UpdatedState) (waited has : ℕ → ℕ → ℕ → Type 0) (from : List ℕ) (count place : ℕ) (next : Option (List ℕ)) (left : ℕ) (parts : List ScanPart) : Type 0 where
+  pub reads : Reads first.contents first.anchors from count place next left parts
+  pub same : HoldsSame first now
+  pub bounds : KeepsBounds first now
+  pub calls : first.calls_left + to_come first.anchors next ≤ now.calls_left + (length (past first.anchors from) + 1)
+  pub writes : first.writes_left ≤ now.writes_left
+  pub waits : WaitOn waited has
+
+pub scanned-first : (first : UpdatedState) (has : ℕ → ℕ → ℕ → Type 0) (from : List ℕ) (count place : ℕ) (parts : List ScanPart) → parts ≡ [] → Scanned first first has has from count place (Some from) count parts
+scanned-first first has from count place parts none = record {
+  reads = reads-first first.contents first.anchors from count place parts none;
+  same = same-first first;
+  bounds = bounds-first first;
+  calls = omega arith;
+  writes = omega arith;
+  waits = λ changes writes puts waits. waits;
+}
+
+module _ (first was now : UpdatedState) (waited had has : ℕ → ℕ → ℕ → Type 0) (from : List ℕ) (count place : ℕ) (low : List ℕ) (left left' : ℕ) (parts parts' : List ScanPart) (p : ScanPart) where
+  -- a part uses up one call, and one part fewer is to come
+  behind : (next more : Option (List ℕ)) → next ≡ Some low → Scanned first was waited had from count place next left parts → HoldsSame was now → UsesUp was now 1 0 → WaitOn had has →
+      to_come first.anchors more + 1 ≤ to_come first.anchors (Some low) → Reads first.contents first.anchors from count place more left' parts' → Scanned first now waited has from count place more left' parts'
+  behind next more begins before same uses waits less reads =
+      let come = ap (to_come first.anchors) begins in
+      let calls = before.calls in
+      let one = uses.calls_left in
+      let writes = before.writes in
+      let none = uses.writes_left in
+      record {
+        reads = reads;
+        same = same-then first was now before.same same;
+        bounds = bounds-then first was now before.bounds uses.bounds;
+        calls = omega (arith, come, calls, one, less);
+        writes = omega (arith, writes, none);
+        waits = λ changes writes puts waited_so. waits changes writes puts (before.waits changes writes puts waited_so);
+      }
+
+  pub scanned-more : (next : Option (List ℕ)) → next ≡ Some low → Scanned first was waited had from count place next left parts → IsRead was low left place p → HoldsSame was now → UsesUp was now 1 0 → WaitOn had has →
+      left' ≡ left - length p.pairs → 0 < left' → parts' ≡ parts ++ p ∷ [] → Scanned first now waited has from count place p.high left' parts'
+  scanned-more next begins before read same uses waits fewer some grown =
+      let is = next-read first was low left place p before.same read in
+      behind next p.high begins before same uses waits (fewer-to-come first.anchors low p.high is.bound)
+      (reads-more first.contents first.anchors from count place low left left' parts parts' p next begins before.reads is fewer some grown)
+
+  pub scanned-last : (next : Option (List ℕ)) → next ≡ Some low → Scanned first was waited had from count place next left parts → IsRead was low left place p → HoldsSame was now → UsesUp was now 1 0 → WaitOn had has →
+      left' ≡ left - length p.pairs → left' ≤ 0 → parts' ≡ parts ++ p ∷ [] → Scanned first now waited has from count place None left' parts'
+  scanned-last next begins before read same uses waits fewer none grown =
+      let is = next-read first was low left place p before.same read in
+      behind next None begins before same uses waits (one-to-come first.anchors low)
+      (reads-last first.contents first.anchors from count place low left left' parts parts' p next begins before.reads is fewer none grown)

@@ -218,8 +218,8 @@ no_more s waits =
     let nodes = waits.nodes in
     record { ready = waits.ready; lines = λ of there. (let lines = waits.lines of there in omega (arith, lines)); nodes = omega (arith, nodes) }
 
-pub no_put_more : (s : Index) {changes writes puts : ℕ} → Waits s changes writes puts → Waits s changes writes (puts + 0)
-no_put_more s waits = let nodes = waits.nodes in record { ready = waits.ready; lines = waits.lines; nodes = omega (arith, nodes) }
+pub no_change : (s : Index) {changes writes puts : ℕ} → Waits s changes writes puts → Waits s (changes + 0) writes puts
+no_change s waits = let ready = waits.ready in record { ready = omega (arith, ready); lines = waits.lines; nodes = waits.nodes }
 
 pub none_changed : (s : Index) {changes writes puts : ℕ} → Waits s (changes + 0) writes puts → Waits s changes writes puts
 none_changed s waits = let ready = waits.ready in record { ready = omega (arith, ready); lines = waits.lines; nodes = waits.nodes }

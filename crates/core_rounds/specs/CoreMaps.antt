@@ -1,6 +1,10 @@
 -- The index, called by one caller with no other call in flight, as a map of names.
 use Rattle.std.specs.Prelude.{◌≡◌, ℕ, ◌+◌, ◌-◌, ◌*◌, ◌/◌, ◌%◌, ◌^◌, ◌<◌, ◌≤◌, ◌==◌, ◌⊎◌, min, length}
+use Rattle.std.specs.Prelude.{List, All}
 use Rattle.std.specs.FinMap.{len}
+use Rattle.cat_history.specs.declared.plan.RoundPlan.{RoundPlan}
+use Rattle.cat_text.specs.ReportGrammar.{IsReportRound}
+use Rattle.cat_text.specs.declared.report.RoundReport.{RoundReport}
 use Rattle.pm_words.specs.Codes.{empty_state, ready_state}
 use Rattle.pm_words.specs.Images.{Row}
 use Rattle.pm_words.specs.Locations.{Line, word_at}
@@ -24,7 +28,10 @@ use Rattle.recovery.specs.index_core.specs.Lone.{IsQuiet, locks_left, taken_node
 use Rattle.recovery.specs.index_core.specs.Fulls.{HasLowStamps}
 use Rattle.recovery.specs.index_core.specs.Weights.{weight_of}
 use Rattle.recovery.specs.Opened.{IsOpenedFrom}
-use Rattle.core_rounds.specs.Waiting.{one_if}
+use Rattle.core_rounds.specs.LoneCalls.{calls_in}
+use Rattle.core_rounds.specs.Rounds.{RoundsEndWithTurn, added_in}
+use Rattle.core_rounds.specs.Updated.{ArePlayedFrom, UpdatedState, WaitBehind, changes_of_rounds}
+use Rattle.core_rounds.specs.Waiting.{HaveNoTurns, one_if, puts_asked, writes_asked}
 
 -- How many more calls it can have: each takes four locks of each node at most.
 abbrev pub calls_left_of : Index → ℕ
@@ -33,6 +40,19 @@ calls_left_of s = locks_left s / 4
 -- How many more of them can be puts and deletes: each places one write at most, and finds the clock below 2^62.
 abbrev pub writes_left_of : Index → ℕ
 writes_left_of s = min s.spare (2 ^ 62 - length s.history)
+
+-- What callers of it as a map know of it.
+abbrev pub state_of : Index → UpdatedState
+state_of s = record {
+  contents = map_of_index s;
+  anchors = anchors_in (world s);
+  slots = s.layout.slots;
+  most = s.layout.nodes;
+  callers = s.layout.callers;
+  calls_left = calls_left_of s;
+  writes_left = writes_left_of s;
+  weighs = weight_of s;
+}
 
 -- The call is one on a name, and is refused at no clock below 2^62.
 abbrev pub IsUnlimited : CoreCall → Type 0
@@ -86,6 +106,17 @@ pub record IsCoreMap (s : Index) (names : ℕ) : Type 0 where
   pub stamps : HasLowStamps s
   pub counted : names ≡ len (map_of_index s)
 
+-- What is done with no call in flight leaves none in flight, and no stamp that turns don't release where there was
+-- none; it is the same run, and so many calls at most are used up, and so many writes.
+pub record StaysQuiet (s new : Index) (calls writes : ℕ) : Type 0 where
+  pub index : IsIndex new
+  pub quiet : IsQuiet new
+  pub stamps : HasLowStamps s → HasLowStamps new
+  pub layout : new.layout ≡ s.layout
+  pub generation : new.generation ≡ s.generation
+  pub calls_left : calls_left_of s ≤ calls_left_of new + calls
+  pub writes_left : writes_left_of s ≤ writes_left_of new + writes
+
 -- It is the index of a run of this layout and this generation. No call changes either.
 pub record IsOfRun (l : Layout) (number : ℕ) (s : Index) : Type 0 where
   pub layout : s.layout ≡ l
@@ -94,6 +125,25 @@ pub record IsOfRun (l : Layout) (number : ℕ) (s : Index) : Type 0 where
 -- Each of its log lines is EMPTY, and so none waits for a turn.
 abbrev pub HasNoLines : Index → Type 0
 HasNoLines s = (j : ℕ) → line_state (world s) j ≡ empty_state
+
+-- Joined rounds of one caller each were played on this core, which an image was just opened as, and reported so, and
+-- left that one. An opened core has 100000 calls left of each node, of which these rounds take as many as they have.
+-- Where the last of them ends with a turn, no line waits; without turns the changes of the shape wait that they make.
+pub record ArePlayedLone (s : Index) (plans : List RoundPlan) (reports : List RoundReport) (new : Index) : Type 0
+  where
+    pub played : ArePlayedFrom (state_of s) plans reports (state_of new)
+    pub told : All IsReportRound reports
+    pub weighs : weight_of new ≤ weight_of s + added_in reports
+    pub names : len (map_of_index new) ≤ len (map_of_index s) + added_in reports
+    pub layout : new.layout ≡ s.layout
+    pub generation : new.generation ≡ s.generation
+    pub index : IsIndex new
+    pub quiet : IsQuiet new
+    pub stamps : HasLowStamps new
+    pub calls_left : (calls : ℕ) → calls + calls_in plans ≤ 100000 → calls * s.layout.nodes ≤ calls_left_of new
+    pub settled : RoundsEndWithTurn plans → HasNoLines new
+    pub waits : HaveNoTurns plans → WaitBehind (Waits s) (Waits new) (changes_of_rounds (state_of s) reports)
+        (writes_asked plans) (puts_asked plans)
 
 -- What is known of an index that an image was opened as, before anything is done with it: the names, the shape and the
 -- weight of the image. Its base has each name once. No line waits, and the first caller's eight are EMPTY; all nodes

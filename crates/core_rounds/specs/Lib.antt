@@ -2,6 +2,7 @@ pub mod LoneCalls
 pub mod Rounds
 pub mod CoreMaps
 pub mod Summaries
+pub mod Updated
 pub mod Waiting
 pub mod CrashWork
 -- crates below, for those above that name them through this one

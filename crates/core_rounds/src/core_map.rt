@@ -14,10 +14,10 @@ ghost use Rattle.recovery.specs.index_core.specs.Lone.{IsQuiet};
 ghost use Rattle.recovery.specs.index_core.specs.Weights.{added_if, weight_of};
 ghost use Rattle.index_law.specs.Anchors.{anchors_in};
 ghost use Rattle.shapes.specs.Anchors.{next_of};
-ghost use Rattle.shapes.specs.ShapeRounds.{PutsFull};
 ghost use Rattle.recovery.specs.Opened.{IsOpenedFrom};
-ghost use Rattle.core_rounds.specs.CoreMaps.{IsImageOf, IsOfRun, IsUnlimited};
-ghost use Rattle.core_rounds.specs.CoreMaps.{Waits, anchors_made, calls_left_of, changes_for, puts_for, writes_left_of};
+ghost use Rattle.core_rounds.specs.CoreMaps.{IsImageOf, IsOfRun, IsUnlimited, StaysQuiet, Waits, anchors_made};
+ghost use Rattle.core_rounds.specs.CoreMaps.{calls_left_of, changes_for, puts_for, state_of, writes_left_of};
+ghost use Rattle.core_rounds.specs.Updated.{HoldsSame, IsFullIn, WaitBehind, WaitOn};
 
 use crate::updated_map::UpdatedMap;
 use call_stages::Once;
@@ -109,30 +109,13 @@ pub fn image_of(alloc: Global, core: &Core) -> Result<Image, NoMemory>
 }
 
 impl<L: Ledger, K: RunOf> UpdatedMap for CoreMap<L, K> {
-    ghost use Rattle.recovery.specs.index_core.specs.Indexes.{map_of_index, world};
-    ghost use Rattle.index_law.specs.Anchors.{anchors_in};
-    ghost use Rattle.recovery.specs.index_core.specs.Weights.{weight_of};
-    ghost use Rattle.core_rounds.specs.CoreMaps.{HasNoLines, Waits, calls_left_of, writes_left_of};
+    ghost use Rattle.core_rounds.specs.CoreMaps.{HasNoLines, Waits, state_of};
 
-    ghost contents = { map_of_index };
-
-    ghost anchors = { λ map. anchors_in (world map) };
-
-    ghost slots = { λ map. map.layout.slots };
-
-    ghost most = { λ map. map.layout.nodes };
-
-    ghost callers = { λ map. map.layout.callers };
-
-    ghost calls_left = { calls_left_of };
-
-    ghost writes_left = { writes_left_of };
+    ghost state = { state_of };
 
     ghost is_settled = { HasNoLines };
 
     ghost waits = { Waits };
-
-    ghost weighs = { weight_of };
 
     fn has_shape(&self) {
         // Its fields have what is known of it.
@@ -207,16 +190,8 @@ impl<L: Ledger, K: RunOf> UpdatedMap for CoreMap<L, K> {
 fn shorten(core: &mut Core, names: u64)
     requires index { IsIndex core.old }
     requires quiet { IsQuiet core.old }
-    ensures map { map_of_index core.new ≡ map_of_index core.old }
-    ensures anchors { anchors_in (world core.new) ≡ anchors_in (world core.old) }
-    ensures layout { core.new.layout ≡ core.old.layout }
-    ensures generation { core.new.generation ≡ core.old.generation }
-    ensures calls_left { calls_left_of core.old ≤ calls_left_of core.new }
-    ensures writes_left { writes_left_of core.old ≤ writes_left_of core.new }
-    ensures weighs { weight_of core.new ≤ weight_of core.old }
-    ensures quiet { IsQuiet core.new }
-    ensures stamps { HasLowStamps core.old → HasLowStamps core.new }
-    ensures index { IsIndex core.new }
+    ensures same { HoldsSame (state_of core.old) (state_of core.new) }
+    ensures quiet { StaysQuiet core.old core.new 0 0 }
 {
     let writes = core.history().len() as u64;
     if writes < MANY_WRITES || writes / 4 < names {
@@ -245,25 +220,14 @@ fn call_alone<L: Ledger>(
     ensures old { IfOk result (λ old. old ≡ at (map_of_index core.old) (name_asked (op_of call))) }
     ensures ok { OnOk result (map_of_index core.new ≡ pended (change_of (op_of call)) (map_of_index core.old)) }
     ensures anchors { OnOk result (anchors_in (world core.new) ≡ anchors_made core.old call) }
-    ensures full { IsErr result ↔ PutsFull core.old.layout.slots core.old.layout.nodes (map_of_index core.old)
-        (anchors_in (world core.old)) (as_op (op_of call)) }
-    ensures err { OnErr result (map_of_index core.new ≡ map_of_index core.old) }
-    ensures err_anchors { OnErr result (anchors_in (world core.new) ≡ anchors_in (world core.old)) }
-    ensures layout { core.new.layout ≡ core.old.layout }
-    ensures generation { core.new.generation ≡ core.old.generation }
-    ensures calls_left { calls_left_of core.old ≤ calls_left_of core.new + 1 }
-    ensures writes_left { writes_left_of core.old ≤ writes_left_of core.new + most_writes call }
+    ensures full { IsErr result ↔ IsFullIn (state_of core.old) (as_op (op_of call)) }
+    ensures err { OnErr result (HoldsSame (state_of core.old) (state_of core.new)) }
+    ensures quiet { StaysQuiet core.old core.new 1 (most_writes call) }
     ensures weighs { IfOk result (λ old. weight_of core.new ≤ weight_of core.old + added_if (op_of call) old) }
-    ensures err_weighs { OnErr result (weight_of core.new ≤ weight_of core.old) }
-    ensures waits { OnOk result ((changes writes puts : ℕ) →
-        Waits core.old changes (writes + most_writes call) (puts + puts_for call) →
-        Waits core.new (changes + changes_for core.old call) writes puts) }
-    ensures err_waits { OnErr result ((changes writes puts : ℕ) →
-        Waits core.old changes (writes + most_writes call) (puts + puts_for call) →
-        Waits core.new changes writes puts) }
-    ensures quiet { IsQuiet core.new }
-    ensures stamps { HasLowStamps core.old → HasLowStamps core.new }
-    ensures index { IsIndex core.new }
+    ensures waits { OnOk result (WaitBehind (Waits core.old) (Waits core.new) (changes_for core.old call)
+        (most_writes call) (puts_for call)) }
+    ensures err_waits { OnErr result (WaitBehind (Waits core.old) (Waits core.new) 0 (most_writes call)
+        (puts_for call)) }
 {
     match core.name_alone(caller, call, steps) {
         Once::Done(placed) => Ok(placed.old),
@@ -289,18 +253,9 @@ fn list_alone<L: Ledger>(
     requires calls_left { 0 < calls_left_of core.old }
     ensures high { result.high ≡ next_of (anchors_in (world core.old)) low.now }
     ensures lists { ListsRange (map_of_index core.old) low.now count result }
-    ensures map { map_of_index core.new ≡ map_of_index core.old }
-    ensures anchors { anchors_in (world core.new) ≡ anchors_in (world core.old) }
-    ensures layout { core.new.layout ≡ core.old.layout }
-    ensures generation { core.new.generation ≡ core.old.generation }
-    ensures calls_left { calls_left_of core.old ≤ calls_left_of core.new + 1 }
-    ensures writes_left { writes_left_of core.old ≤ writes_left_of core.new }
-    ensures weighs { weight_of core.new ≤ weight_of core.old }
-    ensures waits { (changes writes puts : ℕ) → Waits core.old changes writes puts →
-        Waits core.new changes writes puts }
-    ensures quiet { IsQuiet core.new }
-    ensures stamps { HasLowStamps core.old → HasLowStamps core.new }
-    ensures index { IsIndex core.new }
+    ensures same { HoldsSame (state_of core.old) (state_of core.new) }
+    ensures quiet { StaysQuiet core.old core.new 1 0 }
+    ensures waits { WaitOn (Waits core.old) (Waits core.new) }
 {
     match core.part_alone(caller, *low, count, steps) {
         Once::Done(words) => words,

@@ -1,20 +1,14 @@
 //! Playing rounds of one caller on the index, one after another, each joined at its end.
 
 ghost use Rattle.std.specs.Prelude.{◌≡◌, ℕ, ◌+◌, ◌*◌, ◌<◌, ◌≤◌, All, IfOk, IsTrue};
-ghost use Rattle.std.specs.FinMap.{len};
 ghost use Rattle.pm_words.specs.Images.{Row};
-ghost use Rattle.cat_text.specs.ReportGrammar.{IsReportRound};
 ghost use Rattle.recovery.specs.Opened.{IsOpenedFrom};
-ghost use Rattle.index_law.specs.Anchors.{anchors_in};
-ghost use Rattle.recovery.specs.index_core.specs.Fulls.{HasLowStamps};
-ghost use Rattle.recovery.specs.index_core.specs.Indexes.{IsIndex, map_of_index, world};
-ghost use Rattle.recovery.specs.index_core.specs.Lone.{IsQuiet};
-ghost use Rattle.recovery.specs.index_core.specs.Weights.{weight_of};
-ghost use Rattle.core_rounds.specs.CoreMaps.{HasNoLines, IsOfRun, Waits, calls_left_of};
+ghost use Rattle.core_rounds.specs.CoreMaps.{ArePlayedLone, IsOfRun};
 ghost use Rattle.core_rounds.specs.LoneCalls.{AreJoined, AreLoneCalls, AreLoneRounds, AreReportCalls, calls_in};
 ghost use Rattle.core_rounds.specs.LoneCalls.{has_other, has_restart, is_crowd, restarts};
-ghost use Rattle.core_rounds.specs.Rounds.{ArePlayed, RoundsEndWithTurn, added_in};
-ghost use Rattle.core_rounds.specs.Waiting.{HaveNoTurns, changes_made, puts_asked, writes_asked};
+ghost use Rattle.core_rounds.specs.Rounds.{RoundsEndWithTurn};
+ghost use Rattle.core_rounds.specs.Updated.{AreReportedFrom, WaitBehind, changes_of_rounds};
+ghost use Rattle.core_rounds.specs.Waiting.{HaveNoTurns, puts_asked, writes_asked};
 
 use crate::core_map::{CoreMap, RunOf};
 use crate::round::run_lone_round;
@@ -43,26 +37,7 @@ pub fn play_lone(alloc: Global, core: Core, plans: &[RoundPlan]) -> Result<LoneR
     requires callers { All (λ plan. All (λ a. a.caller < core.layout.callers) plan.ops) plans.now }
     requires told { All (λ plan. AreReportCalls plan.ops) plans.now }
     requires calls { calls_in plans.now ≤ 100000 }
-    ensures played { IfOk result (λ done. ArePlayed core.layout.slots core.layout.nodes (weight_of core)
-        (len (map_of_index core)) (map_of_index core) (anchors_in (world core)) plans.now done.reports.items
-        (map_of_index done.core) (anchors_in (world done.core))) }
-    ensures report { IfOk result (λ done. All IsReportRound done.reports.items) }
-    ensures weighs { IfOk result (λ done. weight_of done.core ≤ weight_of core + added_in done.reports.items) }
-    ensures names { IfOk result (λ done. len (map_of_index done.core) ≤ len (map_of_index core) +
-        added_in done.reports.items) }
-    ensures layout { IfOk result (λ done. done.core.layout ≡ core.layout) }
-    ensures generation { IfOk result (λ done. done.core.generation ≡ core.generation) }
-    ensures index { IfOk result (λ done. IsIndex done.core) }
-    ensures quiet { IfOk result (λ done. IsQuiet done.core) }
-    ensures stamps { IfOk result (λ done. HasLowStamps done.core) }
-    // An opened core has 100000 calls left of each node, of which these rounds take as many as they have.
-    ensures calls_left { IfOk result (λ done. (calls : ℕ) → calls + calls_in plans.now ≤ 100000 →
-        calls * core.layout.nodes ≤ calls_left_of done.core) }
-    ensures settled { IfOk result (λ done. RoundsEndWithTurn plans.now → HasNoLines done.core) }
-    ensures waits { IfOk result (λ done. HaveNoTurns plans.now → (changes lines puts : ℕ) →
-        Waits core changes (lines + writes_asked plans.now) (puts + puts_asked plans.now) →
-        Waits done.core (changes + changes_made core.layout.slots (map_of_index core) (anchors_in (world core))
-        done.reports.items) lines puts) }
+    ensures { IfOk result (λ done. ArePlayedLone core plans.now done.reports.items done.core) }
 {
     play_on_core::<Brand, Brand>(alloc, core, plans, Blank::new(1))
 }
@@ -83,25 +58,7 @@ fn play_on_core<L: Ledger, K: RunOf>(
     requires name { blank.name ≡ L.name }
     requires parts { (blank.parts ≡ L.parts) × (0 < L.parts) }
     requires run { IsOfRun K.layout K.generation core }
-    ensures played { IfOk result (λ done. ArePlayed core.layout.slots core.layout.nodes (weight_of core)
-        (len (map_of_index core)) (map_of_index core) (anchors_in (world core)) plans.now done.reports.items
-        (map_of_index done.core) (anchors_in (world done.core))) }
-    ensures report { IfOk result (λ done. All IsReportRound done.reports.items) }
-    ensures weighs { IfOk result (λ done. weight_of done.core ≤ weight_of core + added_in done.reports.items) }
-    ensures names { IfOk result (λ done. len (map_of_index done.core) ≤ len (map_of_index core) +
-        added_in done.reports.items) }
-    ensures run { IfOk result (λ done. IsOfRun K.layout K.generation done.core) }
-    ensures index { IfOk result (λ done. IsIndex done.core) }
-    ensures quiet { IfOk result (λ done. IsQuiet done.core) }
-    ensures stamps { IfOk result (λ done. HasLowStamps done.core) }
-    // An opened core has 100000 calls left of each node, of which these rounds take as many as they have.
-    ensures calls_left { IfOk result (λ done. (calls : ℕ) → calls + calls_in plans.now ≤ 100000 →
-        calls * core.layout.nodes ≤ calls_left_of done.core) }
-    ensures settled { IfOk result (λ done. RoundsEndWithTurn plans.now → HasNoLines done.core) }
-    ensures waits { IfOk result (λ done. HaveNoTurns plans.now → (changes lines puts : ℕ) →
-        Waits core changes (lines + writes_asked plans.now) (puts + puts_asked plans.now) →
-        Waits done.core (changes + changes_made core.layout.slots (map_of_index core) (anchors_in (world core))
-        done.reports.items) lines puts) }
+    ensures { IfOk result (λ done. ArePlayedLone core plans.now done.reports.items done.core) }
 {
     let mut core = core;
     core.reserve(calls_in(plans))?;
@@ -123,26 +80,18 @@ fn play_on_map<M: UpdatedMap>(
 ) -> Result<Vec<RoundReport>, NoMemory>
     requires lone { AreLoneRounds plans.now }
     requires joined { AreJoined plans.now }
-    requires callers { All (λ plan. All (λ a. a.caller < M.callers map.old) plan.ops) plans.now }
+    requires callers { All (λ plan. All (λ a. a.caller < (M.state map.old).callers) plan.ops) plans.now }
     requires told { All (λ plan. AreReportCalls plan.ops) plans.now }
-    requires calls { calls_in plans.now * M.most map.old ≤ M.calls_left map.old }
-    requires writes { calls_in plans.now ≤ M.writes_left map.old }
-    ensures played { IfOk result (λ reports. ArePlayed (M.slots map.old) (M.most map.old) (M.weighs map.old)
-        (len (M.contents map.old)) (M.contents map.old) (M.anchors map.old) plans.now reports.items (M.contents map.new)
-        (M.anchors map.new)) }
-    ensures report { IfOk result (λ reports. All IsReportRound reports.items) }
-    ensures weighs { IfOk result (λ reports. M.weighs map.new ≤ M.weighs map.old + added_in reports.items) }
-    ensures names { IfOk result
-        (λ reports. len (M.contents map.new) ≤ len (M.contents map.old) + added_in reports.items) }
+    requires calls { calls_in plans.now * (M.state map.old).most ≤ (M.state map.old).calls_left }
+    requires writes { calls_in plans.now ≤ (M.state map.old).writes_left }
+    ensures played { IfOk result
+        (λ reports. AreReportedFrom (M.state map.old) plans.now reports.items (M.state map.new)) }
     ensures calls_left { IfOk result (λ _. (calls : ℕ) →
-        (calls + calls_in plans.now) * M.most map.old ≤ M.calls_left map.old →
-        calls * M.most map.old ≤ M.calls_left map.new) }
+        (calls + calls_in plans.now) * (M.state map.old).most ≤ (M.state map.old).calls_left →
+        calls * (M.state map.old).most ≤ (M.state map.new).calls_left) }
     ensures settled { IfOk result (λ _. RoundsEndWithTurn plans.now → M.is_settled map.new) }
-    ensures waits { IfOk result (λ reports. HaveNoTurns plans.now → (changes writes puts : ℕ) →
-        M.waits map.old changes (writes + writes_asked plans.now) (puts + puts_asked plans.now) →
-        M.waits map.new
-        (changes + changes_made (M.slots map.old) (M.contents map.old) (M.anchors map.old) reports.items)
-        writes puts) }
+    ensures waits { IfOk result (λ reports. HaveNoTurns plans.now → WaitBehind (M.waits map.old) (M.waits map.new)
+        (changes_of_rounds (M.state map.old) reports.items) (writes_asked plans.now) (puts_asked plans.now)) }
 {
     map.has_shape();
     let mut rounds = Vec::with_capacity(alloc, plans.len())?;

@@ -1,20 +1,20 @@
 //! Running a round in which one caller alone has calls.
 
-ghost use Rattle.std.specs.Prelude.{◌≡◌, ℕ, ◌+◌, ◌*◌, ◌<◌, ◌≤◌, ◌^◌, ◌↔◌, if◌then◌else◌, is_some, length, All, IfOk};
+ghost use Rattle.std.specs.Prelude.{◌≡◌, ◌+◌, ◌*◌, ◌<◌, ◌≤◌, ◌^◌, ◌↔◌, if◌then◌else◌, is_some, length, All, IfOk};
 ghost use Rattle.std.specs.Prelude.{OnErr, IsTrue};
 ghost use Rattle.cat_history.specs.Records.{mark_place};
 ghost use Rattle.cat_history.specs.Rounds.{IsWriter};
 ghost use Rattle.cat_history.specs.Scans.{IsPart};
-ghost use Rattle.cat_history.specs.Writes.{after_all};
-ghost use Rattle.cat_history.specs.LoneRounds.{write_of, writes_of, IsAnswerNow, IsSpent};
+ghost use Rattle.cat_history.specs.LoneRounds.{write_of, IsAnswerNow, IsSpent};
 ghost use Rattle.cat_text.specs.ReportGrammar.{IsReportPart, IsReportReply, IsReportRound};
 ghost use Rattle.shapes.specs.Anchors.{next_of, past};
 ghost use Rattle.shapes.specs.Laws.{IsScanByShape};
-ghost use Rattle.shapes.specs.ShapeRounds.{anchors_after, anchors_end, EndsWithMembers, PutsFull};
-ghost use Rattle.shapes.specs.ShapeRounds.{one_added, puts_added};
-ghost use Rattle.core_rounds.specs.LoneCalls.{AreLoneCalls, AreReportCalls, IsLeftBy};
-ghost use Rattle.core_rounds.specs.Rounds.{EndsWithTurn, IsPlayedRound, IsTurnDue, StopsWithin};
-ghost use Rattle.core_rounds.specs.Waiting.{changes_in, one_change, one_put, one_write, puts_among, writes_among};
+ghost use Rattle.shapes.specs.ShapeRounds.{EndsWithMembers};
+ghost use Rattle.core_rounds.specs.LoneCalls.{AreLoneCalls, AreReportCalls};
+ghost use Rattle.core_rounds.specs.Rounds.{EndsWithTurn, IsTurnDue, StopsWithin};
+ghost use Rattle.core_rounds.specs.Updated.{HoldsSame, IsFullIn, IsLeftAfter, IsLeftAs, IsPlayedFrom, UsesUp};
+ghost use Rattle.core_rounds.specs.Updated.{WaitBehind, WaitOn, change_by, changes_by};
+ghost use Rattle.core_rounds.specs.Waiting.{one_put, one_write, puts_among, writes_among};
 
 use crate::updated_map::UpdatedMap;
 use cat_history::{CutMark, Items, NoMemory, Op, Parts, Record, Reply, RoundPlan, ScanPart};
@@ -35,35 +35,24 @@ pub fn run_lone_round<M: UpdatedMap>(
     plan: &RoundPlan,
 ) -> Result<RoundReport, NoMemory>
     requires caller { AreLoneCalls plan.now.ops }
-    requires callers { All (λ a. a.caller < M.callers map.old) plan.now.ops }
+    requires callers { All (λ a. a.caller < (M.state map.old).callers) plan.now.ops }
     requires told { AreReportCalls plan.now.ops }
     // A scan has no more parts than the map can have members.
-    requires calls { length plan.now.ops * M.most map.old ≤ M.calls_left map.old }
-    requires writes { length plan.now.ops ≤ M.writes_left map.old }
+    requires calls { length plan.now.ops * (M.state map.old).most ≤ (M.state map.old).calls_left }
+    requires writes { length plan.now.ops ≤ (M.state map.old).writes_left }
     // The round is legal and reported, by the writes that its records tell, and is one of a report.
-    ensures played { IfOk result (λ report. IsPlayedRound (M.slots map.old) (M.most map.old) (M.contents map.old)
-        (M.anchors map.old) plan.now report (writes_of report.records)) }
+    ensures played { IfOk result (IsPlayedFrom (M.state map.old) plan.now) }
     ensures report { IfOk result IsReportRound }
-    ensures after { IfOk result
-        (λ report. M.contents map.new ≡ after_all (M.contents map.old) (writes_of report.records)) }
-    ensures anchors { IfOk result (λ report. M.anchors map.new ≡ anchors_end (M.slots map.old) (M.contents map.old)
-        (M.anchors map.old) report.records) }
-    ensures slots { M.slots map.new ≡ M.slots map.old }
-    ensures most { M.most map.new ≡ M.most map.old }
-    ensures callers { M.callers map.new ≡ M.callers map.old }
-    ensures calls_left { M.calls_left map.old ≤ M.calls_left map.new + length plan.now.ops * M.most map.old }
-    ensures writes_left { M.writes_left map.old ≤ M.writes_left map.new + length plan.now.ops }
-    // The map is heavier by no more than the puts that added a name.
-    ensures weighs { IfOk result (λ report. M.weighs map.new ≤ M.weighs map.old + puts_added report.records) }
+    ensures after { IfOk result (λ report. IsLeftAfter (M.state map.old) report.records (M.state map.new)) }
+    ensures uses { UsesUp (M.state map.old) (M.state map.new) (length plan.now.ops * (M.state map.old).most)
+        (length plan.now.ops) }
     // Where it ends with a turn, that has done all that its calls left to the updater.
     ensures settled { IfOk result (λ _. EndsWithTurn plan.now → M.is_settled map.new) }
     // Without turns the changes of the shape that its calls make wait.
-    ensures waits { IfOk result (λ report. plan.now.updater ≡ 0 → (changes writes puts : ℕ) →
-        M.waits map.old changes (writes + writes_among plan.now.ops) (puts + puts_among plan.now.ops) →
-        M.waits map.new (changes + changes_in (M.slots map.old) (M.contents map.old) (M.anchors map.old)
-        report.records) writes puts) }
-    ensures err { OnErr result (StopsWithin (M.slots map.old) (M.most map.old) (M.contents map.old) (M.anchors map.old)
-        plan.now (M.contents map.new) (M.anchors map.new)) }
+    ensures waits { IfOk result (λ report. plan.now.updater ≡ 0 → WaitBehind (M.waits map.old) (M.waits map.new)
+        (changes_by (M.state map.old) report.records) (writes_among plan.now.ops) (puts_among plan.now.ops)) }
+    ensures err { OnErr result (StopsWithin (M.state map.old).slots (M.state map.old).most (M.state map.old).contents
+        (M.state map.old).anchors plan.now (M.state map.new).contents (M.state map.new).anchors) }
 {
     let asked = plan.ops.as_slice();
     let mut records = Vec::with_capacity(alloc, asked.len())?;
@@ -110,31 +99,21 @@ fn answer<M: UpdatedMap>(
     limit: u64,
     is_due: bool,
 ) -> Result<Reply, NoMemory>
-    requires caller { caller < M.callers map.old }
-    requires calls { M.most map.old ≤ M.calls_left map.old }
-    requires writes { 0 < M.writes_left map.old }
-    ensures answer { IfOk result (IsAnswerNow (M.contents map.old) place op.now) }
+    requires caller { caller < (M.state map.old).callers }
+    requires calls { (M.state map.old).most ≤ (M.state map.old).calls_left }
+    requires writes { 0 < (M.state map.old).writes_left }
+    ensures answer { IfOk result (IsAnswerNow (M.state map.old).contents place op.now) }
     ensures report { IfOk result (IsReportReply op.now) }
     ensures spent { IfOk result (λ reply. IsSpent reply ↔ (IsWriter op.now × (limit ≤ place))) }
-    ensures full { IfOk result (λ reply. (reply ≡ Reply.Full) ↔ (((IsWriter op.now × (limit ≤ place)) → ⊥) ×
-        PutsFull (M.slots map.old) (M.most map.old) (M.contents map.old) (M.anchors map.old) op.now)) }
-    ensures bounds { IfOk result (EndsWithMembers (M.anchors map.old)) }
-    ensures left { IfOk result (λ reply. IsLeftBy (M.contents map.old) op.now reply (M.contents map.new)) }
-    ensures anchors { IfOk result (λ reply. M.anchors map.new ≡ anchors_after (M.slots map.old) (M.contents map.old)
-        (M.anchors map.old) op.now reply) }
-    ensures slots { M.slots map.new ≡ M.slots map.old }
-    ensures most { M.most map.new ≡ M.most map.old }
-    ensures callers { M.callers map.new ≡ M.callers map.old }
-    ensures calls_left { M.calls_left map.old ≤ M.calls_left map.new + M.most map.old }
-    ensures writes_left { M.writes_left map.old ≤ M.writes_left map.new + 1 }
-    ensures weighs { IfOk result (λ reply. M.weighs map.new ≤ M.weighs map.old + one_added op.now reply) }
+    ensures full { IfOk result (λ reply. (reply ≡ Reply.Full) ↔
+        (((IsWriter op.now × (limit ≤ place)) → ⊥) × IsFullIn (M.state map.old) op.now)) }
+    ensures bounds { IfOk result (EndsWithMembers (M.state map.old).anchors) }
+    ensures left { IfOk result (λ reply. IsLeftAs (M.state map.old) op.now reply (M.state map.new)) }
+    ensures uses { UsesUp (M.state map.old) (M.state map.new) (M.state map.old).most 1 }
     ensures settled { IfOk result (λ _. IsTrue is_due → M.is_settled map.new) }
-    ensures waits { IfOk result (λ reply. ¬ IsTrue is_due → (changes writes puts : ℕ) →
-        M.waits map.old changes (writes + one_write op.now) (puts + one_put op.now) →
-        M.waits map.new (changes + one_change (M.slots map.old) (M.contents map.old) (M.anchors map.old) op.now reply)
-        writes puts) }
-    ensures err { OnErr result (M.contents map.new ≡ M.contents map.old) }
-    ensures err_anchors { OnErr result (M.anchors map.new ≡ M.anchors map.old) }
+    ensures waits { IfOk result (λ reply. ¬ IsTrue is_due → WaitBehind (M.waits map.old) (M.waits map.new)
+        (change_by (M.state map.old) op.now reply) (one_write op.now) (one_put op.now)) }
+    ensures err { OnErr result (HoldsSame (M.state map.old) (M.state map.new)) }
 {
     // So there is room for fewer calls.
     map.has_shape();
@@ -175,30 +154,19 @@ fn answer_in_time<M: UpdatedMap>(
     op: &Op,
     place: u64,
 ) -> Result<Reply, NoMemory>
-    requires caller { caller < M.callers map.old }
-    requires calls { M.most map.old ≤ M.calls_left map.old }
-    requires writes { 0 < M.writes_left map.old }
-    ensures answer { IfOk result (IsAnswerNow (M.contents map.old) place op.now) }
+    requires caller { caller < (M.state map.old).callers }
+    requires calls { (M.state map.old).most ≤ (M.state map.old).calls_left }
+    requires writes { 0 < (M.state map.old).writes_left }
+    ensures answer { IfOk result (IsAnswerNow (M.state map.old).contents place op.now) }
     ensures report { IfOk result (IsReportReply op.now) }
-    ensures full { IfOk result (λ reply. (reply ≡ Reply.Full) ↔ PutsFull (M.slots map.old) (M.most map.old)
-        (M.contents map.old) (M.anchors map.old) op.now) }
+    ensures full { IfOk result (λ reply. (reply ≡ Reply.Full) ↔ IsFullIn (M.state map.old) op.now) }
     ensures early { IfOk result (λ reply. IsSpent reply → ⊥) }
-    ensures bounds { IfOk result (EndsWithMembers (M.anchors map.old)) }
-    ensures left { IfOk result (λ reply. IsLeftBy (M.contents map.old) op.now reply (M.contents map.new)) }
-    ensures anchors { IfOk result (λ reply. M.anchors map.new ≡ anchors_after (M.slots map.old) (M.contents map.old)
-        (M.anchors map.old) op.now reply) }
-    ensures slots { M.slots map.new ≡ M.slots map.old }
-    ensures most { M.most map.new ≡ M.most map.old }
-    ensures callers { M.callers map.new ≡ M.callers map.old }
-    ensures calls_left { M.calls_left map.old ≤ M.calls_left map.new + M.most map.old }
-    ensures writes_left { M.writes_left map.old ≤ M.writes_left map.new + 1 }
-    ensures weighs { IfOk result (λ reply. M.weighs map.new ≤ M.weighs map.old + one_added op.now reply) }
-    ensures waits { IfOk result (λ reply. (changes writes puts : ℕ) →
-        M.waits map.old changes (writes + one_write op.now) (puts + one_put op.now) →
-        M.waits map.new (changes + one_change (M.slots map.old) (M.contents map.old) (M.anchors map.old) op.now reply)
-        writes puts) }
-    ensures err { OnErr result (M.contents map.new ≡ M.contents map.old) }
-    ensures err_anchors { OnErr result (M.anchors map.new ≡ M.anchors map.old) }
+    ensures bounds { IfOk result (EndsWithMembers (M.state map.old).anchors) }
+    ensures left { IfOk result (λ reply. IsLeftAs (M.state map.old) op.now reply (M.state map.new)) }
+    ensures uses { UsesUp (M.state map.old) (M.state map.new) (M.state map.old).most 1 }
+    ensures waits { IfOk result (λ reply. WaitBehind (M.waits map.old) (M.waits map.new)
+        (change_by (M.state map.old) op.now reply) (one_write op.now) (one_put op.now)) }
+    ensures err { OnErr result (HoldsSame (M.state map.old) (M.state map.new)) }
 {
     // So there are no more members than calls are left, and one member at least.
     map.has_shape();
@@ -231,22 +199,16 @@ fn scan<M: UpdatedMap>(
     count: u64,
     place: u64,
 ) -> Result<Parts, NoMemory>
-    requires caller { caller < M.callers map.old }
-    requires calls { length (past (M.anchors map.old) from.now) < M.calls_left map.old }
-    ensures answer { IfOk result (IsScanByShape (M.contents map.old) (M.anchors map.old) from.now count place) }
+    requires caller { caller < (M.state map.old).callers }
+    requires calls { length (past (M.state map.old).anchors from.now) < (M.state map.old).calls_left }
+    ensures answer { IfOk result
+        (IsScanByShape (M.state map.old).contents (M.state map.old).anchors from.now count place) }
     ensures report { IfOk result (All IsReportPart) }
     ensures few { IfOk result (λ parts. length parts < 2 ^ 64) }
-    ensures contents { M.contents map.new ≡ M.contents map.old }
-    ensures anchors { M.anchors map.new ≡ M.anchors map.old }
-    ensures slots { M.slots map.new ≡ M.slots map.old }
-    ensures most { M.most map.new ≡ M.most map.old }
-    ensures callers { M.callers map.new ≡ M.callers map.old }
-    ensures calls_left { M.calls_left map.old
-        ≤ M.calls_left map.new + (length (past (M.anchors map.old) from.now) + 1) }
-    ensures writes_left { M.writes_left map.old ≤ M.writes_left map.new }
-    ensures weighs { M.weighs map.new ≤ M.weighs map.old }
-    ensures waits { (changes writes puts : ℕ) → M.waits map.old changes writes puts →
-        M.waits map.new changes writes puts }
+    ensures same { HoldsSame (M.state map.old) (M.state map.new) }
+    ensures uses { UsesUp (M.state map.old) (M.state map.new)
+        (length (past (M.state map.old).anchors from.now) + 1) 0 }
+    ensures waits { WaitOn (M.waits map.old) (M.waits map.new) }
 {
     // Most scans have one part.
     let mut parts = Vec::with_capacity(alloc, 1)?;
@@ -271,22 +233,15 @@ fn read_part<M: UpdatedMap>(
     left: u64,
     place: u64,
 ) -> Result<ScanPart, NoMemory>
-    requires caller { caller < M.callers map.old }
-    requires calls { 0 < M.calls_left map.old }
-    ensures part { IfOk result (IsPart (λ _. M.contents map.old) low left place) }
+    requires caller { caller < (M.state map.old).callers }
+    requires calls { 0 < (M.state map.old).calls_left }
+    ensures part { IfOk result (IsPart (λ _. (M.state map.old).contents) low left place) }
     ensures place { IfOk result (λ part. part.place ≡ place) }
-    ensures high { IfOk result (λ part. part.high ≡ next_of (M.anchors map.old) low) }
+    ensures high { IfOk result (λ part. part.high ≡ next_of (M.state map.old).anchors low) }
     ensures report { IfOk result IsReportPart }
-    ensures contents { M.contents map.new ≡ M.contents map.old }
-    ensures anchors { M.anchors map.new ≡ M.anchors map.old }
-    ensures slots { M.slots map.new ≡ M.slots map.old }
-    ensures most { M.most map.new ≡ M.most map.old }
-    ensures callers { M.callers map.new ≡ M.callers map.old }
-    ensures calls_left { M.calls_left map.old ≤ M.calls_left map.new + 1 }
-    ensures writes_left { M.writes_left map.old ≤ M.writes_left map.new }
-    ensures weighs { M.weighs map.new ≤ M.weighs map.old }
-    ensures waits { (changes writes puts : ℕ) → M.waits map.old changes writes puts →
-        M.waits map.new changes writes puts }
+    ensures same { HoldsSame (M.state map.old) (M.state map.new) }
+    ensures uses { UsesUp (M.state map.old) (M.state map.new) 1 0 }
+    ensures waits { WaitOn (M.waits map.old) (M.waits map.new) }
 {
     let MapPart { high, pairs } = map.part(alloc, caller, &low, left)?;
     Ok(ScanPart {

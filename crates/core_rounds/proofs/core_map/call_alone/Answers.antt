@@ -4,9 +4,9 @@ use Rattle.index_law.specs.Anchors.{anchors_in}
 use Rattle.recovery.specs.index_core.specs.Indexes.{world}
 use Rattle.recovery.specs.index_core.specs.Lone.{FindsNoRoom, whole_of}
 use Rattle.core_rounds.specs.CoreMaps.{anchors_made}
-use Rattle.core_rounds.proofs.CoreMaps.{full_exactly, full_weighs, goes_through, stays_low, told_full, told_map}
-use Rattle.core_rounds.proofs.CoreMaps.{told_placed, told_weighs, writes_fall}
-use Rattle.core_rounds.proofs.Waiting.{waits_full, waits_placed}
+use Rattle.core_rounds.proofs.CoreMaps.{call_stays, calls_fall, full_exactly, full_same, goes_through, told_full}
+use Rattle.core_rounds.proofs.CoreMaps.{told_map, told_placed, told_weighs}
+use Rattle.core_rounds.proofs.Waiting.{no_change, waits_full, waits_placed}
 use Rattle.core_rounds.proofs.core_map.call_alone.Goals as goal
 
 -- there is a lock left, and the clock is below the limit
@@ -33,20 +33,20 @@ returns-in-Done-clause-ok g c = told_map c.args.core.now c.args.call c.name_alon
 pub returns-in-Done-clause-anchors : goal.returns-in-Done-clause-anchors
 returns-in-Done-clause-anchors g c = (placed_so g c).1
 
-pub returns-in-Again-clause-err_anchors : goal.returns-in-Again-clause-err_anchors
-returns-in-Again-clause-err_anchors g c = (told_full c.args.core.now c.args.call c.name_alone.new.self (whole_of c.name_alone.result) (ap whole_of c.in-Again.is) c.name_alone.ensures.runs).1
+-- it changes nothing but the place of the call, where it found no room
+pub returns-in-Again-clause-err : goal.returns-in-Again-clause-err
+returns-in-Again-clause-err g c = full_same c.args.core.now c.args.call c.name_alone.new.self (whole_of c.name_alone.result) (ap whole_of c.in-Again.is) c.name_alone.ensures.runs
 
-pub returns-in-Done-clause-writes_left : goal.returns-in-Done-clause-writes_left
-returns-in-Done-clause-writes_left g c = writes_fall c.args.core.now c.name_alone.new.self c.args.call (whole_of c.name_alone.result) _ c.name_alone.ensures.runs c.name_alone.ensures.spare
+-- and it is left with no call in flight
+pub returns-in-Done-clause-quiet : goal.returns-in-Done-clause-quiet
+returns-in-Done-clause-quiet g c =
+    let ran = c.name_alone.ensures in
+    call_stays c.args.core.now c.name_alone.new.self c.args.call (whole_of c.name_alone.result) c.args.caller ran.runs ran.index ran.quiet (calls_fall c.args.core.now c.name_alone.new.self c.args.call c.args.caller ran.locks) ran.spare
 
-pub returns-in-Again-clause-writes_left : goal.returns-in-Again-clause-writes_left
-returns-in-Again-clause-writes_left g c = writes_fall c.args.core.now c.name_alone.new.self c.args.call (whole_of c.name_alone.result) _ c.name_alone.ensures.runs c.name_alone.ensures.spare
-
-pub returns-in-Done-clause-stamps : goal.returns-in-Done-clause-stamps
-returns-in-Done-clause-stamps g c = stays_low _ _ _ _ _ c.name_alone.ensures.runs
-
-pub returns-in-Again-clause-stamps : goal.returns-in-Again-clause-stamps
-returns-in-Again-clause-stamps g c = stays_low _ _ _ _ _ c.name_alone.ensures.runs
+pub returns-in-Again-clause-quiet : goal.returns-in-Again-clause-quiet
+returns-in-Again-clause-quiet g c =
+    let ran = c.name_alone.ensures in
+    call_stays c.args.core.now c.name_alone.new.self c.args.call (whole_of c.name_alone.result) c.args.caller ran.runs ran.index ran.quiet (calls_fall c.args.core.now c.name_alone.new.self c.args.call c.args.caller ran.locks) ran.spare
 
 pub returns-in-Done-clause-waits : goal.returns-in-Done-clause-waits
 returns-in-Done-clause-waits g c =
@@ -54,11 +54,10 @@ returns-in-Done-clause-waits g c =
     c.name_alone.ensures.runs
 
 pub returns-in-Again-clause-err_waits : goal.returns-in-Again-clause-err_waits
-returns-in-Again-clause-err_waits g c =
-    waits_full c.args.caller c.args.core.now c.name_alone.new.self c.args.call (whole_of c.name_alone.result) c.requires.caller c.requires.index c.requires.quiet.calls c.requires.calls_left (ap whole_of c.in-Again.is) c.name_alone.ensures.runs
+returns-in-Again-clause-err_waits g c changes writes puts waits =
+    no_change c.name_alone.new.self
+    (waits_full c.args.caller c.args.core.now c.name_alone.new.self c.args.call (whole_of c.name_alone.result) c.requires.caller c.requires.index c.requires.quiet.calls c.requires.calls_left (ap whole_of c.in-Again.is) c.name_alone.ensures.runs
+    changes writes puts waits)
 
 pub returns-in-Done-clause-weighs : goal.returns-in-Done-clause-weighs
 returns-in-Done-clause-weighs g c = told_weighs c.args.core.now c.args.call c.name_alone.new.self (whole_of c.name_alone.result) c.in-Done.placed (ap whole_of c.in-Done.is) c.name_alone.ensures.runs
-
-pub returns-in-Again-clause-err_weighs : goal.returns-in-Again-clause-err_weighs
-returns-in-Again-clause-err_weighs g c = full_weighs c.args.core.now c.args.call c.name_alone.new.self (whole_of c.name_alone.result) (ap whole_of c.in-Again.is) c.name_alone.ensures.runs

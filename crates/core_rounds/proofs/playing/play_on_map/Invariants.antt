@@ -1,9 +1,10 @@
-use Rattle.std.proofs.Common.{◌≡◌, ℕ, ◌+◌, ◌*◌, ◌≤◌, take, drop, All}
+use Rattle.std.proofs.Common.{ℕ, ◌+◌, ◌*◌, ◌≤◌, take, drop, All}
 use Rattle.std.specs.FinMap.{len}
 use Rattle.cat_text.specs.ReportGrammar.{IsReportRound}
 use Rattle.core_rounds.specs.LoneCalls.{calls_in}
 use Rattle.core_rounds.specs.Rounds.{RoundsEndWithTurn, added_in}
-use Rattle.core_rounds.specs.Waiting.{HaveNoTurns, changes_made, puts_asked, writes_asked}
+use Rattle.core_rounds.specs.Updated.{KeepsBounds, WaitBehind, changes_of_rounds}
+use Rattle.core_rounds.specs.Waiting.{HaveNoTurns, puts_asked, writes_asked}
 use Rattle.core_rounds.proofs.Played.{SoFar}
 use Rattle.core_rounds.proofs.playing.play_on_map.Given as goal
 
@@ -11,22 +12,18 @@ use Rattle.core_rounds.proofs.playing.play_on_map.Given as goal
 -- rest, and for as many more calls as there were
 abbrev pub invariant-loop-plan : goal.invariant-loop-plan
 invariant-loop-plan g l =
-    let contents = g.M.UpdatedMap.contents in
-    let anchors = g.M.UpdatedMap.anchors in
-    let slots = g.M.UpdatedMap.slots in
-    let most = g.M.UpdatedMap.most in
-    let weighs = g.M.UpdatedMap.weighs in
+    let M = g.M.UpdatedMap in
+    let first = M.state l.fn.map in
+    let now = M.state l.map in
+    let rounds = l.rounds.items in
     record {
-      slots_stay : slots l.map ≡ slots l.fn.map;
-      most_stays : most l.map ≡ most l.fn.map;
-      callers_stay : g.M.UpdatedMap.callers l.map ≡ g.M.UpdatedMap.callers l.fn.map;
-      so_far : SoFar (slots l.fn.map) (most l.fn.map) (weighs l.fn.map) (len (contents l.fn.map)) (contents l.fn.map) (anchors l.fn.map) (take l.plan-index l.plans) l.rounds.items (contents l.map) (anchors l.map);
-      weighs_so : weighs l.map ≤ weighs l.fn.map + added_in l.rounds.items;
-      told : All IsReportRound l.rounds.items;
-      waits : HaveNoTurns l.plans → (changes writes puts : ℕ) →
-          g.M.UpdatedMap.waits l.fn.map changes (writes + writes_asked (take l.plan-index l.plans)) (puts + puts_asked (take l.plan-index l.plans)) →
-          g.M.UpdatedMap.waits l.map (changes + changes_made (slots l.fn.map) (contents l.fn.map) (anchors l.fn.map) l.rounds.items) writes puts;
-      settled : RoundsEndWithTurn (take l.plan-index l.plans) → g.M.UpdatedMap.is_settled l.map;
-      calls : (n : ℕ) → (n + calls_in l.plans) * most l.fn.map ≤ g.M.UpdatedMap.calls_left l.fn.map → (n + calls_in (drop l.plan-index l.plans)) * most l.fn.map ≤ g.M.UpdatedMap.calls_left l.map;
-      writes : calls_in (drop l.plan-index l.plans) ≤ g.M.UpdatedMap.writes_left l.map;
+      bounds : KeepsBounds first now;
+      so_far : SoFar first.slots first.most first.weighs (len first.contents) first.contents first.anchors (take l.plan-index l.plans) rounds now.contents now.anchors;
+      weighs_so : now.weighs ≤ first.weighs + added_in rounds;
+      told : All IsReportRound rounds;
+      waits : HaveNoTurns l.plans →
+          WaitBehind (M.waits l.fn.map) (M.waits l.map) (changes_of_rounds first rounds) (writes_asked (take l.plan-index l.plans)) (puts_asked (take l.plan-index l.plans));
+      settled : RoundsEndWithTurn (take l.plan-index l.plans) → M.is_settled l.map;
+      calls : (n : ℕ) → (n + calls_in l.plans) * first.most ≤ first.calls_left → (n + calls_in (drop l.plan-index l.plans)) * first.most ≤ now.calls_left;
+      writes : calls_in (drop l.plan-index l.plans) ≤ now.writes_left;
     }

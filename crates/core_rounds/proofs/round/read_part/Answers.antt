@@ -6,9 +6,9 @@ use Rattle.core_rounds.proofs.round.read_part.Goals as goal
 
 pub returns-clause-part : goal.returns-clause-part
 returns-clause-part g c =
-    let M = g.M.UpdatedMap in
+    let was = g.M.UpdatedMap.state c.args.map.now in
     let told = c.in_ok-high.ensures in
-    part-is (M.contents c.args.map.now) (M.anchors c.args.map.now) c.args.low c.args.left c.args.place _ _ told.high told.pairs
+    part-is was.contents was.anchors c.args.low c.args.left c.args.place _ _ told.high told.pairs
 
 pub returns-clause-report : goal.returns-clause-report
 returns-clause-report g c =
@@ -18,5 +18,5 @@ returns-clause-report g c =
       high = search rules;
       place = c.ranges.place.fits;
       pairs = told.named;
-      rise = subst Rise (sym told.pairs) (range_rises (g.M.UpdatedMap.contents c.args.map.now) c.args.low _ c.args.left);
+      rise = subst Rise (sym told.pairs) (range_rises (g.M.UpdatedMap.state c.args.map.now).contents c.args.low _ c.args.left);
     }

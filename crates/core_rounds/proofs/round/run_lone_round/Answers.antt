@@ -15,25 +15,26 @@ use Rattle.shapes.specs.ShapeRounds.{PutsFull, anchors_after}
 use Rattle.caller_rounds.proofs.Rooms.{added-append}
 use Rattle.core_rounds.proofs.LoneRoundSteps.{one_at_most, recorded, writes_of-push, calls-push, calls-whole, along-push, ends-push, full-push, stands-push, anchors-push, bounds-push, told-push, none-so-far}
 use Rattle.std.proofs.lemmas.List.{take_all}
-use Rattle.core_rounds.specs.Waiting.{changes_in, one_change, puts_among, writes_among}
+use Rattle.core_rounds.specs.Updated.{change_by, changes_by}
+use Rattle.core_rounds.specs.Waiting.{one_change, puts_among, writes_among}
 use Rattle.core_rounds.proofs.RoundWaits.{changes_in-push, waits-call}
+use Rattle.core_rounds.proofs.Using.{bounds-then}
 use Rattle.core_rounds.proofs.round.run_lone_round.Goals.{then-is_placed_write, else-is_placed_write}
 use Rattle.core_rounds.proofs.round.run_lone_round.Goals as goal
 
 pub returns-in_err-records-clause-err : goal.returns-in_err-records-clause-err
 returns-in_err-records-clause-err g c =
-    let M = g.M.UpdatedMap in
-    let none = none-so-far (M.slots c.args.map.now) (M.most c.args.map.now) (M.contents c.args.map.now) (M.anchors c.args.map.now) c.args.plan.now in
+    let first = g.M.UpdatedMap.state c.args.map.now in
+    let none = none-so-far first.slots first.most first.contents first.anchors c.args.plan.now in
     search (rules, none)
 
 pub answer-requires-clause-caller : goal.answer-requires-clause-caller
 answer-requires-clause-caller g c =
-    let M = g.M.UpdatedMap in
-    let asked = c.as_slice-asked.result.now in
+    let first = g.M.UpdatedMap.state c.args.map.now in
     let call = c.index-asked-index.result in
-    let each = subst (λ (ops : List CallerOp). All (λ a. a.caller < M.callers c.args.map.now) ops) (sym c.as_slice-asked.ensures) c.requires.callers in
-    subst (λ k. call.caller < k) (sym c.loop-index.invariant.callers_stay)
-    (subst (λ (a : CallerOp). a.caller < M.callers c.args.map.now) (sym c.index-asked-index.is) (each c.loop-index.index call c.loop-index-test.true))
+    let each = subst (λ (ops : List CallerOp). All (λ a. a.caller < first.callers) ops) (sym c.as_slice-asked.ensures) c.requires.callers in
+    subst (λ k. call.caller < k) (sym c.loop-index.invariant.uses.bounds.callers)
+    (subst (λ (a : CallerOp). a.caller < first.callers) (sym c.index-asked-index.is) (each c.loop-index.index call c.loop-index-test.true))
 
 pub loop-index-preserved : goal.loop-index-preserved
 loop-index-preserved g c =
@@ -46,13 +47,18 @@ loop-index-preserved g c =
     let reply = c.in_ok-answer.field-0 in
     let answer = c.in_ok-answer.ensures in
     let records = c.loop-index.records.items in
-    let base = M.contents c.args.map.now in
-    let now = M.contents c.loop-index.map in
-    let anchors = M.anchors c.args.map.now in
-    let slots = M.slots c.args.map.now in
+    let first = M.state c.args.map.now in
+    let before = M.state c.loop-index.map in
+    let behind = M.state c.answer.new.map in
+    let base = first.contents in
+    let now = before.contents in
+    let anchors = first.anchors in
+    let slots = first.slots in
     let opened = opening base anchors in
-    let most = M.most c.args.map.now in
-    let shape = M.anchors c.loop-index.map in
+    let most = first.most in
+    let shape = before.anchors in
+    let stay = was.uses.bounds in
+    let uses = c.answer.ensures.uses in
     let stood : Standing = record { map = now; anchors = shape; place = c.loop-index.writes } in
     let r : Record = recorded index call reply in
     let grown : c.push_reserved.new.self.items ≡ records ++ r ∷ [] = c.push_reserved.ensures.items in
@@ -60,16 +66,15 @@ loop-index-preserved g c =
     let told = subst AreReportCalls (sym same) c.requires.told in
     let limit = c.args.plan.now.limit in
     let late : Type 0 = IsWriter call.op × (limit ≤ c.loop-index.writes) in
-    let full = subst (λ (k : ℕ). (reply ≡ Full) ↔ ((late → ⊥) × PutsFull slots k now shape call.op)) was.most_stays
-    (subst (λ (k : ℕ). (reply ≡ Full) ↔ ((late → ⊥) × PutsFull k (M.most c.loop-index.map) now shape call.op)) was.slots_stay answer.full) in
-    let left = answer.anchors ∙ ap (λ (k : ℕ). anchors_after k now shape call.op reply) was.slots_stay in
+    let full = subst (λ (k : ℕ). (reply ≡ Full) ↔ ((late → ⊥) × PutsFull slots k now shape call.op)) stay.most
+    (subst (λ (k : ℕ). (reply ≡ Full) ↔ ((late → ⊥) × PutsFull k before.most now shape call.op)) stay.slots answer.full) in
+    let left = answer.left.anchors ∙ ap (λ (k : ℕ). anchors_after k now shape call.op reply) stay.slots in
     let counted : c.if-is_placed_write.writes ≡ c.loop-index.writes + length (write_of r) =
     elim c.if-is_placed_write.branch [
       | then-is_placed_write w ↦ omega (arith, w.writes-is, c.is_placed_write.ensures, ap {B = ℕ} (λ b. cond b 1 0) w.if-is_placed_write.true)
       | else-is_placed_write w ↦ omega (arith, w.writes-is, c.is_placed_write.ensures, ap {B = ℕ} (λ b. cond b 1 0) w.if-is_placed_write.false)
     ] in
-    let stands = stands-push slots opened stood records r (M.contents c.answer.new.map) (M.anchors c.answer.new.map) c.if-is_placed_write.writes was.stands
-    (answer.left call.caller index) left counted in
+    let stands = stands-push slots opened stood records r behind.contents behind.anchors c.if-is_placed_write.writes was.stands (answer.left.contents call.caller index) left counted in
     let calls : map call_of records ≡ numbered (take index asked) = was.played.in_script_order ∙ ap (λ (ops : List CallerOp). numbered (take index ops)) (sym same) in
     record {
       played = rw grown (record {
@@ -78,28 +83,28 @@ loop-index-preserved g c =
         spent = along-push (λ m place q. IsSpent q.reply ↔ (IsWriter q.op × (limit ≤ place))) base now c.loop-index.writes records r was.played.spent was.played.after was.writes answer.spent;
         full = full-push slots most limit opened stood records r was.played.full was.stands full;
         bounds = bounds-push slots base anchors shape records r was.played.bounds was.played.after_shape answer.bounds;
-        after = ends-push base now (M.contents c.answer.new.map) records r was.played.after (answer.left call.caller index);
-        after_shape = anchors-push slots base now anchors shape (M.anchors c.answer.new.map) records r was.played.after was.played.after_shape left;
+        after = ends-push base now behind.contents records r was.played.after (answer.left.contents call.caller index);
+        after_shape = anchors-push slots base now anchors shape behind.anchors records r was.played.after was.played.after_shape left;
       });
       told = rw grown (told-push asked index call reply records told c.loop-index-test.true c.index-asked-index.is answer.report was.told);
       stands = rw grown stands;
       writes = rw (grown, writes_of-push) (omega (arith, counted, was.writes, length-append (writes_of records) (write_of r)));
       few = omega (arith, counted, was.few, one_at_most c.is_placed_write.result (length (write_of r)) c.is_placed_write.ensures);
-      slots_stay = c.answer.ensures.slots ∙ was.slots_stay;
-      most_stays = c.answer.ensures.most ∙ was.most_stays;
-      callers_stay = c.answer.ensures.callers ∙ was.callers_stay;
-      calls = omega (arith, was.calls, was.most_stays, c.answer.ensures.calls_left);
-      writes_left = omega (arith, was.writes_left, c.answer.ensures.writes_left);
-      weighs_so = rw grown (let one = added-append records (r ∷ []) in omega (arith, was.weighs_so, answer.weighs, one));
+      uses = record {
+        bounds = bounds-then first before behind stay uses.bounds;
+        calls_left = omega (arith, was.uses.calls_left, stay.most, uses.calls_left);
+        writes_left = omega (arith, was.uses.writes_left, uses.writes_left);
+      };
+      weighs_so = rw grown (let one = added-append records (r ∷ []) in omega (arith, was.weighs_so, answer.left.weighs, one));
       made = c.push_reserved.ensures.len ∙ omega (arith, was.made);
       reserved = omega (arith, was.reserved, c.push_reserved.ensures.capacity);
       waits = λ none.
           waits-call (M.waits c.args.map.now) (M.waits c.loop-index.map) (M.waits c.answer.new.map) c.args.plan.now.ops index call
-          (changes_in slots base anchors records) (one_change (M.slots c.loop-index.map) now shape call.op reply) (changes_in slots base anchors c.push_reserved.new.self.items)
+          (changes_by first records) (change_by before call.op reply) (changes_by first c.push_reserved.new.self.items)
           (was.waits none) (answer.waits (λ due. let turns = (c.is_turn_due-is_due.ensures.0 due).0 in omega arith))
           (subst (λ (ops : List CallerOp). index < length ops) same c.loop-index-test.true) (c.index-asked-index.is ∙ ap (λ (ops : List CallerOp). get_or ops index call) same)
-          (ap (changes_in slots base anchors) grown ∙ changes_in-push slots base anchors records r
-          ∙ (λ k. changes_in slots base anchors records + one_change (sym was.slots_stay k) (sym was.played.after k) (sym was.played.after_shape k) call.op reply));
+          (ap (changes_by first) grown ∙ changes_in-push slots base anchors records r
+          ∙ (λ k. changes_by first records + one_change (sym stay.slots k) (sym was.played.after k) (sym was.played.after_shape k) call.op reply));
       settled = λ some due. answer.settled (c.is_turn_due-is_due.ensures.1 due);
     }
 
@@ -111,7 +116,7 @@ returns-clause-played g c =
     let calls = calls-whole ops ops c.loop-index.index c.loop-index.records.items refl (omega (arith, ap length c.as_slice-asked.ensures, c.loop-index-test.false)) was.in_script_order in
     record {
       legal = rw c.of.ensures
-          (lone_rounds_are_legal (g.M.UpdatedMap.contents c.args.map.now) c.requires.caller.0 ops c.args.plan.now.limit c.loop-index.records.items callers calls was.answers was.spent);
+          (lone_rounds_are_legal (g.M.UpdatedMap.state c.args.map.now).contents c.requires.caller.0 ops c.args.plan.now.limit c.loop-index.records.items callers calls was.answers was.spent);
       answers = rw c.of.ensures was.answers;
       spent = rw c.of.ensures was.spent;
       in_script_order = rw c.of.ensures calls;
@@ -134,8 +139,10 @@ returns-clause-report g c =
       names = search arith;
     }
 
-pub returns-clause-weighs : goal.returns-clause-weighs
-returns-clause-weighs g c = rw c.of.ensures c.loop-index.invariant.weighs_so
+pub returns-clause-after : goal.returns-clause-after
+returns-clause-after g c =
+    let was = c.loop-index.invariant in
+    rw c.of.ensures (record { contents = was.played.after; anchors = was.played.after_shape; weighs = was.weighs_so })
 
 pub returns-clause-settled : goal.returns-clause-settled
 returns-clause-settled g c ends =

@@ -21,7 +21,7 @@ pub play_lone-requires-clause-joined : goal.play_lone-requires-clause-joined
 play_lone-requires-clause-joined g c = ((joined_lone_have_no_restart c.args.plans.now).1 (sym c.restarts.ensures ∙ c.if-restarts-eq0.true)).1
 
 pub returns-then-restarts-eq0-clause-report : goal.returns-then-restarts-eq0-clause-report
-returns-then-restarts-eq0-clause-report g c = subst (All IsReportRound) (sym c.of.ensures) c.in_ok-reports.ensures.report
+returns-then-restarts-eq0-clause-report g c = subst (All IsReportRound) (sym c.of.ensures) c.in_ok-reports.ensures.told
 
 pub returns-then-restarts-eq0-clause-works : goal.returns-then-restarts-eq0-clause-works
 returns-then-restarts-eq0-clause-works g c =

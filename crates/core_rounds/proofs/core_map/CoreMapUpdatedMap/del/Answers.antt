@@ -1,11 +1,11 @@
-use Rattle.std.proofs.Common.{ℕ, ◌+◌, ◌≤◌, refl, sym, subst, arith}
+use Rattle.std.proofs.Common.{◌≤◌, refl, sym, subst, arith}
 use Rattle.shapes.specs.Anchors.{merges}
 use Rattle.index_law.specs.Anchors.{anchors_in}
 use Rattle.recovery.specs.index_core.specs.Indexes.{Index, map_of_index, world}
 use Rattle.core_rounds.specs.CoreMaps.{Waits}
+use Rattle.core_rounds.specs.Updated.{WaitBehind}
 use Rattle.core_rounds.specs.Waiting.{one_if}
-use Rattle.core_rounds.proofs.Waiting.{no_put_more}
-use Rattle.core_rounds.proofs.CoreMaps.{told_name, removal_counted, same_run}
+use Rattle.core_rounds.proofs.CoreMaps.{told_name, removal_counted, stays_run, uses_of}
 use Rattle.recovery.specs.index_core.specs.Weights.{weight_of}
 use Rattle.core_rounds.proofs.CoreMaps.{no_put_adds}
 use Rattle.cat_history.specs.declared.op.NameOp.TheVariants as op
@@ -16,29 +16,31 @@ overflow_sub-self g c = told_name c.self.inside.core c.args.name.now c.self.insi
 
 pub invariant_of-self : goal.invariant_of-self
 invariant_of-self g c = (
-  removal_counted c.self.inside.core c.call_alone.new.core c.args.name.now c.self.inside.names _ c.in-Ok.old _ c.self.invariant.0 c.call_alone.ensures.index
-      c.call_alone.ensures.quiet (c.call_alone.ensures.stamps c.self.invariant.0.stamps) c.in-Ok.ensures.old c.in-Ok.ensures.ok (sym c.if-is_some.ensures) refl,
-  same_run c.self.inside.core c.call_alone.new.core c.self.invariant.1 c.call_alone.ensures.layout c.call_alone.ensures.generation,
+  removal_counted c.self.inside.core c.call_alone.new.core c.args.name.now c.self.inside.names _ c.in-Ok.old _ c.self.invariant.0 c.call_alone.ensures.quiet
+      c.in-Ok.ensures.old c.in-Ok.ensures.ok (sym c.if-is_some.ensures) refl,
+  stays_run c.self.inside.core c.call_alone.new.core c.self.invariant.1 c.call_alone.ensures.quiet,
 )
 
 pub invariant_of-self-else-is_some : goal.invariant_of-self-else-is_some
 invariant_of-self-else-is_some g c = (
-  removal_counted c.self.inside.core c.call_alone.new.core c.args.name.now c.self.inside.names _ c.in-Ok.old _ c.self.invariant.0 c.call_alone.ensures.index
-      c.call_alone.ensures.quiet (c.call_alone.ensures.stamps c.self.invariant.0.stamps) c.in-Ok.ensures.old c.in-Ok.ensures.ok (sym c.if-is_some.ensures) refl,
-  same_run c.self.inside.core c.call_alone.new.core c.self.invariant.1 c.call_alone.ensures.layout c.call_alone.ensures.generation,
+  removal_counted c.self.inside.core c.call_alone.new.core c.args.name.now c.self.inside.names _ c.in-Ok.old _ c.self.invariant.0 c.call_alone.ensures.quiet
+      c.in-Ok.ensures.old c.in-Ok.ensures.ok (sym c.if-is_some.ensures) refl,
+  stays_run c.self.inside.core c.call_alone.new.core c.self.invariant.1 c.call_alone.ensures.quiet,
 )
+
+pub returns-then-is_some-clause-uses : goal.returns-then-is_some-clause-uses
+returns-then-is_some-clause-uses g c = uses_of c.self.inside.core _ c.call_alone.new.core c.self.view_is c.call_alone.ensures.quiet
 
 pub returns-then-is_some-clause-waits : goal.returns-then-is_some-clause-waits
 returns-then-is_some-clause-waits g c =
-    subst (λ (s : Index). (changes writes puts : ℕ) → Waits s changes (writes + 1) puts →
-    Waits c.call_alone.new.core (changes + one_if (merges s.layout.slots (map_of_index s) (anchors_in (world s)) c.args.name.now)) writes puts) c.self.view_is
-    (λ changes writes puts waits. c.in-Ok.ensures.waits changes writes puts (no_put_more c.self.inside.core waits))
+    subst (λ (s : Index). WaitBehind (Waits s) (Waits c.call_alone.new.core) (one_if (merges s.layout.slots (map_of_index s) (anchors_in (world s)) c.args.name.now)) 1 0) c.self.view_is c.in-Ok.ensures.waits
+
+pub returns-else-is_some-clause-uses : goal.returns-else-is_some-clause-uses
+returns-else-is_some-clause-uses g c = uses_of c.self.inside.core _ c.call_alone.new.core c.self.view_is c.call_alone.ensures.quiet
 
 pub returns-else-is_some-clause-waits : goal.returns-else-is_some-clause-waits
 returns-else-is_some-clause-waits g c =
-    subst (λ (s : Index). (changes writes puts : ℕ) → Waits s changes (writes + 1) puts →
-    Waits c.call_alone.new.core (changes + one_if (merges s.layout.slots (map_of_index s) (anchors_in (world s)) c.args.name.now)) writes puts) c.self.view_is
-    (λ changes writes puts waits. c.in-Ok.ensures.waits changes writes puts (no_put_more c.self.inside.core waits))
+    subst (λ (s : Index). WaitBehind (Waits s) (Waits c.call_alone.new.core) (one_if (merges s.layout.slots (map_of_index s) (anchors_in (world s)) c.args.name.now)) 1 0) c.self.view_is c.in-Ok.ensures.waits
 
 pub returns-then-is_some-clause-weighs : goal.returns-then-is_some-clause-weighs
 returns-then-is_some-clause-weighs g c =

@@ -1,18 +1,21 @@
-use Rattle.std.proofs.Common.{◌≤◌, refl, sym, subst, arith}
+use Rattle.std.proofs.Common.{refl, sym, subst, arith}
 use Rattle.recovery.specs.index_core.specs.Indexes.{Index}
 use Rattle.core_rounds.specs.CoreMaps.{Waits}
 use Rattle.core_rounds.proofs.Waiting.{no_more, none_changed}
-use Rattle.recovery.specs.index_core.specs.Weights.{weight_of}
-use Rattle.core_rounds.proofs.CoreMaps.{no_put_adds}
+use Rattle.core_rounds.proofs.CoreMaps.{no_put_adds, same_of, uses_of}
 use Rattle.cat_history.specs.declared.op.NameOp.TheVariants as op
 use Rattle.core_rounds.proofs.core_map.CoreMapUpdatedMap.get.Goals as goal
+
+pub returns-clause-same : goal.returns-clause-same
+returns-clause-same g c =
+    let none = no_put_adds c.in-Ok.old (op.Get c.args.name.now) refl in
+    same_of c.self.inside.core _ c.call_alone.new.core c.self.view_is
+    (record { contents = c.in-Ok.ensures.ok; anchors = c.in-Ok.ensures.anchors; weighs = omega (arith, none, c.in-Ok.ensures.weighs) })
+
+pub returns-clause-uses : goal.returns-clause-uses
+returns-clause-uses g c = uses_of c.self.inside.core _ c.call_alone.new.core c.self.view_is c.call_alone.ensures.quiet
 
 pub returns-clause-waits : goal.returns-clause-waits
 returns-clause-waits g c changes writes puts waits =
     let here = subst (λ (s : Index). Waits s changes writes puts) (sym c.self.view_is) waits in
     none_changed c.call_alone.new.core (c.in-Ok.ensures.waits changes writes puts (no_more c.self.inside.core here))
-
-pub returns-clause-weighs : goal.returns-clause-weighs
-returns-clause-weighs g c =
-    subst (λ (s : Index). weight_of c.call_alone.new.core ≤ weight_of s) c.self.view_is
-    (let none = no_put_adds c.in-Ok.old (op.Get c.args.name.now) refl in omega (arith, none, c.in-Ok.ensures.weighs))

@@ -1,30 +1,25 @@
-use Rattle.std.proofs.Common.{◌≤◌, ap, arith, sym, subst, ◌∙◌}
-use Rattle.std.specs.FinMap.{len}
-use Rattle.recovery.specs.index_core.specs.Indexes.{Index}
-use Rattle.recovery.specs.index_core.specs.Weights.{weight_of}
-use Rattle.core_rounds.specs.CoreMaps.{IsCoreMap}
-use Rattle.core_rounds.proofs.CoreMaps.{same_run, turned_map, turned_run}
+use Rattle.core_rounds.proofs.CoreMaps.{same_counted, same_of, stays_run, turned_same, turned_stays, uses_of}
+use Rattle.core_rounds.proofs.Using.{same-then}
 use Rattle.core_rounds.proofs.core_map.CoreMapUpdatedMap.turn.Goals as goal
 
 pub invariant_of-self : goal.invariant_of-self
 invariant_of-self g c =
     let turns = c.turn_alone.ensures.turns in
-    let was : IsCoreMap c.shorten.new.core c.self.inside.names =
-    record {
-      index = c.shorten.ensures.index;
-      quiet = c.shorten.ensures.quiet;
-      stamps = c.shorten.ensures.stamps c.self.invariant.0.stamps;
-      counted = c.self.invariant.0.counted ∙ ap len (sym c.shorten.ensures.map);
-    } in (
-      turned_map c.shorten.new.core c.turn_alone.new.self c.turn_alone.result turns c.self.inside.names was c.turn_alone.ensures.index c.turn_alone.ensures.quiet,
-      turned_run c.shorten.new.core c.turn_alone.new.self c.turn_alone.result turns
-          (same_run c.self.inside.core c.shorten.new.core c.self.invariant.1 c.shorten.ensures.layout c.shorten.ensures.generation),
+    let stays = turned_stays c.shorten.new.core c.turn_alone.new.self c.turn_alone.result turns c.shorten.ensures.quiet c.turn_alone.ensures.index c.turn_alone.ensures.quiet in (
+      same_counted c.self.inside.core c.turn_alone.new.self c.self.inside.names c.self.invariant.0 stays
+          (same-then _ _ _ c.shorten.ensures.same (turned_same c.shorten.new.core c.turn_alone.new.self c.turn_alone.result turns)),
+      stays_run c.self.inside.core c.turn_alone.new.self c.self.invariant.1 stays,
     )
 
 pub returns-clause-settled : goal.returns-clause-settled
 returns-clause-settled g c = c.turn_alone.ensures.turns.lone.empty
 
-pub returns-clause-weighs : goal.returns-clause-weighs
-returns-clause-weighs g c =
-    subst (λ (s : Index). weight_of c.turn_alone.new.self ≤ weight_of s) c.self.view_is
-    (let turned = c.turn_alone.ensures.turns.weighs in let kept = c.shorten.ensures.weighs in omega (arith, turned, kept))
+pub returns-clause-same : goal.returns-clause-same
+returns-clause-same g c =
+    same_of c.self.inside.core _ c.turn_alone.new.self c.self.view_is
+    (same-then _ _ _ c.shorten.ensures.same (turned_same c.shorten.new.core c.turn_alone.new.self c.turn_alone.result c.turn_alone.ensures.turns))
+
+pub returns-clause-uses : goal.returns-clause-uses
+returns-clause-uses g c =
+    uses_of c.self.inside.core _ c.turn_alone.new.self c.self.view_is
+    (turned_stays c.shorten.new.core c.turn_alone.new.self c.turn_alone.result c.turn_alone.ensures.turns c.shorten.ensures.quiet c.turn_alone.ensures.index c.turn_alone.ensures.quiet)
