@@ -1,5 +1,5 @@
 -- What a crash leaves of the table's last state.
-use Rattle.std.proofs.Common.{suc, zero, ◌≡◌, ◌≢◌, ℕ, ◌+◌, ◌<◌, ◌≤◌, List, [], ◌∷◌, ◌++◌, map, length, refl, sym, ap}
+use Rattle.std.proofs.Common.{suc, zero, ◌≡◌, ℕ, ◌+◌, ◌<◌, ◌≤◌, List, [], ◌∷◌, ◌++◌, map, length, refl, sym, ap}
 use Rattle.std.proofs.Common.{◌∙◌, subst, arith}
 use Rattle.std.specs.Prelude.{◌*◌, ◌/◌, true, Option, None, Some, slice_get}
 use mathlib.Core.Option.{some, some-injective}
@@ -23,7 +23,6 @@ use Rattle.index_core.proofs.CrashLaws.{chosen_keep, chosen_weighs, crash_leaves
 use Rattle.index_core.proofs.Lists.{map_there}
 use Rattle.atomic_table.specs.Table.{Final, Seen}
 use Rattle.pac_index.specs.declared.rule.About.{About}
-use Rattle.pac_index.specs.declared.rule.Member.{Member}
 use Rattle.pac_index.specs.declared.caller.Caller.{Caller}
 use Rattle.pac_index.specs.declared.shared.Shared.{Shared}
 use Rattle.pac_index.specs.Kept.{index_of, placed_by, Begins, Fits, added_in, added_in_all, opening_weight, Kept}

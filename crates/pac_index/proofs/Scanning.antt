@@ -8,7 +8,7 @@ use Rattle.pac_index.specs.declared.scans.Scanned.{Scanned}
 use Rattle.pac_index.specs.declared.scans.Scanned.TheVariants as scanned
 use Rattle.index_core.specs.PartyStates.{next_index}
 use Rattle.std.specs.List.{AllByRecursion}
-use Rattle.std.proofs.Common.{take, ◌+◌}
+use Rattle.std.proofs.Common.{take}
 use Rattle.cat_key.specs.Names.{IsName, AreNameWords}
 use Rattle.cat_key.specs.declared.Pair.{Pair}
 use Rattle.cat_history.specs.Maps.{Map, map_of}

@@ -1,5 +1,5 @@
 -- Budgets of steps, and how far a call is that was cut off.
-use Rattle.std.specs.Prelude.{◌≡◌, ◌⊎◌, ℕ, ◌+◌, ◌<◌, List, ◌++◌, length, Option, Some, None, IfSome}
+use Rattle.std.specs.Prelude.{◌≡◌, ◌⊎◌, ℕ, ◌+◌, ◌<◌, ◌++◌, length, Option, Some, None, IfSome}
 use Rattle.cat_history.specs.Records.{change_of}
 use Rattle.call_stages.specs.Stages.{placed_in}
 use Rattle.call_stages.specs.declared.once.Once.{Once}

@@ -1,5 +1,5 @@
 -- What the table keeps, and what one step tells.
-use Rattle.std.specs.Prelude.{◌*◌, ◌/◌, ◌≡◌, ℕ, ◌+◌, ◌<◌, ◌≤◌, ◌^◌, ◌==◌, Bool, true, false, if◌then◌else◌, List, []}
+use Rattle.std.specs.Prelude.{◌*◌, ◌/◌, ◌≡◌, ℕ, ◌+◌, ◌<◌, ◌≤◌, ◌^◌, ◌==◌, true, false, if◌then◌else◌, List, []}
 use Rattle.std.specs.Prelude.{◌∷◌, ◌++◌}
 use Rattle.std.specs.Prelude.{length, map, Some, None, IfSome}
 use mathlib.Core.Option.{some}
