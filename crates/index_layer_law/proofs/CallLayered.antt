@@ -157,7 +157,7 @@ module _ (z : Layered) (i : ℕ) (p : Party) (is : IsLayered z) (there : get_ele
       (at_set w.parties i j (moved_on p t) q at)
 
   -- merges that are to give their right nodes back
-  blind_empty : (e : HeldLine) → SureLine l words e → e.ready ≡ true → ((s : Spot) → Tells e.seen s → s 0 ≡ 0) → ⊥
+  blind_empty : (e : HeldLine) → SureLine l words e → e.ready ≡ true → ((s : Spot) → Tells e.seen s → s state_offset ≡ empty_state) → ⊥
   blind_empty e sure is_ready is_empty =
       let now = line_in l words e.caller e.number in
       let none : updated now state_offset ready_state state_offset ≡ empty_state = is_empty (updated now state_offset ready_state) ((sure.waits is_ready).blind now ready_state sure.seen) in

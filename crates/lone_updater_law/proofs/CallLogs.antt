@@ -116,7 +116,7 @@ restaged caller w0 w s t (Some e) leads = λ o. record {
 
 -- and with the line let go
 module _ (caller : ℕ) (w0 w : World) (s next : Stage) (layout : w.layout ≡ w0.layout) where
-  state_is : (e : HeldLine) → SureLine w.layout w.words e → (x : ℕ) → ((t : Spot) → Tells e.seen t → t 0 ≡ x) → line_state w (line_number e) ≡ x
+  state_is : (e : HeldLine) → SureLine w.layout w.words e → (x : ℕ) → ((t : Spot) → Tells e.seen t → t state_offset ≡ x) → line_state w (line_number e) ≡ x
   state_is e sure x tells = line_tie w.layout w.words e sure.here state_offset (omega arith) ∙ tells (line_in w.layout w.words e.caller e.number) sure.seen
 
   let_go : (line after : Option HeldLine) → KeepsOrLetsGo next line after → ((e : HeldLine) → line ≡ Some e → SureLine w.layout w.words e) → StandsSo caller w0 w s line → StandsSo caller w0 w s after
@@ -129,7 +129,7 @@ module _ (caller : ℕ) (w0 w : World) (s next : Stage) (layout : w.layout ≡ w
       of None left sure stands = stands
       of (Some e) left sure o = ⊎_elim
           (λ (known : IsKnownEmpty e).
-          let zero_state : line_state w (line_number e) ≡ empty_state = state_is e (sure e refl) 0 known in
+          let zero_state : line_state w (line_number e) ≡ empty_state = state_is e (sure e refl) empty_state known in
           let never : HasSwitched s → ⊥ = λ past. open_or_ready past zero_state in
           let same : (j : ℕ) → line_state w j ≡ line_state w0 j = λ j. ⊎_elim
           (λ (own : j ≡ line_number e). ap (line_state w) own ∙ zero_state ∙ sym o.was_empty ∙ ap (line_state w0) (sym own))
@@ -199,7 +199,7 @@ module _ (name : List ℕ) (own : Option Change) (w0 : World) (z : Layered) (i :
 
     has_open : (line : Option HeldLine) (node : Grip) → ((e : HeldLine) → line ≡ Some e → SureLine l words e) → HasLine line (λ e. IsOpenOf e node) → HasLine line (λ e. (e.ready ≡ false) × (line_state w (line_number e) ≡ open_state))
     has_open None node sure none = absurd none
-    has_open (Some e) node sure is_open = (is_open.unready, state_is p.caller w0 w p.stage t o.layout e (sure e refl) 1 is_open.open_state)
+    has_open (Some e) node sure is_open = (is_open.unready, state_is p.caller w0 w p.stage t o.layout e (sure e refl) open_state is_open.open_state)
 
     of_merge : (line : Option HeldLine) (P Q : HeldLine → Type 0) → HasLine line (λ e. P e × Q e) → HasLine line P
     of_merge None P Q none = absurd none
@@ -245,7 +245,7 @@ module _ (name : List ℕ) (own : Option Change) (w0 : World) (z : Layered) (i :
       (λ (past : (e.ready ≡ true) × HasSwitched s). past.1)
       (λ other. ⊎_elim
       (λ (not_yet : (e.ready ≡ false) × HasNotSwitched s). absurd (false_true ready not_yet.0))
-      (λ (opened : (e.ready ≡ false) × ((t : Spot) → Tells e.seen t → t 0 ≡ 1)). absurd (false_true ready opened.0))
+      (λ (opened : (e.ready ≡ false) × ((t : Spot) → Tells e.seen t → t state_offset ≡ open_state)). absurd (false_true ready opened.0))
       other)
 
   marked : (e : HeldLine) (sure : SureLine l words e) (offset y : ℕ) (small : offset < 8) (seen dirty : List (ℕ × ℕ)) (ready : Bool) → Marks e offset y seen ready
@@ -283,7 +283,7 @@ module _ (name : List ℕ) (own : Option Change) (w0 : World) (z : Layered) (i :
   taken_line c j x = record { caller = c; number = j; seen = (0, x) ∷ []; dirty = (0, 8) ∷ []; hand = None; ready = false }
 
   -- the line that it takes was EMPTY from the beginning
-  took : (c j x : ℕ) → c < l.callers → j < 8 → x ≡ 0 → x ≡ at l words (Cached (Line c j state_offset)) → c ≡ p.caller → (e : HeldLine) → e ≡ taken_line c j x
+  took : (c j x : ℕ) → c < l.callers → j < 8 → x ≡ empty_state → x ≡ at l words (Cached (Line c j state_offset)) → c ≡ p.caller → (e : HeldLine) → e ≡ taken_line c j x
       → IsInStep p.stage (Some e) → StandsSo p.caller w0 w p.stage None → (w' : World) → line_state w' ≡ line_state w → IsOwnLine p.caller w0 w' p.stage e
   took c j x caller low zero told mine e is in_step stands w' same = subst (IsOwnLine p.caller w0 w' p.stage) (sym is) (⊎_elim
       (λ (q : HasNotSwitched p.stage × KeepsLines w0 w).
@@ -303,7 +303,7 @@ module _ (name : List ℕ) (own : Option Change) (w0 : World) (z : Layered) (i :
           (λ (ready : (false ≡ true) × HasSwitched p.stage). both ready.0 refl)
           (λ unready. ⊎_elim
           (λ (not_yet : (false ≡ false) × HasNotSwitched p.stage). not_both p.stage not_yet.1 past)
-          (λ (opened : (false ≡ false) × ((t : Spot) → Tells ((0, x) ∷ []) t → t 0 ≡ 1)). let no : 0 ≡ 1 = opened.1 (λ _. 0) (sym zero, tt) in omega arith)
+          (λ (opened : (false ≡ false) × ((t : Spot) → Tells ((state_offset, x) ∷ []) t → t state_offset ≡ open_state)). let no : 0 ≡ 1 = opened.1 (λ _. 0) (sym zero, tt) in omega arith)
           unready)
 
   line_goes : (line after : Option HeldLine) (a : Action) (x : ℕ) → get_elem? z.whole.lines i ≡ some line → Notes l line a x after → x ≡ got l words a → IfSome after (λ e. e.caller ≡ p.caller) → IsInStep p.stage after

@@ -11,6 +11,7 @@ use Rattle.call_stages.specs.Footings.{Footing, FootStep}
 use Rattle.call_stages.specs.Prevs.{Debt}
 use Rattle.cat_history.specs.declared.op.Change.{Change}
 use Rattle.data_node.specs.Spots.{Spot}
+use Rattle.data_node.specs.Lines.{state_offset}
 use Rattle.pm_words.specs.Rows.{got}
 use Rattle.pm_words.specs.declared.action.Action.{Action}
 use mathlib.Core.Option.{some}
@@ -102,7 +103,8 @@ LeavesLines name caller w0 w answer = KeepsLines w0 w
 abbrev pub IsInStep : Stage → Option HeldLine → Type 0
 IsInStep s None = Unit {0}
 IsInStep s (Some e) = ((e.ready ≡ true) × HasSwitched s)
-    ⊎ (((e.ready ≡ false) × HasNotSwitched s) ⊎ ((e.ready ≡ false) × ((t : Spot) → Tells e.seen t → t 0 ≡ 1)))
+    ⊎ (((e.ready ≡ false) × HasNotSwitched s)
+    ⊎ ((e.ready ≡ false) × ((t : Spot) → Tells e.seen t → t state_offset ≡ open_state)))
 
 -- So it is of each call in flight.
 abbrev pub CallsAreInStep : Type 0
