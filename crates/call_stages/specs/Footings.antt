@@ -8,7 +8,6 @@ use Rattle.pm_words.specs.Codes.{empty_state, open_state, merge_kind}
 use Rattle.layer_map.specs.cat_key.specs.Names.{AreNameWords}
 use Rattle.data_node.specs.Spots.{Spot}
 use Rattle.data_node.specs.Lists.{anchor_in, anchor_words}
-use Rattle.data_node.specs.Lines.{state_offset, kind_offset, line_node_offset}
 use Rattle.call_stages.specs.declared.once.Once.{Once}
 use Rattle.call_stages.specs.declared.once.Placed.{Placed}
 use Rattle.call_stages.specs.Stages.{Held, Grip, Filling, Linked, Gathered, Joined, Gone, Stage, Holds, Splits, Joins}
@@ -18,6 +17,7 @@ use Rattle.call_stages.specs.Lines.{HeldLine, Notes}
 use Rattle.call_stages.specs.AnySteps.{IsOnPermutation, IsBeside}
 use Rattle.call_stages.specs.Prevs.{Debt, Deals, Prevs}
 use Rattle.pm_words.specs.Locations.{Word, Cached, address_of}
+use Rattle.pm_words.specs.Offsets.{state_offset, kind_offset, line_node_offset}
 use Rattle.layer_map.specs.Places.{IsLayerPlace}
 
 -- The stage of its call, its log line, and what it knows and owes of prevs.

@@ -9,15 +9,16 @@ use Rattle.pm_words.specs.declared.again.Again.TheVariants as again
 use Rattle.pm_words.specs.declared.layout.Layout.{Layout}
 use Rattle.pm_words.specs.Codes.{free_status, live_status, gone_status}
 use Rattle.pm_words.specs.Locations.{address_of, node_words, Cached, Node, Clock, Volatile}
-use Rattle.pm_words.specs.Offsets.{prev_offset, status_offset, version_offset}
+use Rattle.pm_words.specs.Offsets.{version_offset, bitmap_offset, next_offset, anchor_offset, status_offset}
+use Rattle.pm_words.specs.Offsets.{prev_offset}
 use Rattle.version_lock.specs.Versions.{generation_of, kept_count, locked_word, IsFree, IsWorn}
 use Rattle.layer_map.specs.cat_key.specs.Names.{IsName}
 use Rattle.data_node.specs.cat_history.specs.Maps.{Map, at}
 use Rattle.data_node.specs.cat_history.specs.Writes.{changed, name_of}
 use Rattle.data_node.specs.cat_history.specs.declared.op.Change.{Change}
 use Rattle.data_node.specs.Slots.{AreAllLive}
-use Rattle.data_node.specs.Spots.{Spot, IsTidy, Means, updated, bitmap_offset}
-use Rattle.data_node.specs.Lists.{next_offset, anchor_offset, key_of, anchor_in, IsBetween, StaysIn}
+use Rattle.data_node.specs.Spots.{Spot, IsTidy, Means, updated}
+use Rattle.data_node.specs.Lists.{key_of, anchor_in, IsBetween, StaysIn}
 use Rattle.data_node.specs.Weights.{names_in}
 use Rattle.call_stages.specs.declared.once.Once.{Once}
 use Rattle.call_stages.specs.declared.once.Once.TheVariants as once

@@ -6,9 +6,9 @@ use Rattle.pm_words.specs.declared.action.Action.{Action}
 use Rattle.pm_words.specs.declared.action.Action.TheVariants.{Load, Store, Drain}
 use Rattle.pm_words.specs.Locations.{address_of, Cached, Line}
 use Rattle.pm_words.specs.Codes.{empty_state, open_state, ready_state}
+use Rattle.pm_words.specs.Offsets.{state_offset}
 use Rattle.data_node.specs.Spots.{Spot, updated}
 use Rattle.data_node.specs.Lines as lines
-use Rattle.data_node.specs.Lines.{state_offset}
 use Rattle.call_stages.specs.Stages.{IsAmong, Tells}
 use Rattle.call_stages.specs.Kinds.{Soils, Cleans}
 

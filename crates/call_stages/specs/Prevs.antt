@@ -4,8 +4,8 @@ use Rattle.std.specs.Prelude.{◌≡◌, ◌≢◌, ℕ, ◌<◌, Bool, true, Op
 use Rattle.pm_words.specs.declared.layout.Layout.{Layout}
 use Rattle.pm_words.specs.declared.action.Action.{Action}
 use Rattle.pm_words.specs.declared.action.Action.TheVariants.{Store}
+use Rattle.pm_words.specs.Offsets.{next_offset}
 use Rattle.data_node.specs.Spots.{Spot}
-use Rattle.data_node.specs.Lists.{next_offset}
 use Rattle.call_stages.specs.Stages.{Held, Grip, Tells, Filling, Linked, Gathered, Joined, Gone, Stage, Splits, Joins}
 use Rattle.call_stages.specs.Stages.{HoldsNode}
 use Rattle.call_stages.specs.Kinds.{prev_address}

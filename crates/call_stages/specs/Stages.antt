@@ -3,12 +3,12 @@ use Rattle.std.specs.Prelude.{◌≡◌, ◌≢◌, ℕ, ◌+◌, ◌<◌, ◌�
 use Rattle.std.specs.Prelude.{IfSome}
 use Rattle.std.specs.List.{AllByRecursion}
 use Rattle.layer_map.specs.cat_key.specs.Names.{words_of}
+use Rattle.pm_words.specs.Offsets.{next_offset, anchor_offset}
 use Rattle.data_node.specs.cat_history.specs.Maps.{Map}
 use Rattle.data_node.specs.cat_history.specs.Writes.{changed}
 use Rattle.data_node.specs.cat_history.specs.declared.op.Change.{Change}
 use Rattle.data_node.specs.Slots.{IsLive}
 use Rattle.data_node.specs.Spots.{Spot, IsLiveIn, name_words}
-use Rattle.data_node.specs.Lists.{next_offset, anchor_offset}
 
 -- What the party that holds a node knows of its words: some of them by offset, and, once it has compared fingerprints,
 -- the slots (as bits) that may still hold its name.

@@ -5,9 +5,10 @@ use Rattle.pm_words.specs.Codes.{live_status}
 use Rattle.pm_words.specs.declared.action.Action.{Action}
 use Rattle.pm_words.specs.declared.action.Action.TheVariants.{Load}
 use Rattle.pm_words.specs.declared.layout.Layout.{Layout}
+use Rattle.pm_words.specs.Offsets.{next_offset, anchor_offset}
 use Rattle.version_lock.specs.Versions.{IsFree}
 use Rattle.data_node.specs.Spots.{Spot}
-use Rattle.data_node.specs.Lists.{next_offset, anchor_offset, IsBetween}
+use Rattle.data_node.specs.Lists.{IsBetween}
 use Rattle.call_stages.specs.Stages.{Sight, Sees, no_sight}
 use Rattle.call_stages.specs.Kinds.{HasWordAt, word_address, version_address, status_address}
 

@@ -19,6 +19,7 @@ use Rattle.pm_words.specs.Codes.{empty_state, ready_state, gone_status}
 use Rattle.pm_words.specs.declared.again.Again.{Again}
 use Rattle.pm_words.specs.declared.layout.Layout.{Layout}
 use Rattle.pm_words.specs.Locations.{Cached, Clock}
+use Rattle.pm_words.specs.Offsets.{state_offset}
 use Rattle.pm_words.proofs.Apart.{at-set_other}
 use Rattle.call_stages.specs.declared.once.Once.{Once}
 use Rattle.call_stages.specs.declared.once.Once.TheVariants as once
@@ -62,7 +63,6 @@ use Rattle.core_rounds.specs.Waiting.{one_if, one_put, one_write, puts_among, wr
 use Rattle.core_rounds.proofs.CoreMaps.{all_many, locks_remain, none_many}
 use Rattle.core_rounds.proofs.Waiting.{needs_none, waits_full, waits_placed}
 use Rattle.std.proofs.lemmas.Bool.{eq-eqb, ne_eqb}
-use Rattle.data_node.specs.Lines.{state_offset}
 use Rattle.core_rounds.specs.CrashWork.{most_events}
 use Rattle.core_crashes.specs.CrashMaps.{FindRoom, Gave, MakeNoTurns, Stoppable, anchors_left, calls_of, members_of}
 

@@ -35,7 +35,6 @@ use Rattle.pm_words.specs.declared.again.Again.{Again}
 use Rattle.recovery.specs.node_ops.specs.Asked.{name_asked}
 use Rattle.data_node.specs.Lists.{key_of}
 use Rattle.data_node.proofs.ListLemmas.{chain_closed, target_in}
-use Rattle.data_node.specs.Lines.{state_offset}
 use Rattle.shapes.specs.ShapeRounds.{IsShapeWithin}
 use Rattle.index_law.specs.Anchors.{anchors_of, anchors_in}
 use Rattle.index_law.specs.Worlds.{World, facts}
@@ -76,6 +75,7 @@ use Rattle.cat_history.proofs.ReplayLemmas.{map_of-pairs_of}
 use Rattle.pm_words.specs.Images.{Row}
 use Rattle.pm_words.specs.Locations.{Cached}
 use Rattle.pm_words.specs.Locations as positions
+use Rattle.pm_words.specs.Offsets.{state_offset}
 use Rattle.image_rules.specs.Sound.{IsMapOf, image_map}
 use Rattle.index_law.specs.Anchors.{image_anchors}
 use Rattle.core_rounds.specs.CoreMaps.{calls_left_of, writes_left_of, IsUnlimited, HasNoLines, IsCoreMap, IsOfRun}

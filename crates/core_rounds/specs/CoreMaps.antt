@@ -10,7 +10,7 @@ use Rattle.pm_words.specs.Images.{Row}
 use Rattle.pm_words.specs.Locations.{Line, word_at}
 use Rattle.pm_words.specs.Rows.{cached_row}
 use Rattle.pm_words.specs.declared.layout.Layout.{Layout}
-use Rattle.data_node.specs.Lines.{state_offset}
+use Rattle.pm_words.specs.Offsets.{state_offset}
 use Rattle.shapes.specs.Anchors.{Anchors, put_anchors, del_anchors, merges, splits}
 use Rattle.shapes.specs.ShapeRounds.{IsShapeWithin}
 use Rattle.image_rules.specs.Rules.{header_generation}

@@ -12,7 +12,8 @@ use Rattle.pm_words.specs.Images.{Row}
 use Rattle.pm_words.specs.Locations.{row_words}
 use Rattle.pm_words.specs.Rows.{CanAct, acted, got}
 use Rattle.pm_words.specs.declared.machine.Turn.{Turn}
-use Rattle.data_node.specs.Lists.{anchor_offset, number_of}
+use Rattle.pm_words.specs.Offsets.{anchor_offset}
+use Rattle.data_node.specs.Lists.{number_of}
 use Rattle.call_stages.specs.Kinds.{word_address}
 use Rattle.machine_runs.specs.Runs.{begins}
 use Rattle.machine_runs.proofs.Running.{turn_bursts, third_can, thrice_bursts, burst_goes, burst_behind, run_may}

@@ -7,7 +7,8 @@ use Rattle.std.proofs.lemmas.Bool.{cases_eq, eq-eqb, ne_eqb, lt-ltb, le-ltb, leb
 use Rattle.std.proofs.lemmas.Map.Steps.{length-le_from_distinct_below}
 use Rattle.pm_words.specs.Codes.{free_status, live_status, gone_status}
 use Rattle.pm_words.specs.declared.layout.Layout.{Layout}
-use Rattle.data_node.specs.Lists.{ListNode, next_offset, anchor_in, target_from, IsBetween, IsMember, IsIn, IsChain, Rise}
+use Rattle.pm_words.specs.Offsets.{next_offset}
+use Rattle.data_node.specs.Lists.{ListNode, anchor_in, target_from, IsBetween, IsMember, IsIn, IsChain, Rise}
 use Rattle.data_node.specs.Spots.{Spot}
 use Rattle.data_node.proofs.ListLemmas.{target_in, target_between, all_member, rise_at}
 use Rattle.call_stages.specs.Orders.{IsOneOf, Ordered}

@@ -6,7 +6,8 @@ use Rattle.pm_words.specs.declared.layout.Layout.{Layout}
 use Rattle.pm_words.specs.declared.machine.Turn.{Turn}
 use Rattle.pm_words.specs.declared.machine.Turn.TheVariants.{Go, Done}
 use Rattle.pm_words.specs.declared.again.Again.TheVariants.{Locked, Hops}
-use Rattle.data_node.specs.Lists.{next_offset, anchor_in, target_from, IsIn, Rise, anchor_offset, number_of}
+use Rattle.pm_words.specs.Offsets.{next_offset, anchor_offset}
+use Rattle.data_node.specs.Lists.{anchor_in, target_from, IsIn, Rise, number_of}
 use Rattle.data_node.proofs.ListLemmas.{between_target, chain_closed}
 use Rattle.data_list.specs.declared.target.Next.{Next}
 use Rattle.data_list.specs.declared.target.Target.{Target}

@@ -8,9 +8,10 @@ use Rattle.pm_words.specs.declared.action.Action.TheVariants.{Load}
 use Rattle.pm_words.specs.declared.again.Again.TheVariants.{Locked, Hops}
 use Rattle.pm_words.specs.declared.machine.Turn.{Turn}
 use Rattle.pm_words.specs.declared.machine.Turn.TheVariants.{Go, Done}
+use Rattle.pm_words.specs.Offsets.{next_offset, anchor_offset}
 use Rattle.version_lock.specs.Versions.{generation_of, kept_count, locked_word, is_free_word, is_worn_word}
 use Rattle.data_node.specs.Spots.{Spot}
-use Rattle.data_node.specs.Lists.{next_offset, three_words, anchor_in, IsBetween, anchor_offset, number_of}
+use Rattle.data_node.specs.Lists.{three_words, anchor_in, IsBetween, number_of}
 use Rattle.call_stages.specs.declared.once.Once.TheVariants as once
 use Rattle.call_stages.specs.declared.once.Once.{Once}
 use Rattle.call_stages.specs.declared.once.Placed.{Placed}

@@ -7,7 +7,7 @@ use Rattle.pm_words.specs.declared.machine.Turn.{Turn}
 use Rattle.pm_words.specs.declared.machine.Turn.TheVariants.{Go, Done}
 use Rattle.pm_words.specs.Images.{Row}
 use Rattle.pm_words.specs.Rows.{acted, got}
-use Rattle.data_node.specs.Lists.{anchor_offset}
+use Rattle.pm_words.specs.Offsets.{anchor_offset}
 use Rattle.call_stages.specs.Kinds.{word_address}
 use Rattle.machine_runs.specs.Runs.{Bursts, MayGo}
 use Rattle.data_list.specs.declared.target.Target.{Target}

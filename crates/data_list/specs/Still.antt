@@ -5,9 +5,10 @@ use Rattle.pm_words.specs.Codes.{free_status, live_status, gone_status}
 use Rattle.pm_words.specs.declared.layout.Layout.{Layout}
 use Rattle.pm_words.specs.declared.machine.Turn.{Turn}
 use Rattle.pm_words.specs.declared.machine.Turn.TheVariants.{Go, Done}
+use Rattle.pm_words.specs.Offsets.{next_offset, anchor_offset}
 use Rattle.version_lock.specs.Versions.{IsFree}
 use Rattle.data_node.specs.Spots.{Spot}
-use Rattle.data_node.specs.Lists.{ListNode, next_offset, anchor_offset, number_of, anchor_in, target_from, IsIn}
+use Rattle.data_node.specs.Lists.{ListNode, number_of, anchor_in, target_from, IsIn}
 use Rattle.data_node.specs.Lists.{IsChain, Rise}
 use Rattle.call_stages.specs.Orders.{AreInOrder}
 use Rattle.data_list.specs.declared.target.Target.{Target}

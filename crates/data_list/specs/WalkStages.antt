@@ -1,7 +1,7 @@
 -- What a walk relies on: if it takes no lock, and as a call, which is to lock its target.
 use Rattle.std.specs.Prelude.{ℕ, ◌+◌, true, if◌then◌else◌, List, [], ◌∷◌, Option, Some, None, slice_index}
 use Rattle.version_lock.specs.Versions.{kept_count, locked_word, is_worn_word}
-use Rattle.data_node.specs.Lists.{next_offset, anchor_offset}
+use Rattle.pm_words.specs.Offsets.{next_offset, anchor_offset}
 use Rattle.call_stages.specs.Stages.{Sight, no_sight, Stage, Idle, Saw, Wears, Reads}
 use Rattle.call_stages.specs.Watches.{Watching, Nothing, Watches}
 use Rattle.data_list.specs.declared.target.Next.{Next}

@@ -9,8 +9,9 @@ use Rattle.pm_words.specs.declared.again.Again.TheVariants.{Locked, Hops}
 use Rattle.pm_words.specs.declared.machine.Turn.{Turn}
 use Rattle.pm_words.specs.declared.machine.Turn.TheVariants.{Go, Done}
 use Rattle.pm_words.specs.Layouts.{IsLayout}
+use Rattle.pm_words.specs.Offsets.{next_offset, anchor_offset}
 use Rattle.version_lock.specs.Versions.{generation_of, IsFree, is_free_word}
-use Rattle.data_node.specs.Lists.{next_offset, anchor_offset, number_of}
+use Rattle.data_node.specs.Lists.{number_of}
 use Rattle.call_stages.specs.Kinds.{word_address, version_address, status_address, prev_address}
 use Rattle.call_stages.specs.Kinds.{Told}
 use Rattle.data_list.specs.declared.target.Next.{Next}

@@ -125,7 +125,6 @@ impl Machine for Walk {
 
 impl Walk {
     ghost use Rattle.std.specs.Prelude.{◌≡◌, ℕ, ◌+◌, ◌*◌, ◌^◌, ◌<◌, ◌≤◌, List};
-    ghost use Rattle.data_node.specs.Lists.{anchor_offset};
     ghost use Rattle.pm_words.specs.Layouts.{IsLayout};
     ghost use Rattle.pm_words.specs.Locations.{node_words};
     ghost use Rattle.pm_words.specs.Turns.{GoesBelow};
@@ -139,6 +138,7 @@ impl Walk {
     ghost use Rattle.data_list.specs.Walks.{landing, hops_to, saw_version, saw_status, saw_anchor, saw_next, saw_high};
     ghost use Rattle.data_list.specs.Arrivals.{MayWalk, WalkBursts, ComesTo, Leads, HopsOn, anchor_loaded, anchor_at};
     ghost use Rattle.pm_words.specs.Locations.{row_words};
+    ghost use Rattle.pm_words.specs.Offsets.{anchor_offset};
 
     /// A walk to the node of a key, in this generation, that begins at the node `hint`.
     pub fn new(layout: Layout, generation: u64, hint: u64, key: [u64; WORDS]) -> Walk

@@ -8,8 +8,9 @@ use Rattle.std.proofs.lemmas.Cmp.{nat_list_cmp_total}
 use Rattle.cat_key.specs.Names.{IsName, name_cmp, words_of, bytes_of}
 use Rattle.cat_key.proofs.Packing.{bytes_of-words_of}
 use Rattle.shapes.specs.cat_history.specs.Maps.{Map, at}
+use Rattle.pm_words.specs.Offsets.{bitmap_offset}
 use Rattle.data_node.specs.Slots.{AreAllLive}
-use Rattle.data_node.specs.Spots.{Spot, bitmap_offset, name_words, Finds, Means}
+use Rattle.data_node.specs.Spots.{Spot, name_words, Finds, Means}
 use Rattle.data_node.specs.Lists.{StaysIn}
 use Rattle.data_node.proofs.SpotLemmas.{same_name}
 

@@ -4,8 +4,9 @@ use Rattle.std.proofs.lemmas.List.Elements.{All-weaker}
 use Rattle.cat_key.specs.Names.{IsName, IsNameByte, AreNameWords, words_of}
 use Rattle.cat_key.proofs.Digits.{IsByte}
 use Rattle.cat_key.proofs.Packing.{get_or-words_of_below, byte_of_name}
+use Rattle.pm_words.specs.Offsets.{anchor_offset}
 use Rattle.data_node.specs.Spots.{Spot}
-use Rattle.data_node.specs.Lists.{three_words, number_of, key_of, anchor_in, anchor_words, anchor_offset}
+use Rattle.data_node.specs.Lists.{three_words, number_of, key_of, anchor_in, anchor_words}
 
 -- the words of a text are three, each of 64 bits
 pub three : (text : List ℕ) → words_of text ≡ slice_index (words_of text) 0 ∷ slice_index (words_of text) 1 ∷ slice_index (words_of text) 2 ∷ []

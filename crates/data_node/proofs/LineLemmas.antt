@@ -1,8 +1,9 @@
 -- Lines of the log that have the same words.
 use Rattle.std.proofs.Common.{◌≡◌, ◌≢◌, ℕ, ◌+◌, ◌<◌, ◌≤◌, inl, inr, ⊎_elim, [], ◌∷◌, ◌∙◌, arith}
+use Rattle.pm_words.specs.Offsets.{anchor_offset, state_offset, kind_offset, line_node_offset, left_offset}
+use Rattle.pm_words.specs.Offsets.{spare_offset}
 use Rattle.data_node.specs.Spots.{Spot}
-use Rattle.data_node.specs.Lists.{anchor_offset}
-use Rattle.data_node.specs.Lines.{state_offset, kind_offset, line_node_offset, left_offset, spare_offset, IsEntry, IsFitLine}
+use Rattle.data_node.specs.Lines.{IsEntry, IsFitLine}
 
 -- one that says the same but for its state is of the same change
 pub entry_alike : (nodes : ℕ) (s t : Spot) → t state_offset ≤ 2 → ((offset : ℕ) → offset ≢ state_offset → offset < 8 → t offset ≡ s offset) → IsEntry nodes s → IsEntry nodes t

@@ -5,8 +5,10 @@ use Rattle.std.specs.List.{AllByRecursion, IsDistinct, list_any}
 use Rattle.std.proofs.lemmas.Map.Steps.{length-le_from_distinct_below}
 use Rattle.std.proofs.Math.Dec.{eqb}
 use Rattle.std.proofs.lemmas.Bool.{cases_eq, eq-eqb, ne_eqb, leb-true, leb-false, le-leb, lt-leb}
+use Rattle.pm_words.specs.Offsets.{next_offset}
 use Rattle.data_node.specs.Spots.{Spot}
-use Rattle.data_node.specs.Lists.{ListNode, next_offset, anchor_in, IsBetween, members_from, target_from, IsMember, IsChain, Rise, with_member}
+use Rattle.data_node.specs.Lists.{ListNode, anchor_in, IsBetween, members_from, target_from, IsMember, IsChain, Rise}
+use Rattle.data_node.specs.Lists.{with_member}
 
 -- the target is this node or one behind it
 pub target_in : (here : ℕ) (list : List ListNode) (key : ℕ) → (target_from here list key ≡ here) ⊎ IsMember list (target_from here list key)

@@ -10,7 +10,8 @@ use Rattle.shapes.specs.cat_history.specs.Writes.{changed, name_of}
 use Rattle.shapes.specs.cat_history.specs.declared.op.Change.{Change}
 use Rattle.shapes.specs.cat_history.specs.declared.op.Change.TheVariants.{Put, Del}
 use Rattle.shapes.specs.cat_history.proofs.ChangeLemmas.{at-changed_other, changed_found}
-use Rattle.data_node.specs.Spots.{Spot, bitmap_offset, IsLiveIn, name_words, value_in, Finds, IsTidy, Means}
+use Rattle.pm_words.specs.Offsets.{bitmap_offset}
+use Rattle.data_node.specs.Spots.{Spot, IsLiveIn, name_words, value_in, Finds, IsTidy, Means}
 use Rattle.data_node.specs.Lists.{StaysIn}
 use Rattle.data_node.specs.Weights.{has_name_in, names_in}
 use Rattle.data_node.proofs.SpotLemmas.{same_name, at_found, remove_absent}

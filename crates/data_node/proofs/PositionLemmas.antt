@@ -4,8 +4,9 @@ use Rattle.std.specs.Prelude.{◌==◌}
 use Rattle.std.specs.List.{AllByRecursion, IsDistinct}
 use Rattle.std.proofs.Math.Dec.{eqb}
 use Rattle.std.proofs.lemmas.Bool.{eq-eqb, ne_eqb, eqb-true, eqb-false, le-leb, lt-leb}
+use Rattle.pm_words.specs.Offsets.{next_offset}
 use Rattle.data_node.specs.Spots.{Spot}
-use Rattle.data_node.specs.Lists.{ListNode, next_offset, anchor_in, members_from, target_from, IsMember, IsChain, Rise, IsAtPosition}
+use Rattle.data_node.specs.Lists.{ListNode, anchor_in, members_from, target_from, IsMember, IsChain, Rise, IsAtPosition}
 use Rattle.data_node.proofs.ListLemmas.{above, rise_at, chain_is, nodes_of, none_is, distinct_few}
 
 -- one node stands at a position

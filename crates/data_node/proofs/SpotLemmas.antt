@@ -14,8 +14,9 @@ use Rattle.std.proofs.lemmas.Nat.Bits.{bit_at_above, bit_at-zero}
 use Rattle.cat_key.specs.Names.{IsName, AreNameWords, name_cmp, words_of, bytes_of, fingerprint_of}
 use Rattle.cat_key.proofs.Packing.{bytes_of-words_of, words_tell_names}
 use Rattle.shapes.specs.cat_history.specs.Maps.{Map, at}
+use Rattle.pm_words.specs.Offsets.{bitmap_offset, slot_offset}
 use Rattle.data_node.specs.Slots.{IsLive}
-use Rattle.data_node.specs.Spots.{Spot, updated, bitmap_offset, slot_offset, IsLiveIn, name_words, value_in}
+use Rattle.data_node.specs.Spots.{Spot, updated, IsLiveIn, name_words, value_in}
 use Rattle.data_node.specs.Spots.{print_in_spot, Finds, IsTidy, Means}
 
 -- two lists of words are one or not

@@ -8,9 +8,10 @@ use Rattle.std.proofs.lemmas.List.{get_or-set_same, get_or-set_other}
 use Rattle.cat_key.specs.Names.{IsName, words_of, bytes_of, fingerprint_of}
 use Rattle.cat_key.proofs.Packing.{bytes_of-words_of}
 use Rattle.shapes.specs.cat_history.specs.Maps.{Map}
+use Rattle.pm_words.specs.Offsets.{bitmap_offset, print_offset, slot_offset}
 use Rattle.data_node.specs.Slots.{IsLive, IsClear, prints_of}
 use Rattle.data_node.specs.Bits.{with_live, without_live, printed, candidate_bits}
-use Rattle.data_node.specs.Spots.{Spot, updated, bitmap_offset, print_offset, slot_offset, IsLiveIn, name_words}
+use Rattle.data_node.specs.Spots.{Spot, updated, IsLiveIn, name_words}
 use Rattle.data_node.specs.Spots.{value_in, print_in_spot, IsTidy, Means}
 use Rattle.data_node.proofs.BitLemmas.{with_live-same, with_live-other, with_live_below, without_live-same}
 use Rattle.data_node.proofs.BitLemmas.{without_live-other, without_live_below, prints_of-printed}

@@ -2,25 +2,9 @@
 use Rattle.std.specs.Prelude.{◌≡◌, ℕ, ◌<◌, ◌≤◌, ◌⊎◌, List}
 use Rattle.cat_key.specs.Names.{IsName, words_of}
 use Rattle.pm_words.specs.Codes.{empty_state, ready_state, split_kind, merge_kind}
+use Rattle.pm_words.specs.Offsets.{state_offset, kind_offset, line_node_offset, left_offset, spare_offset}
 use Rattle.data_node.specs.Spots.{Spot}
 use Rattle.data_node.specs.Lists.{anchor_words}
-
--- The offsets of its words: of its state, of the kind of its change, of the new or the merged node, of the left one,
--- and of the word that has no use. The words of the anchor stand where a node has its own.
-abbrev pub state_offset : ℕ
-state_offset = 0
-
-abbrev pub kind_offset : ℕ
-kind_offset = 1
-
-abbrev pub line_node_offset : ℕ
-line_node_offset = 2
-
-abbrev pub left_offset : ℕ
-left_offset = 6
-
-abbrev pub spare_offset : ℕ
-spare_offset = 7
 
 -- A line that isn't EMPTY: a split or a merge of two nodes, with the anchor of the new or the merged one.
 pub record IsEntry (nodes : ℕ) (s : Spot) : Type 0 where

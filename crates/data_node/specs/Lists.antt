@@ -3,15 +3,8 @@ use Rattle.std.specs.Prelude.{◌≡◌, ◌≢◌, ℕ, zero, suc, ◌+◌, ◌
 use Rattle.std.specs.Prelude.{if◌then◌else◌, List, [], ◌∷◌, slice_index}
 use Rattle.std.specs.List.{AllByRecursion}
 use Rattle.cat_key.specs.Names.{IsName, words_of}
+use Rattle.pm_words.specs.Offsets.{next_offset, anchor_offset}
 use Rattle.data_node.specs.Spots.{Spot, Finds}
-
--- The offset of the word that tells the next node; 0 there is none.
-abbrev pub next_offset : ℕ
-next_offset = 2
-
--- The offset of the first of the anchor's three words.
-abbrev pub anchor_offset : ℕ
-anchor_offset = 3
 
 -- Three words as one number, the first the highest; so their order is that of the numbers.
 abbrev pub three_words : ℕ → ℕ → ℕ → ℕ

@@ -1,7 +1,8 @@
 -- A node in a row of words: what its words say, each by its offset from the node's start.
-use Rattle.std.specs.Prelude.{◌≡◌, ◌≢◌, ℕ, ◌+◌, ◌*◌, ◌/◌, ◌%◌, ◌<◌, ◌^◌, ◌==◌, Bool, true, if◌then◌else◌, List, [], ◌∷◌}
-use Rattle.std.specs.Prelude.{slice_index, Option, Some, None}
+use Rattle.std.specs.Prelude.{◌≡◌, ◌≢◌, ℕ, ◌%◌, ◌<◌, ◌^◌, ◌==◌, Bool, true, if◌then◌else◌, List, [], ◌∷◌, slice_index}
+use Rattle.std.specs.Prelude.{Option, Some, None}
 use Rattle.cat_key.specs.Names.{IsName, AreNameWords, words_of, bytes_of, fingerprint_of}
+use Rattle.pm_words.specs.Offsets.{bitmap_offset, print_offset, slot_offset}
 use Rattle.shapes.specs.cat_history.specs.Maps.{Map, at}
 use Rattle.data_node.specs.Slots.{IsLive, prints_of}
 
@@ -12,17 +13,6 @@ Spot = ℕ → ℕ
 -- The words after a store into the word at this offset.
 unfoldable pub updated : Spot → ℕ → ℕ → Spot
 updated s offset word other = if other == offset then word else s other
-
--- The offsets of the bitmap, of the word with a slot's fingerprint, and of word k of a slot: its name's words are 0, 1
--- and 2, and its value is 3.
-abbrev pub bitmap_offset : ℕ
-bitmap_offset = 1
-
-abbrev pub print_offset : ℕ → ℕ
-print_offset slot = 8 + slot / 8
-
-abbrev pub slot_offset : ℕ → ℕ → ℕ
-slot_offset slot k = 16 + 4 * slot + k
 
 -- The slot is live.
 abbrev pub IsLiveIn : Spot → ℕ → Type 0

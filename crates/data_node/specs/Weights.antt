@@ -2,7 +2,8 @@
 use Rattle.std.specs.Prelude.{ℕ, zero, suc, ◌+◌, ◌-◌, ◌/◌, ◌==◌, ◌&&◌, Bool, if◌then◌else◌, List, [], ◌∷◌}
 use Rattle.std.specs.Int.{bit_at}
 use Rattle.cat_key.specs.Names.{bytes_of}
-use Rattle.data_node.specs.Spots.{Spot, bitmap_offset, name_words}
+use Rattle.pm_words.specs.Offsets.{bitmap_offset}
+use Rattle.data_node.specs.Spots.{Spot, name_words}
 use Rattle.data_node.specs.Lists.{ListNode, range_in}
 
 -- The slot is live, and its name is in the range.

@@ -1,6 +1,7 @@
 -- What a walk down the tree knows at a cell from which nothing is wrong, and of a child of it.
 use Rattle.std.proofs.Common.{◌≡◌, ◌≢◌, ℕ, ◌+◌, ◌<◌, ◌≤◌, List, subst, arith}
 use Rattle.pm_words.specs.declared.layout.Layout.{Layout}
+use Rattle.pm_words.specs.Codes.{leaf_kind}
 use Rattle.radix_nodes.specs.Cells.{words_of, children_of}
 use Rattle.radix_nodes.specs.declared.cell.Cell as cells
 use Rattle.tree_law.specs.Trees.{Cell, depth_of}
@@ -24,7 +25,7 @@ pub record GoesOn (l : Layout) (image : List ℕ) (least depth child : ℕ) : Ty
   pub deep : depth + 1 ≤ depth_of (image_tree l image) (reference_of child)
   pub fine : child ≢ 0 → ¬ IsWrongFrom l image (reference_of child)
 
-module _ (l : Layout) (image : List ℕ) (x : ℕ) (some_cell : x ≢ 0) (kind : kind_of x ≢ 1) (right : x ≢ 0 → ¬ IsWrongFrom l image (reference_of x)) where
+module _ (l : Layout) (image : List ℕ) (x : ℕ) (some_cell : x ≢ 0) (kind : kind_of x ≢ leaf_kind) (right : x ≢ 0 → ¬ IsWrongFrom l image (reference_of x)) where
   pub cell_right : ¬ IsWrong l image (Cell x)
   cell_right wrong = right some_cell (wrong_here l image (Cell x) (reference_of x) (to_cell x some_cell kind) wrong)
 

@@ -3,14 +3,14 @@ use Rattle.std.proofs.Common.{◌≡◌, ◌≢◌, ℕ, ◌+◌, ◌*◌, ◌^�
 use Rattle.std.proofs.lemmas.Bool.{cases_eq, cases_lt}
 use Rattle.pm_words.specs.declared.layout.Layout.{Layout}
 use Rattle.pm_words.specs.Codes.{empty_state}
-use Rattle.data_node.specs.Lists.{anchor_offset, anchor_words}
+use Rattle.pm_words.specs.Offsets.{anchor_offset, state_offset}
+use Rattle.data_node.specs.Lists.{anchor_words}
 use Rattle.data_node.specs.Spots.{Spot}
 use Rattle.data_node.proofs.KeyLemmas.{key-number, anchor-number, named_anchor, zero_anchor}
 use Rattle.image_rules.specs.Rules.{line_spot}
 use Rattle.image_rules.proofs.TidyLemmas.{sound_keeps}
 use Rattle.image_layer_rules.proofs.LineLemmas.{line_word-here, line_word-outside}
 use Rattle.data_node.proofs.ListLemmas.{member_or}
-use Rattle.data_node.specs.Lines.{state_offset}
 use Rattle.image_rules.specs.Nodes.{image_list, IsListedNode}
 use Rattle.image_rules.specs.Sound.{IsSound}
 use Rattle.layer_map.specs.Keys.{key_number}

@@ -3,6 +3,7 @@
 use Rattle.std.proofs.Common.{◌≡◌, ℕ, ◌≤◌, List, Some, refl, arith}
 use Rattle.pm_words.specs.declared.layout.Layout.{Layout}
 use Rattle.pm_words.specs.Locations.{Word, Root, word_number}
+use Rattle.pm_words.specs.Offsets.{reference_offset}
 use Rattle.image_rules.specs.declared.broken.Broken.{Broken}
 use Rattle.image_rules.specs.Lowest.{IsLowest}
 use Rattle.image_rules.specs.Sound.{Breaks, in_header, in_versions, leads_out, leads_back, in_anchors, in_names, in_prints, in_apart, in_lines, IsSound, IsFirstBroken}
@@ -72,7 +73,7 @@ tree_first l image rule sound lowest = record {
     record {
       none_before = λ before w below breaks. absurd (omega (arith, below));
       lowest = (
-        record { word = Root 0; numbered = refl; holds = in_layer lowest.0 },
+        record { word = Root reference_offset; numbered = refl; holds = in_layer lowest.0 },
         λ lower below there. let eight = root_number l image sound rule 0 there.word there.holds in let same = there.numbered in omega (arith, below),
       );
     },

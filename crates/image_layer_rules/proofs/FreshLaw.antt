@@ -5,9 +5,10 @@ use Rattle.pm_words.specs.declared.layout.Layout.{Layout}
 use Rattle.pm_words.specs.Images.{fresh_words}
 use Rattle.pm_words.specs.Layouts.{IsLayout}
 use Rattle.pm_words.specs.Locations.{Node}
+use Rattle.pm_words.specs.Offsets.{next_offset}
 use Rattle.pm_words.proofs.Made.{fresh_at, fresh_image}
 use Rattle.data_node.specs.Spots.{Spot}
-use Rattle.data_node.specs.Lists.{ListNode, next_offset, IsMember, IsChain}
+use Rattle.data_node.specs.Lists.{ListNode, IsMember, IsChain}
 use Rattle.image_rules.specs.Nodes.{image_spot, image_list, IsListedNode}
 use Rattle.image_rules.proofs.FreshLemmas.{fresh_is_sound}
 use Rattle.image_rules.proofs.TidyLemmas.{sound_keeps}

@@ -3,6 +3,7 @@ use Rattle.std.proofs.Common.{ℕ, List}
 use Rattle.pm_words.specs.declared.layout.Layout.{Layout}
 use Rattle.pm_words.specs.Images.{IsImage}
 use Rattle.pm_words.specs.Locations.{Word, Root}
+use Rattle.pm_words.specs.Offsets.{reference_offset}
 use Rattle.image_rules.specs.Sound.{IsSound}
 use Rattle.image_layer_rules.specs.Rules.{BreaksTree, is_wrong, is_reached_twice, reaches_its_root, has_many, is_uncovered}
 use Rattle.image_layer_rules.specs.Sound.{BreaksAny, IsSoundByAll, in_image, in_layer}
@@ -25,7 +26,7 @@ keeps_any l image sound kept rule position w (in_layer breaks) = kept rule break
 
 pub sound_keeps_layer : (l : Layout) (image : List ℕ) → IsImage l image → IsSoundByAll l image → IsSound l image × KeepsLayerRules l image
 sound_keeps_layer l image is all =
-    let kept : (rule : ℕ) → ¬ BreaksTree l image rule = λ rule breaks. all rule 0 (Root 0) (in_layer breaks) in
+    let kept : (rule : ℕ) → ¬ BreaksTree l image rule = λ rule breaks. all rule 0 (Root reference_offset) (in_layer breaks) in
     let sound : IsSound l image = λ rule position w breaks. all rule position w (in_image breaks) in
     let order = (rule_on_tree l image is).0 (kept 10) in (
       sound,

@@ -4,12 +4,12 @@ use Rattle.std.proofs.lemmas.Bool.{lt-ltb, le-ltb}
 use Rattle.pm_words.specs.declared.layout.Layout.{Layout}
 use Rattle.pm_words.specs.Locations.{Line, word_at}
 use Rattle.pm_words.specs.Rows.{durable_row}
+use Rattle.pm_words.specs.Offsets.{anchor_offset}
 use Rattle.pm_words.proofs.Made.{durable_row-at, row_of-at}
 use Rattle.layer_map.specs.Keys.{key_of}
 use Rattle.image_rules.specs.Rules.{line_spot}
 use Rattle.tree_row.proofs.RowLaw.{crash_reads, image_reads}
 use Rattle.image_layer_rules.specs.Anchors.{image_lines, line_word}
-use Rattle.data_node.specs.Lists.{anchor_offset}
 use Rattle.image_layer_rules.specs.Laws.{CrashKeepsLayer, StartCachesLayer, CrashKeepsLines, StartCachesLines}
 
 pub line_word-here : (l : Layout) (image : List ℕ) (line offset : ℕ) → line < 8 * l.callers → offset < 8 → line_word l image line offset ≡ word_at l image (Line (line / 8) (line % 8) offset)

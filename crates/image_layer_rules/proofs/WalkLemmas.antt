@@ -2,6 +2,7 @@
 use Rattle.std.proofs.Common.{◌≡◌, ◌≢◌, ℕ, ◌<◌, List, inl, inr, sym, subst, ap, ◌∙◌}
 use Rattle.std.proofs.lemmas.Bool.{cases_lt}
 use Rattle.pm_words.specs.declared.layout.Layout.{Layout}
+use Rattle.pm_words.specs.Codes.{leaf_kind}
 use Rattle.radix_nodes.specs.Keys.{key_bytes}
 use Rattle.tree_law.specs.Trees.{Reference, Nothing, Leaf, Cell, Tree, Reaches, here, below, depth_of}
 use Rattle.tree_law.specs.Words.{kind_of, number_of, reference_of}
@@ -14,7 +15,7 @@ use Rattle.image_layer_rules.proofs.WrongLemmas.{form_if, byte_within}
 pub to_nothing : (x : ℕ) → x ≡ 0 → reference_of x ≡ Nothing
 to_nothing x none = ap reference_of none
 
-pub to_leaf : (x : ℕ) → x ≢ 0 → kind_of x ≡ 1 → reference_of x ≡ Leaf (number_of x)
+pub to_leaf : (x : ℕ) → x ≢ 0 → kind_of x ≡ leaf_kind → reference_of x ≡ Leaf (number_of x)
 to_leaf x some kind = go (reference x)
   where
     go : IsReference x → reference_of x ≡ Leaf (number_of x)
@@ -22,7 +23,7 @@ to_leaf x some kind = go (reference x)
     go (is_leaf some_here one is) = is
     go (is_cell some_here other is) = absurd (other kind)
 
-pub to_cell : (x : ℕ) → x ≢ 0 → kind_of x ≢ 1 → reference_of x ≡ Cell x
+pub to_cell : (x : ℕ) → x ≢ 0 → kind_of x ≢ leaf_kind → reference_of x ≡ Cell x
 to_cell x some kind = go (reference x)
   where
     go : IsReference x → reference_of x ≡ Cell x

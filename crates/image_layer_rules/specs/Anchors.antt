@@ -2,9 +2,9 @@
 use Rattle.std.specs.Prelude.{◌≡◌, ℕ, ◌+◌, ◌*◌, ◌/◌, ◌%◌, ◌&&◌, ◌⊎◌, nat_lt, if◌then◌else◌, List, [], ◌∷◌}
 use Rattle.pm_words.specs.declared.layout.Layout.{Layout}
 use Rattle.pm_words.specs.Locations.{Line, word_at}
+use Rattle.pm_words.specs.Offsets.{anchor_offset, state_offset, kind_offset, line_node_offset}
 use Rattle.cat_key.specs.Names.{IsName, AreNameWords}
-use Rattle.data_node.specs.Lists.{key_of, anchor_in, anchor_offset}
-use Rattle.data_node.specs.Lines.{kind_offset, line_node_offset, state_offset}
+use Rattle.data_node.specs.Lists.{key_of, anchor_in}
 use Rattle.image_rules.specs.Nodes.{image_spot}
 use Rattle.layer_map.specs.Keys as keys
 use Rattle.updater_law.specs.Covers.{Lines}

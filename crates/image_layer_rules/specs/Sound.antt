@@ -2,6 +2,7 @@
 use Rattle.std.specs.Prelude.{ℕ, ◌<◌, List, Some}
 use Rattle.pm_words.specs.declared.layout.Layout.{Layout}
 use Rattle.pm_words.specs.Locations.{Word, Root}
+use Rattle.pm_words.specs.Offsets.{reference_offset}
 use Rattle.image_rules.specs.declared.broken.Broken.{Broken}
 use Rattle.image_rules.specs.Lowest.{IsFirst}
 use Rattle.image_rules.specs.Sound.{Breaks}
@@ -11,7 +12,7 @@ use Rattle.image_layer_rules.specs.Rules.{BreaksTree}
 -- header, list, nodes and log, or one on the tree of its layer.
 pub data BreaksAny (l : Layout) (image : List ℕ) : ℕ → ℕ → Word → Type 0 where
   in_image : {rule position : ℕ} {w : Word} → Breaks l image rule position w → BreaksAny l image rule position w
-  in_layer : {rule : ℕ} → BreaksTree l image rule → BreaksAny l image rule 0 (Root 0)
+  in_layer : {rule : ℕ} → BreaksTree l image rule → BreaksAny l image rule 0 (Root reference_offset)
 
 -- It breaks none.
 abbrev pub IsSoundByAll : Layout → List ℕ → Type 0

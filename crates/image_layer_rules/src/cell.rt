@@ -13,6 +13,7 @@ use crate::form::is_form;
 use crate::heads::{has_prefix, is_under};
 use crate::words::cell_word;
 use pm_words::Image;
+use pm_words::offsets::cell::DEPTH;
 use radix_nodes::{Cell, KEY_BYTES};
 
 /// Whether a branch byte has no child, or one that is deeper and whose key or prefix goes on from the cell's.
@@ -66,7 +67,7 @@ pub(crate) fn is_wrong_cell(image: &Image, reference: u64, cell: &Cell) -> bool
     requires read { IsRead image.now.layout image.now.words reference cell.now }
     ensures { IsTrue result ↔ IsWrongCell image.now.layout image.now.words reference }
 {
-    if KEY_BYTES <= cell_word(image, reference, 0) {
+    if KEY_BYTES <= cell_word(image, reference, DEPTH) {
         return true;
     }
     if !has_form(image, reference, cell) {

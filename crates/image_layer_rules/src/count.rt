@@ -11,6 +11,7 @@ use crate::children::{BYTES, child_of};
 use crate::words::{cell_word, read_cell};
 use pm_words::Image;
 use pm_words::codes::reference::{KIND, LEAF};
+use pm_words::offsets::cell::DEPTH;
 
 /// How many more leaves there is room for behind those below a reference, of which it is known how deep at least it
 /// has to be; `None` where those are more than there is room for.
@@ -30,7 +31,7 @@ pub(crate) fn room_behind(image: &Image, reference: u64, least: u64, room: u64) 
         return Some(room - 1);
     }
     let cell = read_cell(image, reference);
-    let next = cell_word(image, reference, 0) + 1;
+    let next = cell_word(image, reference, DEPTH) + 1;
     let mut left = room;
     for byte in 0..BYTES {
         let child = child_of(&cell, byte);

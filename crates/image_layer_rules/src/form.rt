@@ -5,10 +5,9 @@ ghost use Rattle.radix_nodes.specs.Cells.{words_of, children_of, entry_byte, Has
 ghost use Rattle.radix_nodes.specs.Cells.{HasTwo, index_of};
 ghost use Rattle.image_layer_rules.specs.Forms.{HasTwinEntry, IsEntryIn, HasTwinPlace, IsPlaceIn};
 
-use radix_nodes::{Cell, byte_in, child};
-
-/// In an entry the branch byte stands above the reference.
-const ENTRY: u64 = 1 << 32;
+use pm_words::codes::reference::{FORM_4, FORM_16, FORM_48};
+use pm_words::offsets::cell::{FIRST, FIRST_OF_4};
+use radix_nodes::{Cell, ENTRY, byte_in, child};
 
 /// Whether the words 4 to 7 are 0.
 fn has_spare(cell: &Cell) -> bool
@@ -113,9 +112,9 @@ pub(crate) fn is_form(cell: &Cell) -> bool
     ensures { IsTrue result ↔ IsForm cell.now.kind (words_of cell.now) }
 {
     match cell.kind {
-        2 => are_entries(cell, 4, 4),
-        3 => has_spare(cell) && are_entries(cell, 8, 16),
-        4 => has_spare(cell) && is_indexed(cell),
+        FORM_4 => are_entries(cell, FIRST_OF_4, 4),
+        FORM_16 => has_spare(cell) && are_entries(cell, FIRST, 16),
+        FORM_48 => has_spare(cell) && is_indexed(cell),
         _ => has_spare(cell),
     }
 }

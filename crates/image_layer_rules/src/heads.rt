@@ -11,6 +11,7 @@ ghost use Rattle.image_layer_rules.specs.Heads.{GoesOn, HasPrefix};
 use crate::words::{cell_word, leaf_key, prefix_of};
 use pm_words::Image;
 use pm_words::codes::reference::{KIND, LEAF};
+use pm_words::offsets::cell::DEPTH;
 use radix_nodes::{KEY_BYTES, Key, key_byte, shared_bytes};
 
 /// The key of a leaf, or the prefix of a cell.
@@ -33,7 +34,7 @@ fn depth_of(image: &Image, reference: u64) -> u64
     if reference / KIND == LEAF {
         return KEY_BYTES;
     }
-    cell_word(image, reference, 0)
+    cell_word(image, reference, DEPTH)
 }
 
 /// Whether a key has zeros from this byte on.
@@ -64,7 +65,7 @@ pub(crate) fn is_under(image: &Image, reference: u64, byte: u64, child: u64) -> 
     ensures { IsTrue result ↔
         IsUnder (image_tree image.now.layout image.now.words) reference byte (reference_of child) }
 {
-    let depth = cell_word(image, reference, 0);
+    let depth = cell_word(image, reference, DEPTH);
     if depth_of(image, child) <= depth {
         return false;
     }
@@ -81,5 +82,8 @@ pub(crate) fn has_prefix(image: &Image, reference: u64) -> bool
     requires { (image_tree image.now.layout image.now.words).depth reference < key_bytes }
     ensures { IsTrue result ↔ HasPrefix (image_tree image.now.layout image.now.words) reference }
 {
-    ends_at(&prefix_of(image, reference), cell_word(image, reference, 0))
+    ends_at(
+        &prefix_of(image, reference),
+        cell_word(image, reference, DEPTH),
+    )
 }

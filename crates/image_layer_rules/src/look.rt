@@ -14,6 +14,7 @@ use crate::key::is_same;
 use crate::words::{cell_word, leaf_key, leaf_word, read_cell};
 use pm_words::Image;
 use pm_words::codes::reference::{KIND, LEAF};
+use pm_words::offsets::cell::DEPTH;
 use pm_words::offsets::leaf;
 use radix_nodes::{Key, key_byte};
 
@@ -35,7 +36,7 @@ pub(crate) fn node_from(image: &Image, reference: u64, least: u64, key: &Key) ->
         return Some(leaf_word(image, number, leaf::NODE).saturating_sub(1));
     }
     let cell = read_cell(image, reference);
-    let depth = cell_word(image, reference, 0);
+    let depth = cell_word(image, reference, DEPTH);
     let child = child_of(&cell, key_byte(key, depth) as u64);
     node_from(image, child, depth + 1, key)
 }

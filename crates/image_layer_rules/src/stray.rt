@@ -17,6 +17,7 @@ use image_rules::NodeSet;
 use image_rules::read::anchor_of;
 use pm_words::Image;
 use pm_words::codes::reference::{KIND, LEAF};
+use pm_words::offsets::cell::DEPTH;
 use pm_words::offsets::leaf;
 use radix_nodes::Key;
 
@@ -59,7 +60,7 @@ pub(crate) fn is_stray_from(image: &Image, listed: &NodeSet, reference: u64, lea
         return is_stray(image, listed, reference % KIND);
     }
     let cell = read_cell(image, reference);
-    let next = cell_word(image, reference, 0) + 1;
+    let next = cell_word(image, reference, DEPTH) + 1;
     for byte in 0..BYTES {
         let child = child_of(&cell, byte);
         if is_stray_from(image, listed, child, next) {

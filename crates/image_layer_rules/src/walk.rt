@@ -12,6 +12,7 @@ use crate::leaf::is_wrong_leaf;
 use crate::words::{cell_word, is_cell, read_cell};
 use pm_words::Image;
 use pm_words::codes::reference::{KIND, LEAF};
+use pm_words::offsets::cell::DEPTH;
 
 /// Whether something is wrong that is reached from a reference, of which it is known how deep at least it has to be.
 ///
@@ -34,7 +35,7 @@ pub(crate) fn is_wrong_from(image: &Image, reference: u64, least: u64) -> bool
     if is_wrong_cell(image, reference, &cell) {
         return true;
     }
-    let next = cell_word(image, reference, 0) + 1;
+    let next = cell_word(image, reference, DEPTH) + 1;
     for byte in 0..BYTES {
         let child = child_of(&cell, byte);
         if child != 0 && is_wrong_from(image, child, next) {

@@ -10,15 +10,13 @@ ghost use Rattle.tree_row.specs.Rows.{image_layer};
 ghost use Rattle.image_layer_rules.specs.Faults.{image_room, leaf_key, prefix_key};
 
 use pm_words::codes::reference::KIND;
-use pm_words::offsets::root;
-use pm_words::{Image, LINE_WORDS};
+use pm_words::offsets::cell::PREFIX;
+use pm_words::offsets::{leaf, root};
+use pm_words::{Image, LINE_WORDS, kind_words};
 use radix_nodes::{CELL_WORDS, Cell, Key};
 
 /// The number of the root's word.
 pub(crate) const ROOT_WORD: u64 = LINE_WORDS + root::REFERENCE;
-
-/// How many more leaves than nodes there are.
-const SPARE_LEAVES: u64 = 4;
 
 /// How many leaves there are, and how many cells of each kind.
 pub(crate) fn leaf_count(image: &Image) -> u64
@@ -26,20 +24,7 @@ pub(crate) fn leaf_count(image: &Image) -> u64
     ensures bound { result ≤ 4100 }
     ensures image { IsImage image.now.layout image.now.words }
 {
-    image.layout().nodes() + SPARE_LEAVES
-}
-
-/// How many words a cell of a kind from 2 to 5 has.
-fn kind_words(kind: u64) -> u64
-    requires { (2 ≤ kind) × (kind ≤ 5) }
-    ensures { result ≡ kind_words kind }
-{
-    match kind {
-        2 => 8,
-        3 => 24,
-        4 => 88,
-        _ => 264,
-    }
+    image.layout().leaf_count()
 }
 
 /// The root's reference.
@@ -113,9 +98,9 @@ pub(crate) fn prefix_of(image: &Image, reference: u64) -> Key
     ensures key { IsKey result }
 {
     [
-        cell_word(image, reference, 1),
-        cell_word(image, reference, 2),
-        cell_word(image, reference, 3),
+        cell_word(image, reference, PREFIX),
+        cell_word(image, reference, PREFIX + 1),
+        cell_word(image, reference, PREFIX + 2),
     ]
 }
 
@@ -124,8 +109,8 @@ pub(crate) fn leaf_key(image: &Image, leaf: u64) -> Key
     ensures { result ≡ leaf_key image.now.layout image.now.words leaf }
 {
     [
-        leaf_word(image, leaf, 0),
-        leaf_word(image, leaf, 1),
-        leaf_word(image, leaf, 2),
+        leaf_word(image, leaf, leaf::KEY),
+        leaf_word(image, leaf, leaf::KEY + 1),
+        leaf_word(image, leaf, leaf::KEY + 2),
     ]
 }

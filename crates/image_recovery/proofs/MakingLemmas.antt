@@ -4,12 +4,10 @@ use Rattle.pm_words.specs.declared.layout.Layout.{Layout}
 use Rattle.pm_words.specs.Images.{Row}
 use Rattle.pm_words.specs.Locations.{Header, Node, Cached, image_words, at, word_number}
 use Rattle.pm_words.specs.Rows.{IsRow, CanAct, acted, got, evicted}
+use Rattle.pm_words.specs.Offsets.{generation_offset, bitmap_offset, anchor_offset, state_offset}
 use Rattle.pm_words.proofs.Kept.{evicted_row}
 use Rattle.version_lock.specs.Versions.{IsGeneration}
 use Rattle.data_node.specs.Lists.{ListNode}
-use Rattle.data_node.specs.Spots.{bitmap_offset}
-use Rattle.data_node.specs.Lines.{state_offset}
-use Rattle.image_rules.specs.Rules.{generation_offset}
 use Rattle.tree_update.specs.Changes.{change_starts}
 use Rattle.tree_update.specs.Stages.{Aim, aim_of}
 use Rattle.image_recovery_law.specs.search_layer.specs.Kept.{layer_of}
@@ -118,7 +116,7 @@ module _ (l : Layout) (list : List ListNode) (o : Columns) (rest : List law.Move
 
   aims : (j word : ℕ) → j < line_count l → MendsNodes l list o now → aim_of (change_starts l (anchor_at here j) word) ≡ aim_at o j word
   aims j word within mends = λ i. record {
-    key = word_is j 3 within (omega arith) (λ e. cc) mends i ∷ word_is j 4 within (omega arith) (λ e. cc) mends i ∷ word_is j 5 within (omega arith) (λ e. cc) mends i ∷ [];
+    key = word_is j anchor_offset within (omega arith) (λ e. cc) mends i ∷ word_is j (anchor_offset + 1) within (omega arith) (λ e. cc) mends i ∷ word_is j (anchor_offset + 2) within (omega arith) (λ e. cc) mends i ∷ [];
     word = word;
   }
 

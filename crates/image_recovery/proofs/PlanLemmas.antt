@@ -5,9 +5,10 @@ use Rattle.std.specs.Prelude.{IsTrue, IfOk}
 use Rattle.std.proofs.lemmas.Bool.{cases_eq, false≢true}
 use Rattle.std.proofs.lemmas.List.{map-append, append-nil}
 use Rattle.pm_words.specs.Images.{Row}
+use Rattle.pm_words.specs.Offsets.{bitmap_offset, next_offset}
 use Rattle.data_node.specs.Slots.{IsLive}
-use Rattle.data_node.specs.Spots.{Spot, bitmap_offset}
-use Rattle.data_node.specs.Lists.{ListNode, IsIn, IsChain, IsMember, Rise, StaysIn, next_offset, range_in}
+use Rattle.data_node.specs.Spots.{Spot}
+use Rattle.data_node.specs.Lists.{ListNode, IsIn, IsChain, IsMember, Rise, StaysIn, range_in}
 use Rattle.data_node.proofs.ListLemmas.{members_few}
 use Rattle.data_node.proofs.SpotLemmas.{updated-same, name_words-updated}
 use Rattle.image_rules.specs.Sound.{IsSound}

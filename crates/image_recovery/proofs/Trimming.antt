@@ -3,10 +3,12 @@ use Rattle.std.proofs.Common.{◌≡◌, ℕ, ◌+◌, ◌^◌, ◌<◌, ◌⊎�
 use Rattle.std.proofs.lemmas.Bool.{eq-eqb, eqb-true, false≢true, cases_eq}
 use Rattle.std.proofs.lemmas.Nat.Bits.{bit_at-zero}
 use Rattle.pm_words.specs.Images.{Row}
+use Rattle.pm_words.specs.Offsets.{bitmap_offset, next_offset}
 use Rattle.cat_key.specs.Names.{words_of}
 use Rattle.data_node.specs.Slots.{IsLive}
-use Rattle.data_node.specs.Spots.{Spot, name_words, updated, bitmap_offset}
-use Rattle.data_node.specs.Lists.{ListNode, IsBetween, IsIn, Rise, StaysIn, MakeList, next_offset, anchor_in, key_of, number_of, range_in, target_from}
+use Rattle.data_node.specs.Spots.{Spot, name_words, updated}
+use Rattle.data_node.specs.Lists.{ListNode, IsBetween, IsIn, Rise, StaysIn, MakeList, anchor_in, key_of, number_of}
+use Rattle.data_node.specs.Lists.{range_in, target_from}
 use Rattle.data_node.proofs.KeyLemmas.{key-number}
 use Rattle.data_node.proofs.ListLemmas.{between_target, target_between}
 use Rattle.data_node.proofs.SpotLemmas.{updated-same, name_words-updated}

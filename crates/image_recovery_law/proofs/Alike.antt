@@ -4,11 +4,11 @@ use Rattle.std.proofs.lemmas.Bool.{cases_eq, cases_lt}
 use Rattle.cat_key.specs.Names.{IsName, AreNameWords, bytes_of, fingerprint_of}
 use Rattle.cat_history.specs.Maps.{Map, at}
 use Rattle.data_node.specs.Slots.{prints_of}
-use Rattle.data_node.specs.Spots.{Spot, IsTidy, Means, Finds, name_words, value_in, print_in_spot, bitmap_offset, slot_offset, print_offset}
-use Rattle.data_node.specs.Lists.{ListNode, next_offset, three_words, anchor_in, IsMember, IsIn, IsChain, Rise}
+use Rattle.data_node.specs.Spots.{Spot, IsTidy, Means, Finds, name_words, value_in, print_in_spot}
+use Rattle.data_node.specs.Lists.{ListNode, three_words, anchor_in, IsMember, IsIn, IsChain, Rise}
 use Rattle.data_node.proofs.ListLemmas.{above}
-use Rattle.data_node.specs.Lists.{anchor_offset}
 use Rattle.pm_words.specs.Codes.{empty_state}
+use Rattle.pm_words.specs.Offsets.{bitmap_offset, next_offset, anchor_offset, print_offset, slot_offset, value_word}
 use Rattle.updater_law.specs.Covers.{Lines, IsOpenFor}
 use Rattle.updater_law.specs.Covered.{ListHas, AreApart}
 use Rattle.image_recovery_law.specs.Columns.{IsTrim}
@@ -37,7 +37,7 @@ name_kept s t slot same =
     λ k. a k ∷ b k ∷ c k ∷ []
 
 pub value_kept : (s t : Spot) (slot : ℕ) → AlikeBut s t → value_in t slot ≡ value_in s slot
-value_kept s t slot same = same (slot_offset slot 3) (λ e. omega arith)
+value_kept s t slot same = same (slot_offset slot value_word) (λ e. omega arith)
 
 pub print_kept : (s t : Spot) (slot : ℕ) → AlikeBut s t → print_in_spot t slot ≡ print_in_spot s slot
 print_kept s t slot same = ap (λ (word : ℕ). slice_index (prints_of word) (slot % 8)) (same (print_offset slot) (λ e. omega arith))

@@ -5,9 +5,10 @@ use Rattle.pm_words.specs.declared.layout.Layout.{Layout}
 use Rattle.pm_words.specs.Images.{fresh_words}
 use Rattle.pm_words.specs.Layouts.{IsLayout}
 use Rattle.pm_words.specs.Locations.{Node}
+use Rattle.pm_words.specs.Offsets.{next_offset}
 use Rattle.pm_words.proofs.Made.{fresh_at, fresh_image}
 use Rattle.data_node.specs.Spots.{Spot}
-use Rattle.data_node.specs.Lists.{ListNode, next_offset, IsIn, IsChain}
+use Rattle.data_node.specs.Lists.{ListNode, IsIn, IsChain}
 use Rattle.tree_row.specs.Rows.{image_layer, IsFreshLayer}
 use Rattle.tree_row.proofs.FreshRow.{fresh_keeps}
 use Rattle.updater_law.specs.Covered.{IsCovered}

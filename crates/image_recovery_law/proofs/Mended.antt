@@ -1,12 +1,14 @@
 -- Columns that a recovery may have come to are sound, with the same map.
 use Rattle.std.proofs.Common.{◌≡◌, ◌≢◌, ℕ, suc, ◌<◌, ◌≤◌, ◌⊎◌, ◌↔◌, List, inl, inr, refl, sym, subst, ap, ◌∙◌, arith}
+use Rattle.std.proofs.Common.{◌+◌}
 use Rattle.std.proofs.lemmas.Bool.{cases_eq, cases_lt}
 use Rattle.pm_words.specs.declared.layout.Layout.{Layout}
 use Rattle.pm_words.specs.Codes.{empty_state}
+use Rattle.pm_words.specs.Offsets.{anchor_offset, state_offset}
 use Rattle.cat_history.specs.Maps.{Map}
 use Rattle.version_lock.specs.Versions.{generation_of, IsGeneration}
 use Rattle.data_node.specs.Spots.{Means}
-use Rattle.data_node.specs.Lines.{IsFitLine, state_offset}
+use Rattle.data_node.specs.Lines.{IsFitLine}
 use Rattle.data_node.specs.Lists.{ListNode, range_in, IsIn}
 use Rattle.data_node.proofs.ListLemmas.{all_member}
 use Rattle.data_node.proofs.KeyLemmas.{anchor_named}
@@ -63,7 +65,7 @@ module _ (l : Layout) (list : List ListNode) (o : Columns) (sound : IsSound l li
     anchors n = anchor_kept (o.spot n) (i.spot n) (alike n)
 
     pub lines_anchor : (j : ℕ) → line_anchor i j ≡ line_anchor o j
-    lines_anchor j = anchor_same (o.line j) (i.line j) (mends.nodes.fields j 3 (λ e. cc)) (mends.nodes.fields j 4 (λ e. cc)) (mends.nodes.fields j 5 (λ e. cc))
+    lines_anchor j = anchor_same (o.line j) (i.line j) (mends.nodes.fields j anchor_offset (λ e. cc)) (mends.nodes.fields j (anchor_offset + 1) (λ e. cc)) (mends.nodes.fields j (anchor_offset + 2) (λ e. cc))
 
     line_same : (j : ℕ) → i.line j state_offset ≢ empty_state → i.line j ≡ o.line j
     line_same j used =

@@ -2,9 +2,8 @@
 use Rattle.std.proofs.Common.{◌≡◌, ◌≢◌, ℕ, suc, ◌⊎◌, List, inl, inr, refl, sym, subst, ◌∙◌}
 use Rattle.std.proofs.lemmas.Bool.{cases_eq}
 use Rattle.pm_words.specs.declared.layout.Layout.{Layout}
-use Rattle.data_node.specs.Spots.{bitmap_offset}
+use Rattle.pm_words.specs.Offsets.{bitmap_offset, state_offset}
 use Rattle.data_node.specs.Lists.{ListNode}
-use Rattle.data_node.specs.Lines.{state_offset}
 use Rattle.layer_map.specs.Layers.{Layer, AreSame}
 use Rattle.updater_row_law.specs.search_layer.specs.Rows.{LayerWords, AreEven, IsLayerMix}
 use Rattle.updater_row_law.specs.tree_update.specs.Stages.{Aim, made_of}

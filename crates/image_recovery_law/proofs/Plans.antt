@@ -2,12 +2,12 @@
 use Rattle.std.proofs.Common.{◌≡◌, ◌≢◌, ℕ, suc, ◌<◌, ◌⊎◌, Bool, true, false, List, [], ◌∷◌, inl, inr, refl, sym, subst, ◌∙◌}
 use Rattle.pm_words.specs.declared.layout.Layout.{Layout}
 use Rattle.pm_words.specs.Codes.{empty_state}
+use Rattle.pm_words.specs.Offsets.{bitmap_offset, state_offset}
 use Rattle.cat_key.specs.Names.{IsName, words_of}
 use Rattle.data_node.specs.Slots.{IsLive}
-use Rattle.data_node.specs.Spots.{Spot, updated, IsTidy, IsLiveIn, name_words, bitmap_offset}
+use Rattle.data_node.specs.Spots.{Spot, updated, IsTidy, IsLiveIn, name_words}
 use Rattle.data_node.specs.Lists.{ListNode, range_in, IsIn, StaysIn}
 use Rattle.data_node.proofs.SpotLemmas.{updated-same, updated-other}
-use Rattle.data_node.specs.Lines.{state_offset}
 use Rattle.image_recovery_law.specs.Columns.{Columns, anchor_of, line_anchor, IsSound, IsTrim, Mends}
 use Rattle.image_recovery_law.specs.Stages.{HasAnchor, LacksAnchor, Stage, Begins, Trims, Unsets, Sets, Empties, Wakes, Step, passes_node, all_trimmed, passes_unset, all_unset, passes_set, all_set, passes_empty, all_empty, Sure}
 use Rattle.image_recovery_law.specs.Moves.{Move, Plan, raise, trim, leaves_node, to_unsets, unset_line, leaves_unset, to_sets, set_line, leaves_set, to_empties, empty_line, leaves_empty, ends, raises_now, trims_now, unsets_now, sets_now, empties_now, IsNext, PlanReaches, PlanEnds, PlannedBitsServe, PlannedNoneServes}

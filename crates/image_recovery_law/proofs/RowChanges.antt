@@ -7,10 +7,10 @@ use Rattle.pm_words.specs.declared.layout.Layout.{Layout}
 use Rattle.pm_words.specs.Locations.{Word, Header, Root, Node, Line, Leaf, Cell, Cached, Durable, part_of_word, at}
 use Rattle.pm_words.specs.Rows.{acted}
 use Rattle.pm_words.specs.Codes.{empty_state}
+use Rattle.pm_words.specs.Offsets.{anchor_offset, state_offset}
 use Rattle.cat_key.specs.Names.{words_of}
-use Rattle.data_node.specs.Lists.{ListNode, anchor_in, anchor_offset}
+use Rattle.data_node.specs.Lists.{ListNode, anchor_in}
 use Rattle.data_node.proofs.KeyLemmas.{key-number}
-use Rattle.data_node.specs.Lines.{state_offset}
 use Rattle.layer_map.specs.Keys.{key_number, IsKey}
 use Rattle.layer_map.specs.Layers.{Layer}
 use Rattle.layer_map.proofs.KeyLemmas.{zero_is_least}
@@ -101,7 +101,7 @@ module _ (l : Layout) (words after : List ℕ) (others : KeepsOthers l words aft
 
 -- the change at a line's anchor, as the columns have it now and as the first ones had it
 aims_are : (now o : Columns) (j word : ℕ) → ((k offset : ℕ) → offset ≢ 0 → now.line k offset ≡ o.line k offset) → aim_at now j word ≡ aim_at o j word
-aims_are now o j word fields = λ k. record { key = fields j 3 (λ e. cc) k ∷ fields j 4 (λ e. cc) k ∷ fields j 5 (λ e. cc) k ∷ []; word = word }
+aims_are now o j word fields = λ k. record { key = fields j anchor_offset (λ e. cc) k ∷ fields j (anchor_offset + 1) (λ e. cc) k ∷ fields j (anchor_offset + 2) (λ e. cc) k ∷ []; word = word }
 
 -- its key has three words of 64 bits
 unfit : (inside : Bool) (x : ℕ) → x < 2 ^ 64 → word_if inside x < 2 ^ 64
@@ -118,7 +118,7 @@ three_fit a b c first second third (suc (suc (suc k))) = omega arith
 line_key : (l : Layout) (words : List ℕ) (j word : ℕ) → ((k : ℕ) → slice_index words k < 2 ^ 64) → IsKey (aim_at (columns_in l words Cached) j word).key
 line_key l words j word fits = record {
   whole = refl;
-  fits = three_fit ((columns_in l words Cached).line j 3) ((columns_in l words Cached).line j 4) ((columns_in l words Cached).line j 5)
+  fits = three_fit ((columns_in l words Cached).line j anchor_offset) ((columns_in l words Cached).line j (anchor_offset + 1)) ((columns_in l words Cached).line j (anchor_offset + 2))
       (unfit (has_line_word l j anchor_offset) _ (fits _)) (unfit (has_line_word l j (anchor_offset + 1)) _ (fits _)) (unfit (has_line_word l j (anchor_offset + 2)) _ (fits _));
 }
 

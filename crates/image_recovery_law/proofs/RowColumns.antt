@@ -8,8 +8,7 @@ use Rattle.pm_words.specs.Locations.{Word, Location, Header, Root, Node, Cached,
 use Rattle.pm_words.specs.Locations.{node_words, word_at, at}
 use Rattle.pm_words.specs.Rows.{durable_row, row_of}
 use Rattle.pm_words.proofs.Made.{row_of-at, durable_row-at}
-use Rattle.pm_words.specs.Offsets.{version_offset}
-use Rattle.image_rules.specs.Rules.{generation_offset}
+use Rattle.pm_words.specs.Offsets.{generation_offset, reference_offset, version_offset}
 use Rattle.updater_row_law.specs.search_layer.specs.Rows.{LayerWords, layer_words, image_layer_words}
 use Rattle.updater_row_law.specs.search_layer.proofs.RowLemmas.{images_alike}
 use Rattle.updater_row_law.specs.Columns.{line_count, line_word}
@@ -42,7 +41,7 @@ not_below a b le = false_from_ne_true (nat_lt a b) (λ e. let lt : a < b = ltb-t
 
 -- the words that columns tell by name are those of an image, and neither the root nor words of leaves and cells
 abbrev pub IsRest : Layout → Word → Type 0
-IsRest l w = HasWord l w × (part_of_word w ≤ 3) × (w ≢ Root 0)
+IsRest l w = HasWord l w × (part_of_word w ≤ 3) × (w ≢ Root reference_offset)
 
 -- the number of a word of the root's line
 abbrev root_at : Word → ℕ
@@ -96,7 +95,7 @@ line_here l j o here small = and_from (nat_lt j (line_count l)) (nat_lt o 8) (lt
 abbrev pub word_of : Location → Word
 word_of (Cached w) = w
 word_of (Durable w) = w
-word_of _ = Root 0
+word_of _ = Root reference_offset
 
 -- the same words, but for one perhaps, are the same columns, but for those that tell this one
 module _ (l : Layout) (word word' : Word → ℕ) (Kept : Word → Type 0) (same : (w : Word) → IsRest l w → Kept w → word' w ≡ word w) where

@@ -6,10 +6,8 @@ use Rattle.pm_words.specs.declared.action.Action.TheVariants.{Store}
 use Rattle.pm_words.specs.Locations.{Word, Header, Node, Cached, Durable, HasWord, row_words, image_words, address_of}
 use Rattle.pm_words.specs.Locations.{at}
 use Rattle.pm_words.specs.Rows.{acted, evicted}
+use Rattle.pm_words.specs.Offsets.{bitmap_offset, state_offset, generation_offset}
 use Rattle.data_node.specs.Lists.{ListNode}
-use Rattle.data_node.specs.Spots.{bitmap_offset}
-use Rattle.data_node.specs.Lines.{state_offset}
-use Rattle.image_rules.specs.Rules.{generation_offset}
 use Rattle.layer_map.specs.Layers.{Layer}
 use Rattle.layer_map.specs.Places.{is_layer_word}
 use Rattle.updater_row_law.specs.search_layer.specs.Rows.{LayerWords, Marks, layer_words, layer_marks}
@@ -79,14 +77,14 @@ move_ends l list o words s t u w value sound known of_generation even = record {
   marks = known.marks;
 }
 move_ends l list o words s t u w value sound known (of_bits n bits left within is fits) even =
-    let inside = spot_here l n 1 within (omega arith) (omega arith) in
+    let inside = spot_here l n bitmap_offset within (omega arith) (omega arith) in
     record {
       sure = steps_keep l list o (columns_in l words Cached) (columns_in l words Durable) (columns_in l words Cached) (columns_in l words Durable) t u sound known.sure
-          (trimmed n left (word_if-here (has_spot_word l n 1) (at l words (Durable (Node n bitmap_offset))) inside ∙ even ∙ sym (word_if-here (has_spot_word l n 1) (at l words (Cached (Node n bitmap_offset))) inside)));
+          (trimmed n left (word_if-here (has_spot_word l n bitmap_offset) (at l words (Durable (Node n bitmap_offset))) inside ∙ even ∙ sym (word_if-here (has_spot_word l n bitmap_offset) (at l words (Cached (Node n bitmap_offset))) inside)));
       marks = known.marks;
     }
 move_ends l list o words s t u w value sound known (of_empty j within) even =
-    let inside = line_here l j 0 within (omega arith) in
+    let inside = line_here l j state_offset within (omega arith) in
     record {
       sure = steps_keep l list o (columns_in l words Cached) (columns_in l words Durable) (columns_in l words Cached) (columns_in l words Durable) t u sound known.sure
           (emptied j (word_if-here (has_line_word l j state_offset) (at l words (Durable (line_word state_offset j))) inside ∙ even ∙ sym (word_if-here (has_line_word l j state_offset) (at l words (Cached (line_word state_offset j))) inside)));

@@ -9,10 +9,7 @@ use Rattle.pm_words.specs.Locations.{IsVolatile, part_of_address, part_of_word, 
 use Rattle.pm_words.specs.Locations.{cached_address, durable_address, address_of, at}
 use Rattle.pm_words.specs.Rows.{evicted}
 use Rattle.pm_words.proofs.Apart.{at-set_other, at-set_same}
-use Rattle.pm_words.specs.Offsets.{version_offset}
-use Rattle.data_node.specs.Spots.{bitmap_offset}
-use Rattle.data_node.specs.Lines.{state_offset}
-use Rattle.image_rules.specs.Rules.{generation_offset}
+use Rattle.pm_words.specs.Offsets.{version_offset, bitmap_offset, state_offset, generation_offset}
 use Rattle.layer_map.specs.Places.{is_layer_word}
 use Rattle.updater_row_law.specs.search_layer.specs.Rows.{layer_words}
 use Rattle.updater_row_law.specs.search_layer.proofs.RowLemmas.{row_eviction_mixes, layer_words_stay, rows_alike}
@@ -135,11 +132,11 @@ bits_store l words n value whole within =
           (versions_kept l words whole v has value refl (λ m e. let same : 0 ≡ 1 = ap offset_at e in omega arith))
           (λ m o. elim (cases_eq m n) [
             | inr ne ↦ spot_kept l words whole v has value refl m o (λ e. ne (ap node_at e)) ∙ sym (bits_other i n value m o (λ e. absurd (ne e)))
-            | inl e ↦ elim (cases_eq o 1) [
+            | inl e ↦ elim (cases_eq o bitmap_offset) [
               | inr ne ↦ spot_kept l words whole v has value refl m o (λ f. ne (ap offset_at f)) ∙ sym (bits_other i n value m o (λ f. ne))
               | inl f ↦ subst (λ x. word_if (has_spot_word l x o) (after (Node x o)) ≡ (with_bits i n value).spot x o) (sym e)
                   (subst (λ x. word_if (has_spot_word l n x) (after (Node n x)) ≡ (with_bits i n value).spot n x) (sym f)
-                  (word_if-here (has_spot_word l n 1) (after (Node n bitmap_offset)) (spot_here l n 1 within (omega arith) (omega arith))
+                  (word_if-here (has_spot_word l n bitmap_offset) (after (Node n bitmap_offset)) (spot_here l n bitmap_offset within (omega arith) (omega arith))
                   ∙ cached_here l words whole v has value refl ∙ sym (bits_word i n value)))
             ]
           ])
@@ -166,7 +163,7 @@ empty_stores l words j whole within =
               | inr ne ↦ line_kept l words whole v has 0 refl k o (λ f. ne (ap offset_at f)) ∙ sym (empty_other i j k o (λ f. ne))
               | inl f ↦ subst (λ x. word_if (has_line_word l x o) (after (line_word o x)) ≡ (with_empty i j).line x o) (sym e)
                   (subst (λ x. word_if (has_line_word l j x) (after (line_word x j)) ≡ (with_empty i j).line j x) (sym f)
-                  (word_if-here (has_line_word l j state_offset) (after (line_word state_offset j)) (line_here l j 0 within (omega arith))
+                  (word_if-here (has_line_word l j state_offset) (after (line_word state_offset j)) (line_here l j state_offset within (omega arith))
                   ∙ cached_here l words whole v has 0 refl ∙ sym (empty_here i j)))
             ]
           ])

@@ -7,10 +7,9 @@ use Rattle.pm_words.specs.Images.{IsImage}
 use Rattle.pm_words.specs.Locations.{Word, Header, Root, Node, word_at}
 use Rattle.version_lock.specs.Versions.{generation_of}
 use Rattle.data_node.specs.Spots.{Spot, IsTidy, Means}
-use Rattle.data_node.specs.Lines.{state_offset}
 use Rattle.data_node.specs.Lists.{MakeList}
 use Rattle.data_node.proofs.LineLemmas.{fit_alike}
-use Rattle.pm_words.specs.Offsets.{version_offset}
+use Rattle.pm_words.specs.Offsets.{version_offset, state_offset}
 use Rattle.image_rules.specs.Nodes.{image_spot, image_list, image_range}
 use Rattle.image_rules.specs.Rules.{IsSpare, line_spot}
 use Rattle.image_rules.specs.Laws.{KeepsRules}

@@ -1,13 +1,14 @@
 -- Each step of a recovery keeps what it is sure of.
 use Rattle.std.proofs.Common.{◌≡◌, ◌≢◌, ℕ, suc, ◌-◌, ◌<◌, ◌≤◌, ◌⊎◌, ◌↔◌, cond, List, [], ◌∷◌, Option, Some, None, inl}
+use Rattle.std.proofs.Common.{◌+◌}
 use Rattle.std.proofs.Common.{inr, refl, sym, subst, ap, ◌∙◌, arith}
 use Rattle.std.proofs.lemmas.Bool.{cases_eq, cases_lt, eq-eqb, ne_eqb}
 use Rattle.pm_words.specs.declared.layout.Layout.{Layout}
 use Rattle.pm_words.specs.Codes.{empty_state}
-use Rattle.data_node.specs.Spots.{Spot, updated, bitmap_offset}
+use Rattle.pm_words.specs.Offsets.{bitmap_offset, anchor_offset, state_offset}
+use Rattle.data_node.specs.Spots.{Spot, updated}
 use Rattle.data_node.specs.Lists.{ListNode, anchor_in, range_in, IsMember, IsIn, IsChain, StaysIn}
 use Rattle.data_node.proofs.SpotLemmas.{updated-same, updated-other}
-use Rattle.data_node.specs.Lines.{state_offset}
 use Rattle.layer_map.specs.Layers.{Layer, HasFew, changed_at, node_of}
 use Rattle.updater_row_law.specs.search_layer.specs.Rows.{LayerWords, IsLayerMix}
 use Rattle.updater_row_law.specs.tree_update.specs.declared.change.ChangeAt.{ChangeAt}
@@ -170,7 +171,7 @@ module _ (l : Layout) (list : List ListNode) (o : Columns) (sound : IsSound l li
     anchors_now nodes n = anchor_kept (o.spot n) (now.spot n) (nodes.words n)
 
     pub lines_now : MendsNodes l list o now → (j : ℕ) → line_anchor now j ≡ line_anchor o j
-    lines_now nodes j = anchor_same (o.line j) (now.line j) (nodes.fields j 3 (λ e. cc)) (nodes.fields j 4 (λ e. cc)) (nodes.fields j 5 (λ e. cc))
+    lines_now nodes j = anchor_same (o.line j) (now.line j) (nodes.fields j anchor_offset (λ e. cc)) (nodes.fields j (anchor_offset + 1) (λ e. cc)) (nodes.fields j (anchor_offset + 2) (λ e. cc))
 
     -- the beginning of a change, a step of it, and its end
     change_begins : (aim : Aim) → IsStill l list o Nothing now safe → AreUntouched o now → MendsLayer l o (made_of aim (layer_kept l now))
@@ -461,8 +462,8 @@ module _ (l : Layout) (list : List ListNode) (o : Columns) (sound : IsSound l li
           states = λ k. elim (cases_eq k j) [
             | inl e ↦ inr (record { empty = ap (λ x. (with_empty now j).line x 0) e ∙ empty_here now j; leads = exact_has (layer_kept l now (line_anchor o k)) (line_anchor o k) (λ node. exact (line_anchor o k) node) })
             | inr ne ↦ elim (still.cached.states k) [
-              | inl same ↦ inl (empty_other now j k 0 (λ e. absurd (ne e)) ∙ same)
-              | inr gone ↦ inr (record { empty = empty_other now j k 0 (λ e. absurd (ne e)) ∙ gone.empty; leads = gone.leads })
+              | inl same ↦ inl (empty_other now j k state_offset (λ e. absurd (ne e)) ∙ same)
+              | inr gone ↦ inr (record { empty = empty_other now j k state_offset (λ e. absurd (ne e)) ∙ gone.empty; leads = gone.leads })
             ]
           ];
           row = still.cached.row;
@@ -481,7 +482,7 @@ module _ (l : Layout) (list : List ListNode) (o : Columns) (sound : IsSound l li
       generation,
       done,
       exact,
-      λ i lt. elim (cases_eq i j) [ inl e ↦ ap (λ x. (with_empty now j).line x 0) e ∙ empty_here now j | inr ne ↦ empty_other now j i 0 (λ e. absurd (ne e)) ∙ empty i (omega arith) ],
+      λ i lt. elim (cases_eq i j) [ inl e ↦ ap (λ x. (with_empty now j).line x 0) e ∙ empty_here now j | inr ne ↦ empty_other now j i state_offset (λ e. absurd (ne e)) ∙ empty i (omega arith) ],
     )
       where
         exact_has : (found : Option ℕ) (key : ℕ) → ((node : ℕ) → (found ≡ Some node) ↔ (IsIn list node × (anchor_of o node ≡ key))) → ListHas (IsIn list) (anchor_of o) key found

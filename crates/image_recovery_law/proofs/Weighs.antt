@@ -4,7 +4,8 @@ use Rattle.std.specs.Int.{bit_at}
 use Rattle.std.proofs.lemmas.Bool.{cases_eq, eq-eqb, ne_eqb}
 use Rattle.cat_key.specs.Names.{bytes_of}
 use Rattle.cat_key.proofs.Packing.{bytes_of-words_of}
-use Rattle.data_node.specs.Spots.{Spot, IsTidy, IsLiveIn, name_words, bitmap_offset}
+use Rattle.pm_words.specs.Offsets.{bitmap_offset}
+use Rattle.data_node.specs.Spots.{Spot, IsTidy, IsLiveIn, name_words}
 use Rattle.data_node.specs.Weights.{has_name_in, names_in}
 use Rattle.data_node.specs.Lists.{range_in}
 use Rattle.image_recovery_law.specs.Columns.{IsTrim}

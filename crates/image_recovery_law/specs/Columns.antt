@@ -2,12 +2,13 @@
 use Rattle.std.specs.Prelude.{◌≡◌, ◌≢◌, ℕ, suc, ◌<◌, ◌≤◌, ◌^◌, ◌⊎◌, Bool, true, List, Some}
 use Rattle.pm_words.specs.Codes.{empty_state}
 use Rattle.pm_words.specs.declared.layout.Layout.{Layout}
+use Rattle.pm_words.specs.Offsets.{bitmap_offset, state_offset, kind_offset, line_node_offset}
 use Rattle.cat_key.specs.Names.{IsName, words_of}
 use Rattle.cat_history.specs.Maps.{Map, at}
 use Rattle.version_lock.specs.Versions.{generation_of, IsGeneration}
 use Rattle.data_node.specs.Slots.{IsLive}
-use Rattle.data_node.specs.Spots.{Spot, IsTidy, Means, IsLiveIn, name_words, bitmap_offset}
-use Rattle.data_node.specs.Lines.{IsFitLine, kind_offset, line_node_offset, state_offset}
+use Rattle.data_node.specs.Spots.{Spot, IsTidy, Means, IsLiveIn, name_words}
+use Rattle.data_node.specs.Lines.{IsFitLine}
 use Rattle.data_node.specs.Lists.{ListNode, anchor_in, key_of, range_in, IsIn, MakeList}
 use Rattle.layer_map.specs.Layers.{Layer, HasFew}
 use Rattle.updater_row_law.specs.search_layer.specs.Rows.{LayerWords, IsLayerMix}

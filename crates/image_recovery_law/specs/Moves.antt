@@ -2,9 +2,9 @@
 use Rattle.std.specs.Prelude.{◌≡◌, ◌≢◌, ℕ, suc, ◌≤◌, ◌⊎◌, List, [], ◌∷◌}
 use Rattle.pm_words.specs.Codes.{empty_state}
 use Rattle.pm_words.specs.declared.layout.Layout.{Layout}
-use Rattle.data_node.specs.Spots.{updated, bitmap_offset}
+use Rattle.pm_words.specs.Offsets.{bitmap_offset, state_offset}
+use Rattle.data_node.specs.Spots.{updated}
 use Rattle.data_node.specs.Lists.{ListNode, range_in, IsIn, StaysIn}
-use Rattle.data_node.specs.Lines.{state_offset}
 use Rattle.updater_row_law.specs.Columns.{line_count}
 use Rattle.image_recovery_law.specs.Columns.{Columns, anchor_of, line_anchor, IsSound, IsTrim, Mends}
 use Rattle.image_recovery_law.specs.Stages.{nodes_of, HasAnchor, LacksAnchor, Stage, Begins, Trims, Unsets, Sets}

@@ -3,10 +3,10 @@ use Rattle.std.specs.Prelude.{◌≡◌, ◌≢◌, ℕ, suc, ◌+◌, ◌≤◌
 use Rattle.std.specs.Prelude.{if◌then◌else◌}
 use Rattle.pm_words.specs.Codes.{free_status, live_status, empty_state}
 use Rattle.pm_words.specs.declared.layout.Layout.{Layout}
+use Rattle.pm_words.specs.Offsets.{state_offset}
 use Rattle.cat_history.specs.Maps.{Map}
 use Rattle.version_lock.specs.Versions.{IsGeneration, IsFree, IsWorn, kept_count}
 use Rattle.data_node.specs.Lists.{ListNode, range_in, IsIn, StaysIn}
-use Rattle.data_node.specs.Lines.{state_offset}
 use Rattle.updater_law.specs.Facts.{TurnTerms, TurnFacts}
 use Rattle.updater_law.specs.TurnStages.{Resting}
 use Rattle.updater_law.specs.Lawful.{TurnLawful}

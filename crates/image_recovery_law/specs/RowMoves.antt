@@ -7,10 +7,8 @@ use Rattle.pm_words.specs.declared.action.Action.TheVariants.{Store}
 use Rattle.pm_words.specs.Locations.{Word, Header, Node, Cached, Durable, row_words, image_words}
 use Rattle.pm_words.specs.Locations.{address_of, at}
 use Rattle.pm_words.specs.Rows.{IsRow, acted, got, evicted}
+use Rattle.pm_words.specs.Offsets.{bitmap_offset, state_offset, generation_offset}
 use Rattle.data_node.specs.Lists.{ListNode, IsIn}
-use Rattle.data_node.specs.Spots.{bitmap_offset}
-use Rattle.data_node.specs.Lines.{state_offset}
-use Rattle.image_rules.specs.Rules.{generation_offset}
 use Rattle.layer_map.specs.Layers.{Layer, HasFew}
 use Rattle.updater_row_law.specs.tree_update.specs.Stages.{Aim, IsRooted}
 use Rattle.updater_row_law.specs.search_layer.specs.ChangeStages.{Changing, Changed, ChangeStep, start_stage}

@@ -10,10 +10,7 @@ use Rattle.pm_words.specs.Locations.{Word, Location, Header, Root, Node, Cached,
 use Rattle.pm_words.specs.Locations.{node_words, row_words, image_words, cached_address, address_of, at}
 use Rattle.pm_words.specs.Locations.{word_at}
 use Rattle.pm_words.specs.Rows.{acted, evicted, durable_row, row_of}
-use Rattle.pm_words.specs.Offsets.{version_offset}
-use Rattle.data_node.specs.Spots.{bitmap_offset}
-use Rattle.data_node.specs.Lines.{state_offset}
-use Rattle.image_rules.specs.Rules.{generation_offset}
+use Rattle.pm_words.specs.Offsets.{version_offset, bitmap_offset, state_offset, generation_offset}
 use Rattle.updater_row_law.specs.search_layer.specs.Rows.{LayerWords, layer_words, image_layer_words}
 use Rattle.updater_row_law.specs.Columns.{line_count, line_word}
 use Rattle.image_recovery_law.specs.Columns.{Columns, IsMix}

@@ -2,9 +2,9 @@
 use Rattle.std.specs.Prelude.{◌≡◌, ◌≢◌, ℕ, suc, ◌<◌, ◌≤◌, ◌⊎◌, ◌↔◌, List, [], ◌∷◌, Some, None}
 use Rattle.pm_words.specs.Codes.{empty_state}
 use Rattle.pm_words.specs.declared.layout.Layout.{Layout}
-use Rattle.data_node.specs.Spots.{updated, bitmap_offset}
+use Rattle.pm_words.specs.Offsets.{bitmap_offset, state_offset}
+use Rattle.data_node.specs.Spots.{updated}
 use Rattle.data_node.specs.Lists.{ListNode, range_in, IsIn, StaysIn, anchor_words}
-use Rattle.data_node.specs.Lines.{state_offset}
 use Rattle.layer_map.specs.Layers.{Layer}
 use Rattle.updater_row_law.specs.search_layer.specs.Rows.{LayerWords, AreEven}
 use Rattle.updater_row_law.specs.tree_update.specs.Stages.{Aim, made_of}

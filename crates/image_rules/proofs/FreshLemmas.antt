@@ -3,7 +3,7 @@ use Rattle.std.proofs.Common.{◌≡◌, ℕ, ◌+◌, suc, refl, ◌/◌, ◌%�
 use Rattle.std.specs.FinMap.{empty, get-empty}
 use Rattle.std.proofs.lemmas.Bool.{cases_eq}
 use Rattle.cat_key.specs.Names.{name_cmp}
-use Rattle.data_node.specs.Spots.{bitmap_offset, Means}
+use Rattle.data_node.specs.Spots.{Means}
 use Rattle.data_node.proofs.SpotLemmas.{means_empty}
 use Rattle.pm_words.specs.declared.layout.Layout.{Layout}
 use Rattle.pm_words.specs.Images.{fresh_words, fresh_word}
@@ -11,13 +11,13 @@ use Rattle.pm_words.specs.Layouts.{IsLayout}
 use Rattle.pm_words.specs.Locations.{Word, Header, Root, Node, Line, Leaf, Cell, word_at}
 use Rattle.pm_words.proofs.Made.{fresh_at, fresh_image}
 use Rattle.version_lock.specs.Versions.{generation_of}
-use Rattle.data_node.specs.Lists.{ListNode, next_offset, IsIn, MakeList, anchor_offset}
+use Rattle.data_node.specs.Lists.{ListNode, IsIn, MakeList}
 use Rattle.data_node.proofs.ListLemmas.{chain_is}
 use Rattle.data_node.proofs.KeyLemmas.{anchor_zero}
-use Rattle.data_node.specs.Lines.{state_offset}
-use Rattle.pm_words.specs.Offsets.{version_offset}
+use Rattle.pm_words.specs.Offsets.{version_offset, bitmap_offset, next_offset, anchor_offset, state_offset}
+use Rattle.pm_words.specs.Offsets.{generation_offset}
 use Rattle.image_rules.specs.Nodes.{image_spot, image_list, IsListedNode, image_range}
-use Rattle.image_rules.specs.Rules.{IsSpare, header_generation, generation_offset}
+use Rattle.image_rules.specs.Rules.{IsSpare, header_generation}
 use Rattle.version_lock.specs.Versions.{IsGeneration}
 use Rattle.image_rules.specs.Laws.{KeepsRules, FreshIsSound}
 use Rattle.image_rules.proofs.WordLemmas.{image_spot-here}

@@ -4,14 +4,12 @@ use Rattle.std.proofs.lemmas.Bool.{cases_lt}
 use Rattle.std.proofs.lemmas.Nat.{mul-le}
 use Rattle.pm_words.specs.declared.layout.Layout.{Layout}
 use Rattle.pm_words.specs.Locations.{Header, Node, Line, image_parts, node_words, start_of, word_number}
-use Rattle.pm_words.specs.Offsets.{version_offset}
-use Rattle.data_node.specs.Lines.{state_offset}
+use Rattle.pm_words.specs.Offsets.{version_offset, state_offset, generation_offset}
 use Rattle.image_rules.specs.Lowest.{IsLowest, IsNumberOf}
 use Rattle.image_rules.specs.Rules.{header_generation, BreaksHeader, IsLater, BreaksVersions, IsUnfit, BreaksLines}
 use Rattle.version_lock.specs.Versions.{IsGeneration}
 use Rattle.image_rules.proofs.LowestLemmas.{Moves}
 use Rattle.image_rules.proofs.WordLemmas.{IsUsedSpare, used_number}
-use Rattle.image_rules.specs.Rules.{generation_offset}
 
 -- no word in front of the generation breaks the rule
 none_in_front : (l : Layout) (image : List ℕ) (lower : ℕ) → lower < 5 → ¬ IsNumberOf l (BreaksHeader l image) lower

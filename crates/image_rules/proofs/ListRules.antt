@@ -4,9 +4,10 @@ use Rattle.std.specs.Prelude.{Bool, nat_lt, not, IsTrue}
 use Rattle.std.proofs.lemmas.Bool.{cases_lt, lt-ltb, le-ltb, false≢true}
 use Rattle.pm_words.specs.declared.layout.Layout.{Layout}
 use Rattle.pm_words.specs.Locations.{Word, Node, word_number}
+use Rattle.pm_words.specs.Offsets.{next_offset, anchor_offset}
 use Rattle.cat_key.specs.Names.{AreNameWords}
 use Rattle.data_node.specs.Spots.{Spot}
-use Rattle.data_node.specs.Lists.{next_offset, anchor_offset, anchor_in, anchor_words}
+use Rattle.data_node.specs.Lists.{anchor_in, anchor_words}
 use Rattle.data_node.proofs.PositionLemmas.{position_in, in_position, position_bound, position_end}
 use Rattle.image_rules.specs.Lowest.{IsLowest, IsNumberOf}
 use Rattle.image_rules.specs.Nodes.{image_spot, image_list, IsListedAt, LeadWithin, next_in}

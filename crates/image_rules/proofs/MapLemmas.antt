@@ -11,7 +11,7 @@ use Rattle.cat_key.specs.Names.{IsName, name_cmp, words_of, bytes_of}
 use Rattle.cat_key.proofs.Packing.{bytes_of-words_of}
 use Rattle.data_node.proofs.SpotLemmas.{same_name}
 use Rattle.cat_history.specs.Maps.{Map, at}
-use Rattle.data_node.specs.Spots.{Spot, bitmap_offset, IsLiveIn, name_words, value_in, Finds, IsTidy}
+use Rattle.data_node.specs.Spots.{Spot, IsLiveIn, name_words, value_in, Finds, IsTidy}
 use Rattle.data_node.specs.Lists.{ListNode, anchor_in, key_of, target_from, IsMember, IsChain, Rise}
 use Rattle.data_node.proofs.ListLemmas.{not_behind, rise_at, target_in}
 use Rattle.image_rules.specs.Nodes.{image_spot, image_list, image_range, IsListedNode}
@@ -20,6 +20,7 @@ use Rattle.image_rules.proofs.WordLemmas.{image_spot-outside}
 use Rattle.std.proofs.lemmas.Nat.Bits.{bit_at-zero}
 use Rattle.image_rules.specs.Sound.{with_slots, with_nodes, IsMapOf}
 use Rattle.pm_words.specs.declared.layout.Layout.{Layout}
+use Rattle.pm_words.specs.Offsets.{bitmap_offset}
 use Rattle.image_rules.specs.Laws.{SoundHasMap, HasOneMap}
 use Rattle.image_rules.proofs.TidyLemmas.{sound_keeps}
 

@@ -7,7 +7,8 @@ use Rattle.cat_key.specs.Names.{IsName, words_of, fingerprint_of}
 use Rattle.cat_key.proofs.Packing.{words_tell_names}
 use Rattle.pm_words.specs.declared.layout.Layout.{Layout}
 use Rattle.pm_words.specs.Locations.{Word, Node, word_number}
-use Rattle.data_node.specs.Spots.{Spot, print_offset, slot_offset, IsLiveIn, name_words, print_in_spot}
+use Rattle.pm_words.specs.Offsets.{print_offset, slot_offset}
+use Rattle.data_node.specs.Spots.{Spot, IsLiveIn, name_words, print_in_spot}
 use Rattle.image_rules.specs.Lowest.{IsLowest, IsNumberOf}
 use Rattle.image_rules.specs.Nodes.{image_spot, IsListedAt}
 use Rattle.image_rules.specs.Rules.{IsMisprinted, IsRepeated, BreaksPrints, BreaksApart, BreaksBy, BreaksInNode}

@@ -7,14 +7,16 @@ use Rattle.cat_key.specs.Names.{IsName, AreNameWords, words_of, bytes_of, finger
 use Rattle.cat_key.proofs.Packing.{bytes_of-words_of}
 use Rattle.pm_words.specs.declared.layout.Layout.{Layout}
 use Rattle.pm_words.specs.Locations.{Word, Header, Node, Line, word_at}
-use Rattle.data_node.specs.Spots.{Spot, bitmap_offset, print_offset, slot_offset, IsLiveIn, name_words, print_in_spot, IsTidy}
+use Rattle.data_node.specs.Spots.{Spot, IsLiveIn, name_words, print_in_spot, IsTidy}
 use Rattle.std.specs.List.{AllByRecursion}
-use Rattle.data_node.specs.Lines.{IsEntry, IsFitLine, state_offset, kind_offset, line_node_offset, left_offset, spare_offset}
-use Rattle.data_node.specs.Lists.{ListNode, next_offset, anchor_offset, anchor_in, key_of, anchor_words, members_from, IsChain, Rise, MakeList}
+use Rattle.data_node.specs.Lines.{IsEntry, IsFitLine}
+use Rattle.data_node.specs.Lists.{ListNode, anchor_in, key_of, anchor_words, members_from, IsChain, Rise, MakeList}
 use Rattle.data_node.proofs.ListLemmas.{all_member}
 use Rattle.data_node.proofs.KeyLemmas.{anchor_named, named_anchor}
 use Rattle.data_node.proofs.PositionLemmas.{position_in, in_position, position_before, position_rise, chain_next, chain_member, StandOnce, once_few, all_positions, rise_positions, members_end}
-use Rattle.pm_words.specs.Offsets.{version_offset}
+use Rattle.pm_words.specs.Offsets.{version_offset, bitmap_offset, next_offset, anchor_offset, print_offset, slot_offset}
+use Rattle.pm_words.specs.Offsets.{state_offset, kind_offset, line_node_offset, left_offset, spare_offset}
+use Rattle.pm_words.specs.Offsets.{generation_offset}
 use Rattle.pm_words.specs.Codes.{empty_state, ready_state, split_kind, merge_kind}
 use Rattle.image_rules.specs.Nodes.{image_spot, image_list, IsListedNode, IsListedAt, next_in}
 use Rattle.image_rules.specs.Rules.{header_generation, IsSpare, line_spot, LeadsOut, LeadsBack, BreaksAnchors, BreaksNames, BreaksPrints, BreaksApart, BreaksBy}
@@ -25,7 +27,6 @@ use Rattle.image_rules.specs.Sound.{in_header, in_versions, leads_out, leads_bac
 use Rattle.image_rules.specs.Laws.{SoundKeepsRules, RulesMakeSound}
 use Rattle.image_rules.proofs.NameCases.{name_words_or_not}
 use Rattle.image_rules.proofs.WordLemmas.{image_spot-fits, image_spot-outside}
-use Rattle.image_rules.specs.Rules.{generation_offset}
 
 -- the bytes in a slot are those of the name whose words stand there
 text_of : (s : Spot) (slot : ℕ) (name : List ℕ) → IsName name → words_of name ≡ name_words s slot → bytes_of (name_words s slot) ≡ name

@@ -2,8 +2,9 @@
 use Rattle.std.specs.Prelude.{◌≡◌, ◌≢◌, ℕ, ◌<◌, ◌&&◌, Bool, nat_lt, if◌then◌else◌, List}
 use Rattle.pm_words.specs.declared.layout.Layout.{Layout}
 use Rattle.pm_words.specs.Locations.{Node, node_words, word_at}
+use Rattle.pm_words.specs.Offsets.{next_offset}
 use Rattle.data_node.specs.Spots.{Spot, IsLiveIn, name_words}
-use Rattle.data_node.specs.Lists.{ListNode, members_from, next_offset, IsIn, IsAtPosition, target_from, key_of}
+use Rattle.data_node.specs.Lists.{ListNode, members_from, IsIn, IsAtPosition, target_from, key_of}
 use Rattle.data_node.specs.Lists.{range_in}
 
 -- The words of a node of the image by their offsets, but for the version word.

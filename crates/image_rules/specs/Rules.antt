@@ -4,20 +4,18 @@
 use Rattle.std.specs.Prelude.{◌≡◌, ◌≢◌, ℕ, zero, suc, ◌*◌, ◌/◌, ◌%◌, ◌<◌, ◌≤◌, ◌^◌, ◌⊎◌, List}
 use Rattle.pm_words.specs.declared.layout.Layout.{Layout}
 use Rattle.pm_words.specs.Locations.{Word, Header, Root, Node, Line, word_at}
-use Rattle.pm_words.specs.Offsets.{version_offset}
+use Rattle.pm_words.specs.Offsets.{version_offset, bitmap_offset, next_offset, anchor_offset, print_offset, slot_offset}
+use Rattle.pm_words.specs.Offsets.{state_offset, generation_offset}
 use Rattle.version_lock.specs.Versions.{generation_of, IsGeneration}
 use Rattle.cat_key.specs.Names.{IsName, AreNameWords, words_of, fingerprint_of}
-use Rattle.data_node.specs.Spots.{Spot, bitmap_offset, print_offset, slot_offset, IsLiveIn, name_words, print_in_spot}
-use Rattle.data_node.specs.Lines.{IsFitLine, state_offset}
-use Rattle.data_node.specs.Lists.{next_offset, anchor_offset, anchor_in, anchor_words}
+use Rattle.data_node.specs.Spots.{Spot, IsLiveIn, name_words, print_in_spot}
+use Rattle.data_node.specs.Lines.{IsFitLine}
+use Rattle.data_node.specs.Lists.{anchor_in, anchor_words}
 use Rattle.image_rules.specs.Nodes.{image_spot, IsListedAt, next_in}
 use Rattle.image_rules.specs.declared.listed.NodeRule.{NodeRule}
 use Rattle.image_rules.specs.declared.listed.NodeRule.TheVariants.{Names, Prints, Apart}
 
--- The offset in the header of the number of the run that wrote it, and that number.
-abbrev pub generation_offset : ℕ
-generation_offset = 5
-
+-- The number of the run that wrote the image.
 abbrev pub header_generation : Layout → List ℕ → ℕ
 header_generation l image = word_at l image (Header generation_offset)
 

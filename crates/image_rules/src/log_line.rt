@@ -2,9 +2,9 @@
 
 ghost use Rattle.std.specs.Prelude.{◌≡◌, ◌+◌, ◌*◌, ◌/◌, ◌%◌, ◌<◌, ◌↔◌, [], ◌∷◌, IsTrue};
 ghost use Rattle.pm_words.specs.Locations.{Line, word_number};
+ghost use Rattle.pm_words.specs.Offsets.{anchor_offset};
 ghost use Rattle.cat_key.specs.Names.{AreNameWords};
 ghost use Rattle.data_node.specs.Lines.{IsEntry, IsFitLine};
-ghost use Rattle.data_node.specs.Lists.{anchor_offset};
 ghost use Rattle.image_rules.specs.Lowest.{IsLowest, IsNumberOf};
 ghost use Rattle.image_rules.specs.Rules.{line_spot, IsUnfit, BreaksLines};
 

@@ -3,8 +3,9 @@
 ghost use Rattle.std.specs.Prelude.{◌≡◌, ℕ, ◌<◌, ◌≤◌, ◌^◌, ◌↔◌, IsTrue, IfSome};
 ghost use Rattle.pm_words.specs.Layouts.{IsLayout};
 ghost use Rattle.pm_words.specs.Locations.{Node, node_words, word_number};
+ghost use Rattle.pm_words.specs.Offsets.{bitmap_offset, print_offset, slot_offset};
 ghost use Rattle.data_node.specs.Lists.{anchor_in, anchor_words};
-ghost use Rattle.data_node.specs.Spots.{bitmap_offset, print_offset, slot_offset, IsLiveIn, name_words, value_in};
+ghost use Rattle.data_node.specs.Spots.{IsLiveIn, name_words, value_in};
 ghost use Rattle.data_node.specs.Spots.{print_in_spot};
 ghost use Rattle.image_rules.specs.Lowest.{IsLowest};
 ghost use Rattle.image_rules.specs.Nodes.{image_spot, next_in, HasWords};

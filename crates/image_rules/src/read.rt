@@ -3,8 +3,9 @@
 ghost use Rattle.std.specs.Prelude.{◌≡◌, ◌+◌, ◌*◌, ◌<◌, ◌≤◌, ◌↔◌, [], ◌∷◌, IsTrue};
 ghost use Rattle.pm_words.specs.Layouts.{IsLayout};
 ghost use Rattle.pm_words.specs.Locations.{node_words};
-ghost use Rattle.data_node.specs.Lists.{anchor_words, anchor_offset};
-ghost use Rattle.data_node.specs.Spots.{bitmap_offset, slot_offset, IsLiveIn, name_words, value_in};
+ghost use Rattle.pm_words.specs.Offsets.{bitmap_offset, anchor_offset, slot_offset};
+ghost use Rattle.data_node.specs.Lists.{anchor_words};
+ghost use Rattle.data_node.specs.Spots.{IsLiveIn, name_words, value_in};
 ghost use Rattle.image_rules.specs.Nodes.{image_spot, next_in};
 ghost use Rattle.image_rules.specs.Rules.{line_spot};
 

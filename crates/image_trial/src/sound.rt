@@ -88,8 +88,8 @@ fn largest_image(alloc: Global) -> Result<Image> {
     let layout = Layout::new(NODES, SLOTS, CALLERS).map_err(|fault| anyhow!("{fault:?}"))?;
     let mut bytes = Image::fresh(alloc, layout)?.write(alloc)?;
     for node in 0..NODES {
-        let start = layout.node_word(node, 0);
-        let leaf = layout.leaf_word(7 * node % NODES, 0);
+        let start = layout.node_word(node, node::VERSION);
+        let leaf = layout.leaf_word(7 * node % NODES, leaf::KEY);
         put_names(&mut bytes, node, start);
         put_listed(&mut bytes, node, start, leaf);
     }

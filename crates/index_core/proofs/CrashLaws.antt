@@ -2,13 +2,13 @@
 use Rattle.std.proofs.Common.{◌≡◌, ℕ, zero, suc, ◌<◌, ◌≤◌, Bool, true, false, cond, refl, ◌∙◌, arith}
 use Rattle.pm_words.specs.Locations.{Header, image_words}
 use Rattle.pm_words.specs.Rows.{evicted}
+use Rattle.pm_words.specs.Offsets.{generation_offset}
 use Rattle.pm_words.proofs.Made.{durable_row-at}
 use Rattle.index_law.specs.Weights.{weight_sum}
 use Rattle.index_law.proofs.Weights.{evict_weighs}
 use Rattle.index_core.specs.Indexes.{Index, IsIndex, world}
 use Rattle.index_core.specs.CrashLaws.{is_chosen, evicted_by, crash_image, ChosenKeep, ChosenWeigh, CrashLeaves, CrashKeepsGeneration}
 use Rattle.std.specs.Prelude.{Option, Some, None, IfSome}
-use Rattle.image_rules.specs.Rules.{generation_offset}
 use Rattle.call_stages.specs.Stages.{placed_in}
 use Rattle.node_ops.specs.CallStages.{stage_of}
 use Rattle.node_ops.specs.RunningSteps.{running_call}

@@ -4,15 +4,15 @@ use Rattle.std.proofs.Common.{sym, ap, ◌∙◌, subst, arith, refl}
 use Rattle.std.specs.Prelude.{Option, nat_lt, ◌==◌}
 use Rattle.std.proofs.lemmas.Bool.{cases_eq, eq-eqb, ne_eqb}
 use Rattle.std.proofs.lemmas.List.{set-get_or}
-use Rattle.pm_words.specs.Codes.{free_status, live_status, gone_status, empty_state, merge_kind}
+use Rattle.pm_words.specs.Codes.{free_status, live_status, gone_status, empty_state, merge_kind, untaken_lock}
+use Rattle.pm_words.specs.Codes.{taken_lock}
 use Rattle.pm_words.specs.declared.layout.Layout.{Layout}
 use Rattle.pm_words.specs.declared.action.Action.{Action}
 use Rattle.pm_words.specs.declared.action.Action.TheVariants.{Load}
 use Rattle.pm_words.specs.Locations.{Location, Updater, Volatile, Cached, HasLocation, address_of, at}
 use Rattle.pm_words.specs.Rows.{IsRow, acted, got}
 use Rattle.pm_words.proofs.Apart.{at-set_other}
-use Rattle.pm_words.specs.Offsets.{stamp_offset, status_offset}
-use Rattle.data_node.specs.Lines.{state_offset}
+use Rattle.pm_words.specs.Offsets.{state_offset, left_offset, status_offset, stamp_offset}
 use Rattle.call_stages.specs.declared.once.Once.{Once}
 use Rattle.call_stages.specs.declared.once.Placed.{Placed}
 use Rattle.call_stages.specs.Stages.{Stage}
@@ -124,12 +124,12 @@ module _ (r : RowTerms) (ghosts : Ghosts) (words : List ℕ) (row : IsRow r.layo
       status_in-alike l words (acted l words a) m (λ there. keeps.others (Volatile m status_offset) (there, omega arith) refl)
 
   pub only_frees : {s : RowStage} {a : Action} {x : ℕ} {t : RowStage} → RowStep r s a x t → x ≡ got l words a → (s ≢ Resting → RowLawful r ghosts words s) → Stays a s
-  only_frees (takes_lock free) told is = let word : ℕ = at l words Updater in inl (apart Updater (cond (word == 0) 1 word) tt (λ e. cc))
-  only_frees (finds_held taken) told is = let word : ℕ = at l words Updater in inl (apart Updater (cond (word == 0) 1 word) tt (λ e. cc))
-  only_frees {s = s} (passes {j = j} here other) told is = loads (line_at l j 0) s
-  only_frees {s = s} (sees {j = j} seen here ready size) told is = loads (line_at l j 0) s
+  only_frees (takes_lock free) told is = let word : ℕ = at l words Updater in inl (apart Updater (cond (word == untaken_lock) taken_lock word) tt (λ e. cc))
+  only_frees (finds_held taken) told is = let word : ℕ = at l words Updater in inl (apart Updater (cond (word == untaken_lock) taken_lock word) tt (λ e. cc))
+  only_frees {s = s} (passes {j = j} here other) told is = loads (line_at l j state_offset) s
+  only_frees {s = s} (sees {j = j} seen here ready size) told is = loads (line_at l j state_offset) s
   only_frees {s = s} (reads {j = j} {offset = offset} here some_offset small named) told is = loads (line_at l j offset) s
-  only_frees {s = s} (has_read {j = j} here) told is = loads (line_at l j 6) s
+  only_frees {s = s} (has_read {j = j} here) told is = loads (line_at l j left_offset) s
   only_frees {s = s} (walks {address = address} here) told is = loads address s
   only_frees {s = s} (is_turned_back {address = address} here) told is = loads address s
   only_frees {s = s} (finds {address = address} here within free) told is = loads address s
@@ -153,7 +153,7 @@ module _ (r : RowTerms) (ghosts : Ghosts) (words : List ℕ) (row : IsRow r.layo
       (λ (other : m ≢ n). inl (apart (Volatile n status_offset) free_status (here, omega arith) (λ e. other (ap volatile_node e))))
       (cases_eq m n)
   only_frees {s = s} (counts {n = n} here) told is = loads (volatile_at l n status_offset) s
-  only_frees (leaves_lock done) told is = inl (apart Updater 0 tt (λ e. cc))
+  only_frees (leaves_lock done) told is = inl (apart Updater untaken_lock tt (λ e. cc))
 
 past_line : (r : RowTerms) (j n : ℕ) → after_line r j ≡ Frees n → ⊥
 past_line r j n is = by_test (nat_lt (j + 1) (line_count r.layout)) is

@@ -4,7 +4,7 @@ use Rattle.std.proofs.Common.{⊎_elim, length, refl, sym, ◌∙◌, subst, ari
 use Rattle.std.proofs.lemmas.Bool.{cases_eq, eqb-true}
 use Rattle.pm_words.specs.Codes.{free_status, empty_state}
 use Rattle.pm_words.specs.Locations.{Cached}
-use Rattle.data_node.specs.Lines.{state_offset}
+use Rattle.pm_words.specs.Offsets.{state_offset}
 use Rattle.updater.specs.updater_row_law.specs.Columns.{line_count, line_word}
 use Rattle.updater.specs.updater_row_law.proofs.RowColumns.{column-here}
 use Rattle.updater.specs.Events.{how_many}

@@ -41,7 +41,7 @@ use Rattle.lone_hops_law.specs.lone_updater_law.specs.Laws.{LoneTurning, GoesOn}
 use Rattle.lone_hops_law.specs.lone_updater_law.specs.LoneTurns.{line_state, frees_node, status_then, AreEmptyOrReady}
 use Rattle.lone_hops_law.specs.lone_updater_law.specs.LoneTurns.{IsIdle, IsLoneTurn}
 use Rattle.pm_words.specs.declared.layout.Layout.{Layout}
-use Rattle.data_node.specs.Lines.{state_offset}
+use Rattle.pm_words.specs.Offsets.{state_offset}
 use Rattle.index_law.specs.Facts.{Facts}
 use Rattle.index_law.specs.Worlds.{Party, World, facts}
 use Rattle.index_law.specs.Weights.{gone_weight, index_weight, weight_sum}

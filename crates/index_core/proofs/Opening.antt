@@ -13,8 +13,7 @@ use Rattle.pm_words.specs.declared.layout.Layout.{Layout}
 use Rattle.pm_words.specs.Locations.{Header, Volatile, Cached, at}
 use Rattle.version_lock.specs.declared.TheConstants.{LAST_COUNT}
 use Rattle.data_node.specs.Lists.{ListNode}
-use Rattle.pm_words.specs.Offsets.{stamp_offset}
-use Rattle.image_rules.specs.Rules.{generation_offset}
+use Rattle.pm_words.specs.Offsets.{stamp_offset, generation_offset}
 use Rattle.index_law.specs.Anchors.{anchors_of, gone_nodes}
 use Rattle.index_law.specs.Facts.{Facts}
 use Rattle.index_law.specs.Footed.{AreFree}

@@ -12,13 +12,13 @@ use Rattle.pm_words.specs.declared.again.Again.{Again}
 use Rattle.pm_words.specs.declared.again.Again.TheVariants as again
 use Rattle.pm_words.specs.declared.layout.Layout.{Layout}
 use Rattle.pm_words.specs.Locations.{Cached}
+use Rattle.pm_words.specs.Offsets.{next_offset, state_offset}
 use Rattle.cat_history.specs.Maps.{Map, at, map_of}
 use Rattle.cat_history.specs.Writes.{after_all}
 use Rattle.version_lock.specs.Versions.{IsWorn, is_worn_word}
 use Rattle.version_lock.proofs.WordTests.{worn_word, fresh_word}
-use Rattle.data_node.specs.Lists.{ListNode, next_offset, target_from, key_of}
+use Rattle.data_node.specs.Lists.{ListNode, target_from, key_of}
 use Rattle.data_node.proofs.ListLemmas.{target_in}
-use Rattle.data_node.specs.Lines.{state_offset}
 use Rattle.call_stages.specs.declared.once.Once.{Once}
 use Rattle.call_stages.specs.declared.once.Once.TheVariants as once
 use Rattle.call_stages.specs.declared.once.Placed.{Placed}

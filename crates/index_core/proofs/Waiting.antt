@@ -10,6 +10,7 @@ use Rattle.pm_words.specs.declared.machine.Turn.{Turn}
 use Rattle.pm_words.specs.declared.machine.Turn.TheVariants.{Go, Done}
 use Rattle.pm_words.specs.Locations.{Updater, address_of, at}
 use Rattle.pm_words.specs.Rows.{acted}
+use Rattle.pm_words.specs.Codes.{untaken_lock, taken_lock}
 use Rattle.index_law.specs.Anchors.{anchors_of}
 use Rattle.index_law.specs.Facts.{Facts}
 use Rattle.index_law.proofs.AnySteps.{set_own}
@@ -112,7 +113,7 @@ holder_is_busy (Some (Taking terms)) holds = absurd holds
 holder_is_busy (Some (Working work)) holds = work_is_busy work.terms work.at
 
 -- so the lock's word says that a party has it
-pub held_word : (s : Index) → IsIndex s → HasHolder s → at s.layout s.words Updater ≢ 0
+pub held_word : (s : Index) → IsIndex s → HasHolder s → at s.layout s.words Updater ≢ untaken_lock
 held_word s is held free = holder_is_busy held.state.turn held.holds (is.layered.lock free held.number (turn_of held.state) (map_there turn_of s.states held.number held.state held.there))
 
 -- A turn of the party i has begun, and another party's has the updater lock.
@@ -164,7 +165,7 @@ module _ (s0 s s' : Index) (i stamp release : ℕ) (o : Waits s0 s i stamp relea
   waits_held = t.answers ∙ ap turn_reply turned_is
 
   words_are : acted s0.layout s0.words (making_asks making) ≡ s0.words
-  words_are = ap (λ b. set s0.words (address_of s0.layout Updater) (cond b 1 word)) free_is ∙ set-get_or s0.words (address_of s0.layout Updater) 0
+  words_are = ap (λ b. set s0.words (address_of s0.layout Updater) (cond b taken_lock word)) free_is ∙ set-get_or s0.words (address_of s0.layout Updater) 0
 
   states_are : set (set s0.states i now) i (record (o.starts.state) { turn = None }) ≡ s0.states
   states_are =

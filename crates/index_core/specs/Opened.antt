@@ -6,9 +6,9 @@ use Rattle.cat_history.specs.declared.op.Write.{Write}
 use Rattle.pm_words.specs.declared.layout.Layout.{Layout}
 use Rattle.pm_words.specs.Images.{Row}
 use Rattle.pm_words.specs.Locations.{Header, Cached, at}
+use Rattle.pm_words.specs.Offsets.{generation_offset}
 use Rattle.version_lock.specs.declared.TheConstants.{LAST_COUNT}
 use Rattle.data_node.specs.Lists.{ListNode}
-use Rattle.image_rules.specs.Rules.{generation_offset}
 use Rattle.index_law.specs.Anchors.{anchors_in, anchors_of, gone_nodes}
 use Rattle.index_law.specs.Worlds.{facts}
 use Rattle.index_opening_law.specs.image_recovery_law.specs.Columns.{Columns}

@@ -18,8 +18,8 @@ use Rattle.index_law.proofs.Switch.{leads_on, inside_listed}
 use Rattle.cat_history.specs.Maps.{Map}
 use Rattle.cat_history.specs.declared.op.Write.{Write}
 use Rattle.data_node.specs.Spots.{Spot}
-use Rattle.data_node.specs.Lists.{next_offset, anchor_in}
-use Rattle.pm_words.specs.Offsets.{prev_offset, status_offset, version_offset}
+use Rattle.data_node.specs.Lists.{anchor_in}
+use Rattle.pm_words.specs.Offsets.{version_offset, next_offset, anchor_offset, status_offset, prev_offset}
 use Rattle.call_stages.specs.Kinds.{Told, HasWordAt, clock_address, word_address, version_address, status_address, prev_address, LeadsWithin}
 use Rattle.index_law.specs.Facts.{Facts, IsListed, facts_of, version_in}
 use Rattle.index_law.specs.Worlds.{World, facts}
@@ -91,7 +91,7 @@ given_fits (Add place) word small = small
 given_fits (Drain place value) word small = omega arith
 
 -- the place of a node's word is that of a version only if it is one
-version_alone : (l : Layout) (n offset m : ℕ) → HasWordAt l n offset → word_address l n offset ≡ version_address l m → (n ≡ m) × (offset ≡ 0)
+version_alone : (l : Layout) (n offset m : ℕ) → HasWordAt l n offset → word_address l n offset ≡ version_address l m → (n ≡ m) × (offset ≡ version_offset)
 version_alone l n offset m has same = same_from_place n offset m 0 (node_words l) has.1 (omega arith) (omega arith)
 
 abbrev loaded_from : Action → ℕ
@@ -214,10 +214,10 @@ told_met l g ws base history caller index since s a list knows n w h right here 
 anchor_zero : (s : Spot) → anchor_in s ≡ 0 → (offset : ℕ) → 3 ≤ offset → offset ≤ 5 → s offset ≡ 0
 unfolding anchor_in
 anchor_zero s zero offset least most = ⊎_elim
-    (λ (is : offset ≡ 3). ap s is ∙ omega (arith, zero))
+    (λ (is : offset ≡ anchor_offset). ap s is ∙ omega (arith, zero))
     (λ past. ⊎_elim
-    (λ (is : offset ≡ 4). ap s is ∙ omega (arith, zero))
-    (λ last. let is : offset ≡ 5 = omega (arith, past, last) in ap s is ∙ omega (arith, zero))
+    (λ (is : offset ≡ anchor_offset + 1). ap s is ∙ omega (arith, zero))
+    (λ last. let is : offset ≡ anchor_offset + 2 = omega (arith, past, last) in ap s is ∙ omega (arith, zero))
     (cases_eq offset 4))
     (cases_eq offset 3)
 

@@ -13,8 +13,7 @@ use Rattle.pm_words.specs.Locations.{address_of}
 use Rattle.pm_words.specs.Rows.{IsRow, CanAct, acted, got}
 use Rattle.pm_words.proofs.Apart.{addresses_within, addresses_apart, at-set_other}
 use Rattle.pm_words.proofs.Kept.{action_address-drain, acted_row, outside_header, names_cached, keeps_header}
-use Rattle.pm_words.specs.Offsets.{prev_offset, status_offset}
-use Rattle.data_node.specs.Lines.{state_offset}
+use Rattle.pm_words.specs.Offsets.{version_offset, next_offset, state_offset, status_offset, prev_offset}
 use Rattle.cat_history.specs.declared.op.Change.{Change}
 use Rattle.call_stages.specs.Stages.{Stage, HoldsNode, counted}
 use Rattle.call_stages.specs.Kinds.{HasWordAt, word_address, status_address, clock_address}
@@ -118,7 +117,7 @@ module _ (w : World) (lawful : Lawful w) where
 
   -- no permutation is a status
   past_status : (n offset : ℕ) → 2 < offset → (m : ℕ) → Volatile n offset ≢ Volatile m status_offset
-  past_status n offset least m same = let no : offset ≡ 0 = ap offset_in same in omega arith
+  past_status n offset least m same = let no : offset ≡ status_offset = ap offset_in same in omega arith
 
   beside_lawful : (a : Action) → IsBeside l a → Lawful (record w { words = acted l w.words a })
   beside_lawful a (loads_line {c = c} {j = j} {offset = offset} has) =
@@ -207,7 +206,7 @@ beside_status l n a here (loads_layer {w = v} place) is =
 beside_status l n a here (on_permutation (loads {n = m} {offset = o} low of)) is =
     let both = above o of in
     let same : Volatile m o ≡ Volatile n status_offset = addresses_apart l (Volatile m o) (Volatile n status_offset) (low, both.1) here (ap loaded_from is) in
-    let no : o ≡ 0 = ap offset_in same in
+    let no : o ≡ status_offset = ap offset_in same in
     let least = both.0 in
     absurd (omega arith)
 beside_status l n a here (on_permutation (stores low of fits)) is = cc
@@ -232,10 +231,10 @@ any_can w i p a lawful there (inr is) room =
       can = beside_can w lawful a is;
       told = record {
         fits = beside_fits w lawful a is;
-        known = λ n here load. absurd (beside_loads l n 0 a (here, omega arith) is load);
+        known = λ n here load. absurd (beside_loads l n version_offset a (here, omega arith) is load);
         first_live = λ load. absurd (beside_status l 0 a (nodes, omega arith) is load);
         first_anchor = λ offset least most load. absurd (beside_loads l 0 offset a (nodes, omega arith) is load);
-        first_next = λ load some. absurd (beside_loads l 0 2 a (nodes, omega arith) is load);
+        first_next = λ load some. absurd (beside_loads l 0 next_offset a (nodes, omega arith) is load);
       };
       leads = record {
         live = told_leads l w.generation w.words w.base w.history p.caller p.index p.since p.stage a known;

@@ -4,6 +4,7 @@ use Rattle.std.specs.Prelude.{◌==◌, ◌||◌, if◌then◌else◌, slice_get
 use Rattle.std.proofs.lemmas.Bool.{eqb-true, ne_eqb, leb-true, leb-false}
 use Rattle.std.proofs.lemmas.List.{append-nil, length-append}
 use Rattle.pm_words.specs.declared.layout.Layout.{Layout}
+use Rattle.pm_words.specs.Offsets.{next_offset}
 use Rattle.cat_history.specs.Maps.{Map, at}
 use Rattle.cat_history.specs.Writes.{name_of, after}
 use Rattle.cat_history.proofs.ChangeLemmas.{at-changed_other}
@@ -12,7 +13,7 @@ use Rattle.cat_history.specs.declared.op.Write.{Write}
 use Rattle.data_node.specs.Spots.{Spot, Means, updated}
 use Rattle.std.specs.List.{AllByRecursion}
 use Rattle.version_lock.specs.Versions.{IsFree, IsWorn}
-use Rattle.data_node.specs.Lists.{next_offset, StaysIn}
+use Rattle.data_node.specs.Lists.{StaysIn}
 use Rattle.call_stages.specs.Stages.{Knows, Held, Sight, Grip, Tells, AreCopies, Phase, Filling, Linked, Parted, Pace, Gathered, Joined, Gone, Stage, Idle, Saw, Wears, Reads, Holds, Eyes, Splits, Leaves, Meets, Joins, pended}
 use Rattle.index_law.specs.Facts.{Facts, map_now, range_of, cached_word, IsListed}
 use Rattle.index_law.specs.Lawful.{IsRead, SureReads, IsTime, HasWriteAt, IsPlaced, map_before, IsSettled, IsAsked, Stands, SureSaw, SureEyes, SureWears, SureHolds, SureGrip, IsAtPhase, IsList, SureCounted, IsAtPace, Sure}

@@ -1,6 +1,7 @@
 -- What a party has that claimed a node, and one that has a log line.
 use Rattle.std.proofs.Common.{◌≡◌, ◌≢◌, ℕ, ⊎_elim, true, false, List, refl, sym, ◌∙◌, subst}
 use Rattle.std.proofs.lemmas.Bool.{cases_eq}
+use Rattle.pm_words.specs.Offsets.{state_offset}
 use Rattle.data_node.specs.Spots.{Spot, updated}
 use Rattle.data_node.proofs.SpotLemmas.{updated-same, updated-other}
 use Rattle.call_stages.specs.Stages.{IsAmong, Tells}
@@ -22,9 +23,9 @@ clean_lines_are_durable l words e sure clean =
         | false ↦ λ unready. subst (Tells e.seen) (λ k o. sym (sure.clean o (spared o) (λ given. absurd (let no : true ≡ false = sym given.ready ∙ unready in cc))) k) sure.seen
         | true ↦ λ ready.
             let waits = sure.waits ready in
-            let same : (o : ℕ) → updated now 0 (safe 0) o ≡ safe o = λ o. ⊎_elim
-            (λ (zero : o ≡ 0). subst (λ k. updated now 0 (safe 0) k ≡ safe k) (sym zero) (updated-same now 0 (safe 0)))
-            (λ (other : o ≢ 0). updated-other now 0 (safe 0) o other ∙ sym (waits.durable o other))
+            let same : (o : ℕ) → updated now state_offset (safe 0) o ≡ safe o = λ o. ⊎_elim
+            (λ (zero : o ≡ 0). subst (λ k. updated now state_offset (safe 0) k ≡ safe k) (sym zero) (updated-same now state_offset (safe 0)))
+            (λ (other : o ≢ 0). updated-other now state_offset (safe 0) o other ∙ sym (waits.durable o other))
             (cases_eq o 0) in
             subst (Tells e.seen) (λ k o. same o k) (waits.blind now (safe 0) sure.seen)
       ] refl,

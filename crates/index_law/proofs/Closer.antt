@@ -17,10 +17,8 @@ use Rattle.call_stages.specs.Stages.{Stage}
 use Rattle.call_stages.specs.Kinds.{HasWordAt, word_address, Split, fills, lights, switches, glances_left, glances_fresh, drains_left, drains_fresh, trims, splits, Merge, meets, knows_own, knows_right, copies, takes_up, puts_down, parts, gathers, joins, glances_joined, drains_joined, retires, yields, merges, claims, publishes, leaves, Step, looks, locks, locks_read, stores, commits, drains, counts, unlocks}
 use Rattle.index_law.specs.Facts.{facts_of, cached_word, durable_spot, spot_in}
 use Rattle.index_law.specs.Lawful.{Sure}
-use Rattle.data_node.specs.Spots.{bitmap_offset}
-use Rattle.data_node.specs.Lists.{next_offset}
 use Rattle.std.proofs.lemmas.List.{set-get_or}
-use Rattle.pm_words.specs.Offsets.{status_offset, version_offset}
+use Rattle.pm_words.specs.Offsets.{version_offset, bitmap_offset, next_offset, status_offset}
 use Rattle.index_law.proofs.Backing.{Drained, SplitDrained, MergeDrained}
 use Rattle.index_law.proofs.Moves.{look_keeps}
 use Rattle.index_law.proofs.Rows.{in_spot, cached_word-here}

@@ -6,8 +6,9 @@ use Rattle.std.proofs.lemmas.Bool.{eq-eqb, leb-true, le-leb}
 use Rattle.cat_key.specs.Names.{IsName, AreNameWords, words_of, bytes_of, fingerprint_of}
 use Rattle.cat_key.proofs.Packing.{bytes_of-words_of}
 use Rattle.cat_history.specs.Maps.{Map, at}
+use Rattle.pm_words.specs.Offsets.{bitmap_offset, slot_offset}
 use Rattle.data_node.specs.Slots.{AreAllLive}
-use Rattle.data_node.specs.Spots.{Spot, Means, Finds, bitmap_offset, slot_offset, IsLiveIn, name_words, value_in, print_in_spot}
+use Rattle.data_node.specs.Spots.{Spot, Means, Finds, IsLiveIn, name_words, value_in, print_in_spot}
 use Rattle.data_node.specs.Lists.{key_of, three_words, StaysIn}
 use Rattle.data_node.specs.Weights.{names_in}
 use Rattle.call_stages.specs.Kinds.{from_key}

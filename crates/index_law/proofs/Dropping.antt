@@ -4,6 +4,7 @@ use Rattle.std.proofs.lemmas.Bool.{lt-leb, cases_eq}
 use Rattle.std.specs.FinMap.{keys}
 use Rattle.std.specs.List.{last_or, AllByRecursion}
 use Rattle.pm_words.specs.declared.layout.Layout.{Layout}
+use Rattle.pm_words.specs.Offsets.{next_offset}
 use Rattle.cat_key.specs.Names.{IsName}
 use Rattle.cat_history.specs.Maps.{Map, at}
 use Rattle.shapes.specs.Anchors.{below, Anchors, AreAnchors, is_under, is_between, names_between, up_to, past, target_of, next_of}
@@ -14,7 +15,7 @@ use Rattle.shapes.proofs.NameLists.{all_by, filter-keeps, filter-drops, filter-a
 use Rattle.shapes.proofs.Targets.{Parted, part, target-is, next-is, rise-second, names-joined}
 use Rattle.data_node.specs.Spots.{Spot, Means}
 use Rattle.data_node.specs.Weights.{names_in}
-use Rattle.data_node.specs.Lists.{ListNode, next_offset, anchor_in, key_of, target_from, IsMember, IsChain, Rise, without_member}
+use Rattle.data_node.specs.Lists.{ListNode, anchor_in, key_of, target_from, IsMember, IsChain, Rise, without_member}
 use Rattle.data_node.proofs.RangeNames.{range_names}
 use Rattle.call_stages.specs.Stages.{Gathered}
 use Rattle.index_law.specs.Facts.{Facts, map_now, range_of, IsListed}

@@ -9,11 +9,12 @@ use lib.ListN.{get_elem?}
 use Rattle.version_lock.specs.Versions.{IsFree}
 use Rattle.cat_key.specs.Names.{IsName}
 use Rattle.cat_history.specs.declared.op.Change.{Change}
+use Rattle.pm_words.specs.Offsets.{next_offset}
 use Rattle.data_node.specs.Spots.{Spot, Means}
 use Rattle.data_node.specs.Weights.{names_in}
 use Rattle.data_node.proofs.NameCounts.{same_names}
 use Rattle.call_stages.specs.Kinds.{from_key}
-use Rattle.data_node.specs.Lists.{ListNode, next_offset, key_of, anchor_in, target_from, IsMember, IsIn, IsChain, Rise}
+use Rattle.data_node.specs.Lists.{ListNode, key_of, anchor_in, target_from, IsMember, IsIn, IsChain, Rise}
 use Rattle.call_stages.specs.Stages.{Held, Grip, Filling, Linked, Parted, Gathered, Joined, Gone, Stage, Idle, Saw, Wears, Reads, Holds, Eyes, Splits, Leaves, Meets, Joins, pended, pending_in}
 use Rattle.index_law.specs.Facts.{Facts, map_now, range_of, durable_spot, IsListed}
 use Rattle.index_law.specs.Twins.{BacksStage}

@@ -13,9 +13,7 @@ use Rattle.pm_words.specs.Rows.{evicted}
 use Rattle.pm_words.proofs.Apart.{at-set_other}
 use Rattle.pm_words.proofs.Made.{fresh_at}
 use Rattle.data_node.specs.Spots.{Spot}
-use Rattle.data_node.specs.Lists.{next_offset}
-use Rattle.data_node.specs.Lines.{state_offset}
-use Rattle.pm_words.specs.Offsets.{prev_offset, stamp_offset, status_offset}
+use Rattle.pm_words.specs.Offsets.{next_offset, state_offset, status_offset, prev_offset, stamp_offset}
 use Rattle.call_stages.specs.Stages.{Stage, Idle, HoldsNode, Tells}
 use Rattle.call_stages.specs.Kinds.{HasWordAt}
 use Rattle.call_stages.specs.Lines.{HeldLine}

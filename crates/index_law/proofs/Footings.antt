@@ -11,8 +11,8 @@ use Rattle.pm_words.specs.declared.action.Action.TheVariants.{Load}
 use Rattle.pm_words.specs.Locations.{Location, Line, Volatile, Cached, Durable, HasLocation, at, Word, address_of}
 use Rattle.pm_words.proofs.Apart.{at-set_other}
 use Rattle.pm_words.specs.Rows.{acted}
+use Rattle.pm_words.specs.Offsets.{state_offset}
 use Rattle.pm_words.proofs.Kept.{action_address-drain}
-use Rattle.data_node.specs.Lines.{state_offset}
 use Rattle.call_stages.specs.Stages.{Stage, counted}
 use Rattle.call_stages.specs.Kinds.{Step}
 use Rattle.call_stages.specs.Lines.{HeldLine, line_address, Notes, passes_line, takes, looks_up, notes, keeps_safe}
@@ -163,7 +163,7 @@ foot_keeps z i p f t a x r whole tended there at owing stage (foot.on_nodes {sta
     let sure = whole.joint.lawful.sure i p there in
     let allowed : Allowed w.layout p.stage a = allow_law w.layout w.generation p.stage a x next r (sure_within w.layout w.generation (facts w) p.caller p.index p.since p.stage sure) k' in (
       whole_node z i p a x next r line after d d' whole there at owing kept' k' told room deals',
-      tended_same z i p whole tended there next line after (stepped w i p a next) (slice_set z.debts i d') refl at kept (λ c j. (nodes_leave_lines w.layout w.words p.stage a c j 0 allowed).0),
+      tended_same z i p whole tended there next line after (stepped w i p a next) (slice_set z.debts i d') refl at kept (λ c j. (nodes_leave_lines w.layout w.words p.stage a c j state_offset allowed).0),
     )
 foot_keeps z i p f t a x r whole tended there at owing stage (foot.on_line {stage = s} {line = line} {after = after} {debt = d} waits none is k own) told room =
     let w = z.world in

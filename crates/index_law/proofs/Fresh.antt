@@ -17,15 +17,14 @@ use Rattle.pm_words.proofs.Made.{fresh_at}
 use Rattle.version_lock.specs.Versions.{generation_of, IsFree}
 use Rattle.data_node.proofs.SpotLemmas.{means_empty}
 use Rattle.call_stages.specs.Kinds.{HasWordAt, word_address, status_address}
-use Rattle.data_node.specs.Spots.{Finds, bitmap_offset}
-use Rattle.data_node.specs.Lists.{next_offset, anchor_in}
+use Rattle.data_node.specs.Spots.{Finds}
+use Rattle.data_node.specs.Lists.{anchor_in}
 use Rattle.index_law.specs.Facts.{Facts, facts_of, version_in, status_in, spot_in, list_in, durable_spot, range_of, IsListed}
 use Rattle.index_law.specs.Worlds.{Party, facts}
 use Rattle.index_law.specs.Lawful.{IsList, AreLive, IsSettled, AreKnown}
 use Rattle.index_law.specs.Twins.{IsBlank, IsFront}
 use Rattle.data_node.proofs.ListLemmas.{chain_is}
-use Rattle.pm_words.specs.Offsets.{status_offset, version_offset}
-use Rattle.image_rules.specs.Rules.{generation_offset}
+use Rattle.pm_words.specs.Offsets.{version_offset, bitmap_offset, next_offset, status_offset, generation_offset}
 use Rattle.index_law.proofs.Actions.{status_outside}
 use Rattle.index_law.proofs.Twins.{IsNearer, nearer, store_closer, closer_spot, closer_versions, closer_front, cached_front}
 use Rattle.index_law.specs.Laws.{marked_row, fresh_row, FreshIsAtRest, fresh_world}

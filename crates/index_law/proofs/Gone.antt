@@ -3,8 +3,8 @@ use Rattle.std.proofs.Common.{◌≡◌, ℕ, ◌⊎◌, inl, inr, ⊎_elim, ref
 use Rattle.std.specs.Prelude.{Option}
 use Rattle.pm_words.specs.declared.layout.Layout.{Layout}
 use Rattle.pm_words.specs.declared.action.Action.{Action}
+use Rattle.pm_words.specs.Offsets.{next_offset}
 use Rattle.version_lock.specs.Versions.{IsFree}
-use Rattle.data_node.specs.Lists.{next_offset}
 use Rattle.call_stages.specs.declared.once.Once.{Once}
 use Rattle.call_stages.specs.declared.once.Placed.{Placed}
 use Rattle.call_stages.specs.Stages.{Stage}

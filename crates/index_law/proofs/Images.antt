@@ -11,11 +11,11 @@ use Rattle.data_node.specs.Lines.{IsFitLine}
 use Rattle.data_node.specs.Lists.{members_from, range_in, IsIn, MakeList}
 use Rattle.data_node.specs.Weights.{list_weight}
 use Rattle.data_node.proofs.LineLemmas.{fit_alike}
-use Rattle.pm_words.specs.Offsets.{version_offset}
+use Rattle.pm_words.specs.Offsets.{version_offset, generation_offset}
 use Rattle.image_rules.specs.Nodes.{image_spot}
 use Rattle.image_rules.specs.Sound.{image_map}
 use Rattle.image_rules.specs.Laws.{KeepsRules}
-use Rattle.image_rules.specs.Rules.{IsSpare, line_spot, generation_offset}
+use Rattle.image_rules.specs.Rules.{IsSpare, line_spot}
 use Rattle.image_rules.proofs.TidyLemmas.{keeps_sound}
 use Rattle.image_rules.proofs.MapLemmas.{sound_has_map}
 use Rattle.index_law.specs.Twins.{IsBlank}

@@ -8,10 +8,10 @@ use mathlib.Core.Option.{some, some-injective, some-ne-none}
 use lib.ListN.{get_elem?}
 use Rattle.pm_words.specs.Codes.{live_status, gone_status}
 use Rattle.pm_words.specs.declared.layout.Layout.{Layout}
+use Rattle.pm_words.specs.Offsets.{bitmap_offset}
 use Rattle.version_lock.specs.Versions.{IsFree}
 use Rattle.data_node.specs.Lists.{ListNode, IsMember}
 use Rattle.data_node.specs.Slots.{AreAllLive}
-use Rattle.data_node.specs.Spots.{bitmap_offset}
 use Rattle.data_node.specs.Weights.{names_in, total}
 use Rattle.call_stages.specs.Stages.{Held, Grip, Filling, Linked, Parted, Gathered, Joined, Gone, Stage, Idle, Saw, Wears, Reads, Holds, Eyes, Splits, Leaves, Meets, Joins, HoldsNode}
 use Rattle.index_law.specs.Facts.{Facts, range_of, IsListed}

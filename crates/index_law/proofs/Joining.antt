@@ -6,10 +6,11 @@ use Rattle.std.proofs.lemmas.Bool.{ne_eqb, eq-eqb}
 use Rattle.pm_words.specs.Codes.{gone_status}
 use Rattle.pm_words.specs.declared.layout.Layout.{Layout}
 use Rattle.pm_words.specs.declared.action.Action.{Action}
+use Rattle.pm_words.specs.Offsets.{bitmap_offset, next_offset}
 use Rattle.version_lock.specs.Versions.{IsFree}
 use Rattle.cat_history.specs.declared.op.Change.{Change}
-use Rattle.data_node.specs.Spots.{Spot, Means, updated, bitmap_offset}
-use Rattle.data_node.specs.Lists.{next_offset, anchor_in, StaysIn}
+use Rattle.data_node.specs.Spots.{Spot, Means, updated}
+use Rattle.data_node.specs.Lists.{anchor_in, StaysIn}
 use Rattle.data_node.specs.Weights.{names_in}
 use Rattle.data_node.proofs.SpotLemmas.{updated-same, updated-other}
 use Rattle.data_node.proofs.NameCounts.{same_names}

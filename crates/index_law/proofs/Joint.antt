@@ -9,8 +9,8 @@ use Rattle.pm_words.specs.declared.layout.Layout.{Layout}
 use Rattle.pm_words.specs.declared.action.Action.TheVariants.{Load}
 use Rattle.pm_words.specs.Locations.{Line, Cached, Durable, HasWord, at}
 use Rattle.pm_words.specs.Rows.{acted}
+use Rattle.pm_words.specs.Offsets.{state_offset}
 use Rattle.data_node.specs.Spots.{Spot}
-use Rattle.data_node.specs.Lines.{state_offset}
 use Rattle.call_stages.specs.Stages.{Tells}
 use Rattle.call_stages.specs.Lines.{HeldLine, line_address, passes_line, takes}
 use Rattle.index_law.specs.Worlds.{Party, facts, moved_on}

@@ -5,11 +5,11 @@ use Rattle.std.proofs.lemmas.Bool.{cases_eq, eq-eqb, ne_eqb}
 use Rattle.pm_words.specs.Codes.{live_status, gone_status}
 use Rattle.pm_words.specs.declared.layout.Layout.{Layout}
 use Rattle.pm_words.specs.declared.action.Action.{Action}
+use Rattle.pm_words.specs.Offsets.{bitmap_offset, next_offset}
 use Rattle.version_lock.specs.Versions.{IsFree}
-use Rattle.data_node.specs.Spots.{bitmap_offset}
 use Rattle.cat_key.specs.Names.{IsName}
 use Rattle.std.specs.List.{AllByRecursion}
-use Rattle.data_node.specs.Lists.{ListNode, next_offset, IsChain, Rise, key_of}
+use Rattle.data_node.specs.Lists.{ListNode, IsChain, Rise, key_of}
 use Rattle.call_stages.specs.declared.once.Once.{Once}
 use Rattle.call_stages.specs.declared.once.Placed.{Placed}
 use Rattle.call_stages.specs.Stages.{Stage}

@@ -5,6 +5,7 @@ use Rattle.std.proofs.lemmas.Bool.{eq-eqb, ne_eqb, cases_eq}
 use Rattle.pm_words.specs.Codes.{live_status, gone_status}
 use Rattle.pm_words.specs.declared.layout.Layout.{Layout}
 use Rattle.pm_words.specs.declared.action.Action.{Action}
+use Rattle.pm_words.specs.Offsets.{bitmap_offset, next_offset}
 use Rattle.version_lock.specs.Versions.{generation_of, IsFree, IsWorn}
 use Rattle.version_lock.proofs.VersionFacts.{locked-rises}
 use Rattle.cat_history.specs.Writes.{name_of}
@@ -13,8 +14,7 @@ use Rattle.data_node.specs.Spots.{Spot, Means, updated}
 use Rattle.call_stages.specs.declared.once.Once.{Once}
 use Rattle.call_stages.specs.declared.once.Placed.{Placed}
 use Rattle.cat_history.specs.Maps.{Map}
-use Rattle.data_node.specs.Lists.{next_offset, StaysIn}
-use Rattle.data_node.specs.Spots.{bitmap_offset}
+use Rattle.data_node.specs.Lists.{StaysIn}
 use Rattle.data_node.proofs.SpotLemmas.{updated-same}
 use Rattle.call_stages.specs.Stages.{Held, Grip, Tells, Filling, Stage, Idle, Saw, Wears, Reads, Holds, Eyes, Splits, Leaves, Meets, Joins, pended}
 use Rattle.call_stages.specs.Kinds.{IsContent, IsCut, finds_live, watches, watches_next, turns_away, steps_back, wanders, Look, Split, fills, lights, switches, glances_left, glances_fresh, drains_left, drains_fresh, trims, splits, Merge, meets, knows_own, knows_right, copies, takes_up, puts_down, parts, gathers, joins, glances_joined, drains_joined, retires, yields, merges, peeks, peeks_status, eyes, eyes_free, passes, loses, claims, publishes, leaves}

@@ -5,7 +5,8 @@ use Rattle.std.specs.Int.{bit_at}
 use Rattle.std.proofs.lemmas.Bool.{eqb-true}
 use Rattle.cat_key.specs.Names.{bytes_of}
 use Rattle.cat_key.proofs.Packing.{bytes_of-words_of}
-use Rattle.data_node.specs.Spots.{Spot, IsTidy, bitmap_offset, name_words}
+use Rattle.pm_words.specs.Offsets.{bitmap_offset}
+use Rattle.data_node.specs.Spots.{Spot, IsTidy, name_words}
 use Rattle.data_node.specs.Lists.{StaysIn}
 use Rattle.data_node.specs.Weights.{has_name_in, names_in}
 use Rattle.index_law.specs.Facts.{range_of}

@@ -21,9 +21,7 @@ use Rattle.call_stages.specs.Kinds.{Read, views, views_live, views_word, views_n
 use Rattle.call_stages.specs.Kinds.{Look, turns_back, is_worn, wears, roams, roams_status, sees, misses, misses_read, times, learns, decides, glances, finds_live, watches, watches_next, turns_away, steps_back, wanders, Split, fills, lights, switches, glances_left, glances_fresh, drains_left, drains_fresh, trims, splits, Merge, meets, knows_own, knows_right, copies, takes_up, puts_down, parts, gathers, joins, glances_joined, drains_joined, retires, yields, merges, peeks, peeks_status, eyes, eyes_free, passes, loses, claims, publishes, leaves, Step, looks, locks, locks_read, stores, commits, drains, counts, unlocks, clock_address, word_address, version_address}
 use Rattle.index_law.specs.Facts.{Facts, facts_of, cached_word, spot_in, map_now, range_of}
 use Rattle.index_law.specs.Worlds.{written}
-use Rattle.data_node.specs.Spots.{bitmap_offset}
-use Rattle.data_node.specs.Lists.{next_offset}
-use Rattle.pm_words.specs.Offsets.{status_offset, version_offset}
+use Rattle.pm_words.specs.Offsets.{version_offset, bitmap_offset, next_offset, status_offset}
 use Rattle.call_stages.specs.Kinds.{status_address, prev_address, IsContent}
 use Rattle.index_law.specs.Facts.{IsListed}
 use Rattle.index_law.specs.Lawful.{IsList, Sure}

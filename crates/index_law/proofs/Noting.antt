@@ -12,11 +12,9 @@ use Rattle.pm_words.proofs.Apart.{at-set_same, at-set_other, addresses_within}
 use Rattle.pm_words.proofs.Kept.{action_address-drain, acted_row, outside_header, names_cached, keeps_header}
 use Rattle.data_node.specs.Spots.{Spot, updated}
 use Rattle.data_node.proofs.SpotLemmas.{updated-same, updated-other}
-use Rattle.data_node.specs.Lines.{state_offset}
 use Rattle.data_node.proofs.LineLemmas.{entry_alike}
-use Rattle.pm_words.specs.Offsets.{status_offset, version_offset}
+use Rattle.pm_words.specs.Offsets.{version_offset, state_offset, status_offset, generation_offset}
 use Rattle.pm_words.specs.Codes.{ready_state, empty_state, open_state}
-use Rattle.image_rules.specs.Rules.{generation_offset}
 use Rattle.call_stages.specs.Stages.{IsAmong, Held, just_held, Tells}
 use Rattle.call_stages.specs.Kinds.{Cleans, word_address, status_address, prev_address, clock_address}
 use Rattle.call_stages.specs.Lines.{HeldLine, line_address, IsEntry, IsFitLine, Marks, fills, opens, readies, TellsDurably, looks_up, notes, keeps_safe}
@@ -88,8 +86,8 @@ nodes_leave_lines l words s a c j offset loads_clock = load_leaves l words (acte
 nodes_leave_lines l words s a c j offset (loads_word {n = n} {offset = o} has) = load_leaves l words (acted l words a) (set-get_or words (word_address l n o) 0) c j offset
 nodes_leave_lines l words s a c j offset (loads_status {n = n} here) = load_leaves l words (acted l words a) (set-get_or words (status_address l n) 0) c j offset
 nodes_leave_lines l words s a c j offset (loads_prev {n = n} here) = load_leaves l words (acted l words a) (set-get_or words (prev_address l n) 0) c j offset
-nodes_leave_lines l words s a c j offset (exchanges {n = n} here) = store_leaves l words (Cached (Node n version_offset)) _ (here, omega arith) (no_line_node n 0) c j offset
-nodes_leave_lines l words s a c j offset (exchanges_read {n = n} here small) = store_leaves l words (Cached (Node n version_offset)) _ (here, omega arith) (no_line_node n 0) c j offset
+nodes_leave_lines l words s a c j offset (exchanges {n = n} here) = store_leaves l words (Cached (Node n version_offset)) _ (here, omega arith) (no_line_node n state_offset) c j offset
+nodes_leave_lines l words s a c j offset (exchanges_read {n = n} here small) = store_leaves l words (Cached (Node n version_offset)) _ (here, omega arith) (no_line_node n state_offset) c j offset
 nodes_leave_lines l words s a c j offset (stores_word {n = n} {y = y} {offset = o} holds has positive small) = store_leaves l words (Cached (Node n o)) y has (no_line_node n o) c j offset
 nodes_leave_lines l words s a c j offset (stores_status {n = n} {y = y} holds here small) =
     store_leaves l words (Volatile n status_offset) y (here, omega arith) (λ d k q. (λ e. cc, λ e. cc)) c j offset
@@ -97,12 +95,12 @@ nodes_leave_lines l words s a c j offset (drains_word {n = n} {y = y} {offset = 
     subst (λ (address : ℕ). LinesStay l words (slice_set words address y) c j offset) (sym (action_address-drain l (Node n o) y))
     (store_leaves l words (Durable (Node n o)) y has (λ d k q. (λ e. cc, λ e. cc)) c j offset)
 nodes_leave_lines l words s a c j offset adds = store_leaves l words Clock _ tt (λ d k q. (λ e. cc, λ e. cc)) c j offset
-nodes_leave_lines l words s a c j offset (claims_node {m = m} here) = store_leaves l words (Cached (Node m version_offset)) _ (here, omega arith) (no_line_node m 0) c j offset
-nodes_leave_lines l words s a c j offset (frees_fresh {fresh = fresh} here next) = store_leaves l words (Cached (Node fresh.node version_offset)) _ (here, omega arith) (no_line_node fresh.node 0) c j offset
-nodes_leave_lines l words s a c j offset (frees_left {left = left} here next) = store_leaves l words (Cached (Node left.node version_offset)) _ (here, omega arith) (no_line_node left.node 0) c j offset
-nodes_leave_lines l words s a c j offset (frees_met {right = right} here next) = store_leaves l words (Cached (Node right.node version_offset)) _ (here, omega arith) (no_line_node right.node 0) c j offset
-nodes_leave_lines l words s a c j offset (frees_right {right = right} here next) = store_leaves l words (Cached (Node right.node version_offset)) _ (here, omega arith) (no_line_node right.node 0) c j offset
-nodes_leave_lines l words s a c j offset (frees {n = n} here next) = store_leaves l words (Cached (Node n version_offset)) _ (here, omega arith) (no_line_node n 0) c j offset
+nodes_leave_lines l words s a c j offset (claims_node {m = m} here) = store_leaves l words (Cached (Node m version_offset)) _ (here, omega arith) (no_line_node m state_offset) c j offset
+nodes_leave_lines l words s a c j offset (frees_fresh {fresh = fresh} here next) = store_leaves l words (Cached (Node fresh.node version_offset)) _ (here, omega arith) (no_line_node fresh.node state_offset) c j offset
+nodes_leave_lines l words s a c j offset (frees_left {left = left} here next) = store_leaves l words (Cached (Node left.node version_offset)) _ (here, omega arith) (no_line_node left.node state_offset) c j offset
+nodes_leave_lines l words s a c j offset (frees_met {right = right} here next) = store_leaves l words (Cached (Node right.node version_offset)) _ (here, omega arith) (no_line_node right.node state_offset) c j offset
+nodes_leave_lines l words s a c j offset (frees_right {right = right} here next) = store_leaves l words (Cached (Node right.node version_offset)) _ (here, omega arith) (no_line_node right.node state_offset) c j offset
+nodes_leave_lines l words s a c j offset (frees {n = n} here next) = store_leaves l words (Cached (Node n version_offset)) _ (here, omega arith) (no_line_node n state_offset) c j offset
 
 -- lines in order stay so in a closer row with the same cached words
 fits_closer : (l : Layout) (words words' : List ℕ) → ((c j offset : ℕ) → line_in l words' c j offset ≡ line_in l words c j offset)
@@ -291,7 +289,7 @@ marked_waits : (l : Layout) (e : HeldLine) (offset y : ℕ) (seen : List (ℕ ×
 marked_waits l e offset y seen ready (fills other unready is_empty) now safe now' safe' told clean fit stored stays is = absurd (cc)
 marked_waits l e offset y seen ready (opens unready is_empty) now safe now' safe' told clean fit stored stays is = absurd (cc)
 marked_waits l e offset y seen ready (readies unready durable is_open blind) now safe now' safe' told clean fit stored stays is =
-    let beside : (o : ℕ) → o ≢ 0 → now' o ≡ now o = λ o other. stored o ∙ updated-other now state_offset ready_state o other in
+    let beside : (o : ℕ) → o ≢ state_offset → now' o ≡ now o = λ o other. stored o ∙ updated-other now state_offset ready_state o other in
     let entry : IsEntry l now = ⊎_elim (λ none. absurd (let opened : now state_offset ≡ open_state = is_open now told in omega arith)) (λ entry. entry) fit in
     record {
       state = inr (stored state_offset ∙ updated-same now state_offset ready_state);
@@ -337,7 +335,7 @@ module _ (w : World) (e : HeldLine) (lawful : Lawful w) (fit : AreFit w.layout w
   drained_clean o other spared given = safe_other e.caller e.number o (inr (inr other)) ∙ sure.clean o (λ among. ⊎_elim other spared (cleans o among)) given ∙ sym (line_stays e.caller e.number o)
 
   -- a line that waits goes on to
-  drained_waits : (offset ≡ 0) ⊎ (y ≡ line_in w.layout w.words e.caller e.number offset) → e.ready ≡ true → IsWaiting w.layout e.seen (line_in w.layout drained e.caller e.number) (safe_line w.layout drained e.caller e.number)
+  drained_waits : (offset ≡ state_offset) ⊎ (y ≡ line_in w.layout w.words e.caller e.number offset) → e.ready ≡ true → IsWaiting w.layout e.seen (line_in w.layout drained e.caller e.number) (safe_line w.layout drained e.caller e.number)
   drained_waits what ready =
       let waits = sure.waits ready in
       let same : line_in w.layout drained e.caller e.number ≡ line_in w.layout w.words e.caller e.number = same_spots _ _ (line_stays e.caller e.number) in
@@ -364,7 +362,7 @@ module _ (w : World) (e : HeldLine) (lawful : Lawful w) (fit : AreFit w.layout w
           let given' : IsGiven e o → ⊥ = (λ g. given (record { ready = g.ready; state = g.state })) in
           ⊎_elim (λ (same : o ≡ offset). own o same given') (λ (other : o ≢ offset). drained_clean o other spared given') (cases_eq o offset);
       hand = tt;
-      unready = λ own_line two. sure.unready own_line (sym (line_stays e.caller e.number 0) ∙ two);
+      unready = λ own_line two. sure.unready own_line (sym (line_stays e.caller e.number state_offset) ∙ two);
       waits = waits;
     };
     others = λ c j o other. (line_stays c j o, safe_other c j o (inl other));
@@ -393,7 +391,7 @@ module _ (w : World) (e : HeldLine) (lawful : Lawful w) (fit : AreFit w.layout w
           (cases_eq c e.caller)
 
   -- or a state of a line that waits
-  drains_given : IsGiven e offset → y ≡ 2 → NoteLaw w (Drain (line_address w.layout e.caller e.number offset) y) e (Some (record e { dirty = dirty; hand = None }))
+  drains_given : IsGiven e offset → y ≡ ready_state → NoteLaw w (Drain (line_address w.layout e.caller e.number offset) y) e (Some (record e { dirty = dirty; hand = None }))
   drains_given given what =
       let waits = sure.waits given.ready in
       note_law
@@ -414,7 +412,7 @@ module _ (w : World) (e : HeldLine) (lawful : Lawful w) (fit : AreFit w.layout w
       (λ o same not. absurd (not (record { ready = given.ready; state = same ∙ given.state })))
       (drained_waits (inl given.state))
     where
-      zeroth : offset ≡ 0 → safe_line w.layout drained e.caller e.number 0 ≡ y
+      zeroth : offset ≡ state_offset → safe_line w.layout drained e.caller e.number 0 ≡ y
       zeroth zero = (λ k. safe_line w.layout drained e.caller e.number (sym zero k)) ∙ safe_own
 
       cases_line : (c j : ℕ) → ((c ≡ e.caller) × (j ≡ e.number)) ⊎ ((c ≢ e.caller) ⊎ (j ≢ e.number))

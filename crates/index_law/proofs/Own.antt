@@ -6,6 +6,7 @@ use Rattle.std.proofs.lemmas.Bool.{ne_eqb, eq-eqb}
 use Rattle.std.proofs.lemmas.List.{length-append}
 use Rattle.pm_words.specs.declared.layout.Layout.{Layout}
 use Rattle.pm_words.specs.declared.action.Action.{Action}
+use Rattle.pm_words.specs.Offsets.{next_offset}
 use Rattle.version_lock.specs.Versions.{generation_of, IsFree}
 use Rattle.cat_history.specs.Maps.{Map, at}
 use Rattle.cat_history.specs.Writes.{changed, name_of, after}
@@ -14,7 +15,7 @@ use Rattle.cat_history.specs.declared.op.Write.{Write}
 use Rattle.cat_key.specs.Names.{IsName}
 use Rattle.data_node.proofs.CountLemmas.{full_has_in}
 use Rattle.data_node.specs.Spots.{Spot, Means, updated}
-use Rattle.data_node.specs.Lists.{next_offset, key_of, IsBetween, StaysIn}
+use Rattle.data_node.specs.Lists.{key_of, IsBetween, StaysIn}
 use Rattle.call_stages.specs.declared.once.Once.{Once}
 use Rattle.call_stages.specs.declared.once.Placed.{Placed}
 use Rattle.call_stages.specs.Stages.{Knows, KnowsDurable, IsAmong, Held, Sight, Sees, just_held, Stage, Idle, Saw, Wears, Reads, Holds, Eyes, Splits, Leaves, Meets, Joins, pended}

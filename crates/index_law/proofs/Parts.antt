@@ -3,8 +3,10 @@ use Rattle.std.proofs.Common.{◌≡◌, ◌≢◌, ℕ, ◌+◌, ◌/◌, ◌<�
 use Rattle.std.specs.Prelude.{◌==◌, ◌&&◌, nat_le, nat_lt, slice_index_or}
 use Rattle.std.specs.List.{filter}
 use Rattle.std.proofs.lemmas.Bool.{eq-eqb, eqb-true, ne_eqb, leb-true, le-leb, lt-leb, lt-ltb, le-ltb, ltb-true, ltb-false}
+use Rattle.pm_words.specs.Offsets.{next_offset}
 use Rattle.data_node.specs.Spots.{Spot}
-use Rattle.data_node.specs.Lists.{ListNode, next_offset, key_of, anchor_in, IsMember, IsChain, Rise, target_from, with_member, without_member}
+use Rattle.data_node.specs.Lists.{ListNode, key_of, anchor_in, IsMember, IsChain, Rise, target_from, with_member}
+use Rattle.data_node.specs.Lists.{without_member}
 use Rattle.index_law.specs.Parts.{Part, parts_from, halves, split_part, KeysRise, HasKey, with_part, part_of, join_parts}
 use Rattle.data_node.proofs.ListLemmas.{above, target_in, not_behind}
 use Rattle.std.proofs.lemmas.List.{take-append-drop}

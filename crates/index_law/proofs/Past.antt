@@ -4,10 +4,12 @@ use Rattle.std.specs.Prelude.{◌==◌, ◌&&◌, ◌||◌, nat_le}
 use Rattle.std.specs.List.{AllByRecursion}
 use Rattle.std.proofs.lemmas.Bool.{eq-eqb, ne_eqb, eqb-true, leb-true, le-leb, lt-leb}
 use Rattle.pm_words.specs.declared.layout.Layout.{Layout}
+use Rattle.pm_words.specs.Offsets.{next_offset}
 use Rattle.cat_key.specs.Names.{IsName}
 use Rattle.data_node.specs.Spots.{Spot}
 use Rattle.data_node.proofs.SpotLemmas.{updated-same}
-use Rattle.data_node.specs.Lists.{ListNode, next_offset, key_of, anchor_in, members_from, target_from, IsMember, IsChain, Rise, without_member}
+use Rattle.data_node.specs.Lists.{ListNode, key_of, anchor_in, members_from, target_from, IsMember, IsChain, Rise}
+use Rattle.data_node.specs.Lists.{without_member}
 use Rattle.index_law.specs.Facts.{Facts, range_of, IsListed}
 use Rattle.index_law.specs.Lawful.{IsList}
 use Rattle.call_stages.specs.Kinds.{from_key}

@@ -19,7 +19,7 @@ use Rattle.pm_words.specs.Rows.{acted, got}
 use Rattle.pm_words.proofs.Apart.{addresses_within, at-set_other, at-set_same}
 use Rattle.pm_words.proofs.Kept.{outside_header, acted_row, action_address-drain}
 use Rattle.data_node.specs.Spots.{Spot}
-use Rattle.data_node.specs.Lists.{ListNode, next_offset, anchor_in, IsMember, IsIn, IsChain, Rise}
+use Rattle.data_node.specs.Lists.{ListNode, anchor_in, IsMember, IsIn, IsChain, Rise}
 use Rattle.call_stages.specs.declared.once.Once.{Once}
 use Rattle.call_stages.specs.declared.once.Placed.{Placed}
 use Rattle.call_stages.specs.Stages.{Gone, Stage, Idle, Saw, Wears, Reads, Holds, Eyes, Splits, Leaves, Meets, Joins}
@@ -37,7 +37,7 @@ use Rattle.call_stages.specs.Prevs.{Debt, no_debt, Leads, IsRetire, Deals, keeps
 use Rattle.index_law.proofs.Bystanders.{IsSteady}
 use Rattle.index_law.proofs.Law.{step_law}
 use Rattle.data_node.proofs.ListLemmas.{not_behind, rise_at}
-use Rattle.pm_words.specs.Offsets.{prev_offset, status_offset, version_offset}
+use Rattle.pm_words.specs.Offsets.{version_offset, next_offset, status_offset, prev_offset}
 use Rattle.index_law.proofs.Locks.{steady_else, steadies}
 use Rattle.index_law.proofs.Moves.{fact_after, facts_step, gives}
 use Rattle.index_law.proofs.Noting.{beside_law}

@@ -3,9 +3,9 @@ use Rattle.std.proofs.Common.{◌≡◌, ℕ, ◌<◌, ◌≤◌, length, refl, 
 use Rattle.std.specs.Prelude.{true, false, Option, Some, None, IfSome}
 use Rattle.pm_words.specs.declared.layout.Layout.{Layout}
 use Rattle.pm_words.specs.declared.action.Action.{Action}
+use Rattle.pm_words.specs.Offsets.{next_offset}
 use Rattle.version_lock.specs.Versions.{generation_of, IsFree}
 use Rattle.cat_history.specs.Maps.{Map, at}
-use Rattle.data_node.specs.Lists.{next_offset}
 use Rattle.data_node.specs.Spots.{Spot}
 use Rattle.call_stages.specs.declared.once.Once.{Once}
 use Rattle.call_stages.specs.declared.once.Placed.{Placed}

@@ -9,12 +9,12 @@ use Rattle.pm_words.proofs.Apart.{at-set_other, at-set_same, addresses_apart}
 use Rattle.cat_history.specs.Maps.{Map}
 use Rattle.cat_history.specs.declared.op.Write.{Write}
 use Rattle.data_node.specs.Spots.{Spot, updated}
-use Rattle.data_node.specs.Lists.{ListNode, next_offset, anchor_in, members_from, IsIn, with_member, without_member}
+use Rattle.data_node.specs.Lists.{ListNode, anchor_in, members_from, IsIn, with_member, without_member}
 use Rattle.data_node.proofs.SpotLemmas.{updated-other}
 use Rattle.call_stages.specs.Kinds.{version_address, word_address, status_address, HasWordAt, IsContent}
 use Rattle.index_law.specs.Facts.{Facts, facts_of, version_in, status_in, spot_in, list_in, cached_word}
 use Rattle.data_node.proofs.ListLemmas.{members_alike}
-use Rattle.pm_words.specs.Offsets.{status_offset, version_offset}
+use Rattle.pm_words.specs.Offsets.{version_offset, next_offset, status_offset}
 use Rattle.index_law.proofs.Places.{node_at, offset_at}
 
 -- the words that belong to a node's spot
@@ -49,8 +49,8 @@ spot_in-here l words n offset has positive = rw (true-in_spot l n offset has pos
 pub cached_word-here : (l : Layout) (words : List ℕ) (base : Map) (history : List Write) (n offset : ℕ) → HasWordAt l n offset
     → cached_word (facts_of l words base history) n offset ≡ slice_index words (word_address l n offset)
 cached_word-here l words base history n offset has = ⊎_elim
-    (λ (first : offset ≡ 0). rw (eq-eqb offset 0 first) (version_in-here l words n has.0 ∙ ap (λ (o : ℕ). slice_index words (word_address l n o)) (sym first)))
-    (λ (other : offset ≡ 0 → ⊥). rw (ne_eqb offset 0 other) (spot_in-here l words n offset has (omega (arith, other))))
+    (λ (first : offset ≡ version_offset). rw (eq-eqb offset version_offset first) (version_in-here l words n has.0 ∙ ap (λ (o : ℕ). slice_index words (word_address l n o)) (sym first)))
+    (λ (other : offset ≡ version_offset → ⊥). rw (ne_eqb offset version_offset other) (spot_in-here l words n offset has (omega (arith, other))))
     (cases_eq offset 0)
 
 -- rows with the same version words have the same versions

@@ -3,7 +3,8 @@ use Rattle.std.proofs.Common.{◌≡◌, ℕ, ◌+◌, ◌≤◌, ◌/◌, ◌�
 use Rattle.std.specs.Prelude.{◌||◌, Option, None}
 use Rattle.pm_words.specs.declared.layout.Layout.{Layout}
 use Rattle.pm_words.specs.declared.action.Action.{Action}
-use Rattle.data_node.specs.Lists.{next_offset, anchor_in, with_member}
+use Rattle.pm_words.specs.Offsets.{next_offset}
+use Rattle.data_node.specs.Lists.{anchor_in, with_member}
 use Rattle.data_node.specs.Weights.{names_in}
 use Rattle.call_stages.specs.declared.once.Once.{Once}
 use Rattle.call_stages.specs.declared.once.Placed.{Placed}

@@ -5,8 +5,9 @@ use Rattle.std.proofs.lemmas.Bool.{ne_eqb, eq-eqb, leb-true, lt-ltb, le-ltb, leb
 use Rattle.pm_words.specs.Codes.{live_status}
 use Rattle.pm_words.specs.declared.layout.Layout.{Layout}
 use Rattle.pm_words.specs.declared.action.Action.{Action}
-use Rattle.data_node.specs.Spots.{Spot, Means, updated, bitmap_offset}
-use Rattle.data_node.specs.Lists.{next_offset, key_of, anchor_in, StaysIn}
+use Rattle.pm_words.specs.Offsets.{bitmap_offset, next_offset}
+use Rattle.data_node.specs.Spots.{Spot, Means, updated}
+use Rattle.data_node.specs.Lists.{key_of, anchor_in, StaysIn}
 use Rattle.data_node.proofs.SpotLemmas.{updated-same}
 use Rattle.call_stages.specs.Stages.{Grip, Tells, Phase, Filling, Linked, Parted, Stage}
 use Rattle.call_stages.specs.Kinds.{from_key, below_key, Split, fills, lights, switches, glances_left, glances_fresh, drains_left, drains_fresh, trims}

@@ -2,6 +2,7 @@
 use Rattle.std.proofs.Common.{◌≡◌, ◌≢◌, ℕ, ◌%◌, arith, Bool, true, false, List, [], ◌∷◌, refl, sym, ap, ◌∙◌, subst}
 use Rattle.std.specs.FinMap.{empty, get-empty}
 use Rattle.cat_key.specs.Names.{name_cmp}
+use Rattle.pm_words.specs.Offsets.{bitmap_offset, next_offset, print_offset, slot_offset}
 use Rattle.image_rules.specs.Sound.{with_slots}
 use Rattle.image_rules.proofs.MapLemmas.{slots_find, found_once}
 use Rattle.std.specs.Prelude.{not, ◌&&◌, slice_index, None}
@@ -10,10 +11,10 @@ use Rattle.cat_history.specs.Maps.{Map, at}
 use Rattle.cat_history.specs.Writes.{changed, name_of}
 use Rattle.cat_history.specs.declared.op.Change.{Change}
 use Rattle.cat_history.proofs.ChangeLemmas.{at-changed_other}
-use Rattle.data_node.specs.Spots.{Spot, Means, Finds, IsTidy, bitmap_offset, slot_offset, print_offset}
+use Rattle.data_node.specs.Spots.{Spot, Means, Finds, IsTidy}
 use Rattle.data_node.specs.Slots.{prints_of, IsLive}
 use Rattle.data_node.proofs.SpotLemmas.{means_kept}
-use Rattle.data_node.specs.Lists.{next_offset, StaysIn}
+use Rattle.data_node.specs.Lists.{StaysIn}
 
 -- a store that changes nothing of what a node means, whatever the range and the map, leaves no live slot out of the range
 pub stays_stored : (slots : ℕ) (range : List ℕ → Bool) (s t : Spot) → IsTidy slots s → ((other : List ℕ → Bool) (m : Map) → Means slots other s m → Means slots other t m)

@@ -3,10 +3,12 @@ use Rattle.std.proofs.Common.{◌≡◌, ◌≢◌, ℕ, ◌<◌, ◌⊎◌, inl
 use Rattle.std.specs.Prelude.{◌==◌, ◌&&◌, nat_le, nat_lt}
 use Rattle.std.proofs.lemmas.Bool.{eq-eqb, ne_eqb, eqb-true, leb-true, leb-false, lt-ltb, le-ltb}
 use Rattle.pm_words.specs.declared.layout.Layout.{Layout}
+use Rattle.pm_words.specs.Offsets.{next_offset}
 use Rattle.cat_key.specs.Names.{IsName}
 use Rattle.cat_history.specs.Maps.{Map}
 use Rattle.data_node.specs.Spots.{Spot}
-use Rattle.data_node.specs.Lists.{ListNode, next_offset, key_of, anchor_in, IsBetween, target_from, IsMember, IsIn, IsChain, Rise, members_from, with_member}
+use Rattle.data_node.specs.Lists.{ListNode, key_of, anchor_in, IsBetween, target_from, IsMember, IsIn, IsChain, Rise}
+use Rattle.data_node.specs.Lists.{members_from, with_member}
 use Rattle.data_node.proofs.SpotLemmas.{updated-same}
 use Rattle.call_stages.specs.Kinds.{IsCut, from_key, below_key}
 use Rattle.index_law.specs.Facts.{Facts, range_of, IsListed}

@@ -4,7 +4,8 @@ use Rattle.std.specs.Prelude.{◌==◌, ◌&&◌, ◌||◌, nat_le, nat_lt}
 use Rattle.std.specs.Int.{bit_at}
 use Rattle.std.proofs.lemmas.Bool.{cases_eq, eq-eqb, ne_eqb, eqb-true, leb-true, leb-false, le-ltb, lt-ltb}
 use Rattle.cat_key.specs.Names.{bytes_of}
-use Rattle.data_node.specs.Spots.{Spot, bitmap_offset, name_words}
+use Rattle.pm_words.specs.Offsets.{bitmap_offset}
+use Rattle.data_node.specs.Spots.{Spot, name_words}
 use Rattle.data_node.specs.Weights.{names_in}
 use Rattle.data_node.specs.Lists.{ListNode, key_of, anchor_in, IsMember, IsChain, Rise, with_member, without_member}
 use Rattle.call_stages.specs.Kinds.{from_key, below_key}

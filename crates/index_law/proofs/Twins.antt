@@ -12,9 +12,7 @@ use Rattle.version_lock.specs.Versions.{generation_of}
 use Rattle.cat_history.specs.Maps.{Map}
 use Rattle.cat_history.specs.declared.op.Write.{Write}
 use Rattle.data_node.specs.Spots.{Spot}
-use Rattle.data_node.specs.Lists.{next_offset}
-use Rattle.pm_words.specs.Offsets.{version_offset}
-use Rattle.image_rules.specs.Rules.{generation_offset}
+use Rattle.pm_words.specs.Offsets.{generation_offset, reference_offset, version_offset, next_offset}
 use Rattle.call_stages.specs.Stages.{Held, Grip, Phase, Filling, Linked, Parted, Pace, Gathered, Joined, Gone, Stage, Idle, Saw, Wears, Reads, Holds, Eyes, Splits, Leaves, Meets, Joins}
 use Rattle.call_stages.specs.Kinds.{HasWordAt, word_address}
 use Rattle.index_law.specs.Facts.{Facts, facts_of, spot_in, durable_spot}
@@ -28,7 +26,7 @@ IsCloser l words words' = (w : Word) → HasWord l w → (at l words' (Durable w
 
 -- so are those but of log lines and of the search layer
 abbrev pub IsAside : Word → Type 0
-IsAside (Root offset) = (offset ≡ 0)
+IsAside (Root offset) = (offset ≡ reference_offset)
 IsAside (Line c j offset) = Unit {0}
 IsAside (Leaf k offset) = Unit {0}
 IsAside (Cell kind k offset) = Unit {0}

@@ -8,6 +8,7 @@ use Rattle.pm_words.specs.Codes.{gone_status, live_status}
 use Rattle.pm_words.specs.declared.layout.Layout.{Layout}
 use Rattle.pm_words.specs.declared.action.Action.{Action}
 use Rattle.pm_words.specs.declared.action.Action.TheVariants.{Store}
+use Rattle.pm_words.specs.Offsets.{bitmap_offset, next_offset}
 use Rattle.version_lock.specs.Versions.{IsFree}
 use Rattle.cat_key.specs.Names.{IsName}
 use Rattle.cat_history.specs.Maps.{Map, at}
@@ -19,8 +20,7 @@ use Rattle.data_node.specs.Weights.{names_in, node_weight}
 use Rattle.data_node.proofs.NameCounts.{same_names, names_by_bits, put_keeps_names, put_adds_one, put_over_keeps_names, del_takes_one, del_keeps_names}
 use Rattle.call_stages.specs.declared.once.Once.{Once}
 use Rattle.call_stages.specs.declared.once.Placed.{Placed}
-use Rattle.data_node.specs.Spots.{bitmap_offset}
-use Rattle.data_node.specs.Lists.{ListNode, next_offset, anchor_in, key_of}
+use Rattle.data_node.specs.Lists.{ListNode, anchor_in, key_of}
 use Rattle.call_stages.specs.Stages.{Held, Gathered, Joined, Gone, Stage, Idle, Saw, Wears, Reads, Holds, Eyes, Splits, Leaves, Meets, Joins, pended}
 use Rattle.call_stages.specs.Kinds.{Look, turns_back, is_worn, wears, roams, roams_status, sees, misses, misses_read, times, learns, decides, glances, finds_live, watches, watches_next, turns_away, steps_back, wanders, from_key, below_key, Merge, meets, knows_own, knows_right, copies, takes_up, puts_down, parts, gathers, joins, glances_joined, drains_joined, retires, yields, merges, Split, fills, lights, switches, glances_left, glances_fresh, drains_left, drains_fresh, trims, splits, peeks, peeks_status, eyes, eyes_free, passes, loses, claims, publishes, leaves, Step, looks, locks, locks_read, stores, commits, drains, counts, unlocks, word_address}
 use Rattle.index_law.specs.Facts.{Facts, map_now, range_of, durable_spot, IsListed}

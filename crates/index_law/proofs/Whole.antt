@@ -14,9 +14,8 @@ use Rattle.pm_words.proofs.Kept.{action_address-drain}
 use Rattle.cat_history.specs.Maps.{Map}
 use Rattle.cat_history.specs.declared.op.Write.{Write}
 use Rattle.data_node.specs.Spots.{Spot}
-use Rattle.data_node.specs.Lists.{ListNode, next_offset, IsIn}
-use Rattle.data_node.specs.Lines.{state_offset}
-use Rattle.pm_words.specs.Offsets.{prev_offset}
+use Rattle.data_node.specs.Lists.{ListNode, IsIn}
+use Rattle.pm_words.specs.Offsets.{next_offset, state_offset, prev_offset}
 use Rattle.call_stages.specs.Stages.{Stage}
 use Rattle.call_stages.specs.Lines.{HeldLine, line_address, Notes, passes_line, takes, looks_up, notes, keeps_safe}
 use Rattle.index_law.specs.Facts.{Facts, facts_of, spot_in, status_in, list_in, IsListed}

@@ -51,7 +51,7 @@ facts_of l words base history =
 
 -- A cached word of a node, its version word among them.
 abbrev pub cached_word : Facts → ℕ → ℕ → ℕ
-cached_word f n offset = if offset == 0 then f.version n else f.now n offset
+cached_word f n offset = if offset == version_offset then f.version n else f.now n offset
 
 -- The durable twin of a node's version word, and of its other words.
 abbrev pub durable_version : Layout → List ℕ → ℕ → ℕ

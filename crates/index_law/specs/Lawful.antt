@@ -7,6 +7,7 @@ use Rattle.pm_words.specs.Codes.{free_status, live_status, gone_status}
 use Rattle.pm_words.specs.declared.layout.Layout.{Layout}
 use Rattle.pm_words.specs.Locations.{Cached, Durable}
 use Rattle.pm_words.specs.Rows.{IsRow}
+use Rattle.pm_words.specs.Offsets.{next_offset}
 use Rattle.version_lock.specs.declared.TheConstants.{LAST_COUNT}
 use Rattle.version_lock.specs.Versions.{generation_of, count_of, kept_count, locked_word, IsFree, IsLocked, IsWorn}
 use Rattle.version_lock.specs.Versions.{IsGeneration}
@@ -16,7 +17,7 @@ use Rattle.cat_history.specs.Writes.{name_of, after, after_all}
 use Rattle.cat_history.specs.declared.op.Change.{Change}
 use Rattle.cat_history.specs.declared.op.Write.{Write}
 use Rattle.data_node.specs.Spots.{Means}
-use Rattle.data_node.specs.Lists.{next_offset, key_of, anchor_in, MakeList, StaysIn}
+use Rattle.data_node.specs.Lists.{key_of, anchor_in, MakeList, StaysIn}
 use Rattle.data_node.specs.Weights.{names_in}
 use Rattle.call_stages.specs.Kinds.{IsStill, clock_address, from_key}
 use Rattle.call_stages.specs.Stages.{Knows, Held, Sight, Sees, Grip, Tells, Phase, Filling, Linked, Parted, Pace}

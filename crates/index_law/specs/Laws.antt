@@ -4,7 +4,7 @@ use Rattle.std.specs.Prelude.{None, IfSome, Contains}
 use Rattle.std.specs.FinMap.{empty, len}
 use mathlib.Core.Option.{some}
 use lib.ListN.{get_elem?}
-use Rattle.pm_words.specs.Codes.{live_status}
+use Rattle.pm_words.specs.Codes.{live_status, leaf_kind}
 use Rattle.pm_words.specs.declared.layout.Layout.{Layout}
 use Rattle.pm_words.specs.declared.action.Action.{Action}
 use Rattle.pm_words.specs.declared.action.Action.TheVariants.{Load, Store, Exchange, Add, Drain}
@@ -14,6 +14,7 @@ use Rattle.pm_words.specs.Layouts.{IsLayout}
 use Rattle.pm_words.specs.Images.{fresh_words}
 use Rattle.pm_words.specs.Locations.{Mark, Cached, Durable, image_words, address_of}
 use Rattle.pm_words.specs.Rows.{IsRow, MayName, CanAct, acted, got, row_of}
+use Rattle.pm_words.specs.Offsets.{bitmap_offset}
 use Rattle.version_lock.specs.Versions.{IsFree, IsWorn, IsGeneration}
 use Rattle.cat_key.specs.Names.{IsName}
 use Rattle.cat_history.specs.Maps.{Map, at}
@@ -21,7 +22,7 @@ use Rattle.cat_history.specs.Writes.{after}
 use Rattle.cat_history.specs.CrashEnds.{IsCrashEnd}
 use Rattle.cat_history.specs.declared.op.Change.{Change}
 use Rattle.data_node.specs.Slots.{AreAllLive}
-use Rattle.data_node.specs.Spots.{Spot, Means, bitmap_offset}
+use Rattle.data_node.specs.Spots.{Spot, Means}
 use Rattle.data_node.specs.Lists.{ListNode, anchor_in, members_from, IsIn, MakeList}
 use Rattle.data_node.specs.Lists.{range_in}
 use Rattle.call_stages.specs.declared.once.Once.{Once}
@@ -320,7 +321,7 @@ NextRoundIsAtRest = (w : World) (parties : List Party) → IsAtRest w → Each (
 
 -- The row of a fresh image, in which the first leaf of the search layer is marked as in use; and its first node LIVE.
 abbrev pub marked_row : Layout → List ℕ
-marked_row l = acted l (row_of l (fresh_words l)) (Store (address_of l (Mark 1 0)) 1)
+marked_row l = acted l (row_of l (fresh_words l)) (Store (address_of l (Mark leaf_kind 0)) 1)
 
 abbrev pub fresh_row : Layout → List ℕ
 fresh_row l = acted l (marked_row l) (Store (status_address l 0) live_status)

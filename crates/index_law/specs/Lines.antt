@@ -7,8 +7,8 @@ use Rattle.pm_words.specs.Locations.{Line, Cached, Durable, at}
 use Rattle.pm_words.specs.Rows.{IsRow, acted, got, evicted}
 use Rattle.pm_words.specs.Locations.{image_words}
 use Rattle.pm_words.specs.Codes.{ready_state, empty_state}
+use Rattle.pm_words.specs.Offsets.{state_offset}
 use Rattle.data_node.specs.Spots.{Spot, updated}
-use Rattle.data_node.specs.Lines.{state_offset}
 use Rattle.call_stages.specs.Stages.{Stage, IsAmong, Tells}
 use Rattle.call_stages.specs.Lines.{HeldLine, IsEntry, IsFitLine, IsBlind, Notes}
 use Rattle.index_law.specs.Laws.{Allowed}

@@ -21,13 +21,13 @@ use mathlib.Core.Option.{some}
 use lib.ListN.{get_elem?}
 use Rattle.pm_words.specs.declared.action.Action.{Action}
 use Rattle.pm_words.specs.Rows.{got}
+use Rattle.pm_words.specs.Offsets.{bitmap_offset, next_offset}
 use Rattle.call_stages.specs.declared.once.Once.{Once}
 use Rattle.call_stages.specs.declared.once.Placed.{Placed}
 use Rattle.call_stages.specs.Stages.{Held, Grip, Pace, Gathered, Joined, Gone, Stage, Idle, Holds, Eyes, Meets, Joins}
 use Rattle.call_stages.specs.Kinds.{Step}
 use Rattle.data_node.specs.Slots.{AreAllLive}
-use Rattle.data_node.specs.Spots.{Spot, Means, bitmap_offset}
-use Rattle.data_node.specs.Lists.{next_offset}
+use Rattle.data_node.specs.Spots.{Spot, Means}
 use Rattle.data_node.specs.Weights.{names_in}
 use Rattle.index_law.specs.Worlds.{Party, World, facts, stepped}
 use Rattle.index_law.specs.Lawful.{Lawful, Each, IsList, IsSettled}

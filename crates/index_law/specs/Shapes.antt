@@ -5,10 +5,11 @@ use lib.ListN.{get_elem?}
 use Rattle.pm_words.specs.declared.layout.Layout.{Layout}
 use Rattle.pm_words.specs.declared.action.Action.{Action}
 use Rattle.pm_words.specs.Rows.{got}
+use Rattle.pm_words.specs.Offsets.{next_offset}
 use Rattle.cat_key.specs.Names.{IsName}
 use Rattle.cat_history.specs.Maps.{at}
 use Rattle.data_node.specs.Spots.{Means}
-use Rattle.data_node.specs.Lists.{ListNode, next_offset, key_of, with_member, without_member}
+use Rattle.data_node.specs.Lists.{ListNode, key_of, with_member, without_member}
 use Rattle.data_node.specs.Weights.{names_in}
 use Rattle.call_stages.specs.declared.once.Once.{Once}
 use Rattle.call_stages.specs.declared.once.Placed.{Placed}

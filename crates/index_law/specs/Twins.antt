@@ -2,10 +2,10 @@
 use Rattle.std.specs.Prelude.{◌≡◌, ◌≢◌, ℕ, ◌<◌, ◌≤◌, ◌⊎◌, List}
 use Rattle.pm_words.specs.declared.layout.Layout.{Layout}
 use Rattle.pm_words.specs.Locations.{Word, Header, Location, at}
+use Rattle.pm_words.specs.Offsets.{bitmap_offset, next_offset, generation_offset}
 use Rattle.version_lock.specs.Versions.{generation_of, IsFree}
-use Rattle.data_node.specs.Spots.{Spot, Means, bitmap_offset}
-use Rattle.data_node.specs.Lists.{next_offset}
-use Rattle.image_rules.specs.Rules.{IsSpare, generation_offset}
+use Rattle.data_node.specs.Spots.{Spot, Means}
+use Rattle.image_rules.specs.Rules.{IsSpare}
 use Rattle.call_stages.specs.Stages.{Held, Grip, Phase, Filling, Linked, Parted, Pace, Gathered, Joined, Gone, Stage}
 use Rattle.call_stages.specs.Stages.{Idle, Saw, Wears, Reads, Holds, Eyes, Splits, Leaves, Meets, Joins, IsAmong}
 use Rattle.call_stages.specs.Stages.{pended}

@@ -8,6 +8,7 @@ use Rattle.pm_words.specs.declared.layout.Layout.{Layout}
 use Rattle.pm_words.specs.declared.action.Action.{Action}
 use Rattle.pm_words.specs.declared.action.Action.TheVariants.{Store}
 use Rattle.pm_words.specs.Rows.{got}
+use Rattle.pm_words.specs.Offsets.{bitmap_offset}
 use Rattle.cat_history.specs.declared.op.Change.{Change}
 use Rattle.cat_history.specs.declared.op.Change.TheVariants.{Put, Del}
 use Rattle.data_node.specs.Weights.{names_in, node_weight, total, list_weight}
@@ -16,7 +17,6 @@ use Rattle.call_stages.specs.declared.once.Placed.{Placed}
 use Rattle.call_stages.specs.Stages.{Held, Pace, Gathered, Joined, Gone, Stage, Idle, Saw, Wears, Reads, Holds, Eyes}
 use Rattle.call_stages.specs.Stages.{Splits}
 use Rattle.call_stages.specs.Stages.{Leaves, Meets, Joins}
-use Rattle.data_node.specs.Spots.{bitmap_offset}
 use Rattle.call_stages.specs.Kinds.{Step, word_address}
 use Rattle.index_law.specs.Facts.{Facts, range_of, durable_spot}
 use Rattle.index_law.specs.Laws.{durable_list}

@@ -13,9 +13,8 @@ use Rattle.pm_words.specs.Rows.{acted}
 use Rattle.pm_words.proofs.Apart.{at-set_other}
 use Rattle.pm_words.proofs.Kept.{action_address-drain}
 use Rattle.data_node.specs.Spots.{Spot}
-use Rattle.data_node.specs.Lists.{next_offset, anchor_in, key_of}
-use Rattle.data_node.specs.Lines.{kind_offset, line_node_offset, state_offset}
-use Rattle.pm_words.specs.Offsets.{stamp_offset}
+use Rattle.data_node.specs.Lists.{anchor_in, key_of}
+use Rattle.pm_words.specs.Offsets.{next_offset, state_offset, kind_offset, line_node_offset, prev_offset, stamp_offset}
 use Rattle.pm_words.specs.Codes.{merge_kind, ready_state}
 use Rattle.call_stages.specs.Stages.{Stage, Held, Grip, Gone, Gathered, Joined, Joins, Idle, Saw, Wears, Reads, Holds}
 use Rattle.call_stages.specs.Stages.{Eyes, Splits, Leaves, Meets, HoldsNode, Tells}
@@ -137,7 +136,7 @@ module _ (z : Layered) (i : ℕ) (p : Party) (is : IsLayered z) (there : get_ele
   retired_is (Joins h left right Gone) e is_retired = (h, left, right, refl, is_retired)
 
   -- a line becomes READY by the store of that state
-  pub marks_ready : (e : HeldLine) (offset y : ℕ) (seen : List (ℕ × ℕ)) (ready : Bool) → Marks e offset y seen ready → (offset ≡ 0) × (y ≡ 2) × (ready ≡ true) ⊎ ((ready ≡ false) × ((offset ≡ 0 → y ≢ 2)))
+  pub marks_ready : (e : HeldLine) (offset y : ℕ) (seen : List (ℕ × ℕ)) (ready : Bool) → Marks e offset y seen ready → (offset ≡ state_offset) × (y ≡ ready_state) × (ready ≡ true) ⊎ ((ready ≡ false) × ((offset ≡ state_offset → y ≢ 2)))
   marks_ready e offset y seen ready (fills some_offset unready is_empty) = inr (refl, λ zero_offset two. some_offset zero_offset)
   marks_ready e offset y seen ready (opens unready is_empty) = inr (refl, λ zero_offset two. omega arith)
   marks_ready e offset y seen ready (readies unready durable is_open blind) = inl (refl, refl, refl)
@@ -167,7 +166,7 @@ module _ (z : Layered) (i : ℕ) (p : Party) (is : IsLayered z) (there : get_ele
     drain_beside hand =
         let has : HasLocation l (Durable (Line e.caller e.number offset)) = (sure.here.0, sure.here.1, small) in
         let same : acted l words (Drain (line_address l e.caller e.number offset) y) ≡ drained l words law.row e sure offset y small = ap (λ q. slice_set words q y) (action_address-drain l (Line e.caller e.number offset) y) in
-        let what : (y ≡ line_field l words Cached offset (line_number e)) ⊎ ((offset ≡ 0) × (y ≡ 2)) = ⊎_elim
+        let what : (y ≡ line_field l words Cached offset (line_number e)) ⊎ ((offset ≡ state_offset) × (y ≡ ready_state)) = ⊎_elim
         (λ own. inl (own ∙ sym (line-here l words e.caller e.number offset has) ∙ sym (line_tie l words e sure.here offset small)))
         (λ given. inr (given.0.state, given.1))
         (hand_word l words e offset y has hand sure) in
@@ -192,7 +191,7 @@ module _ (z : Layered) (i : ℕ) (p : Party) (is : IsLayered z) (there : get_ele
   abbrev BesidesAll : List ℕ → Type 0
   BesidesAll after = Besides w is.holder after × ((o : ℕ) → o < 8 → line_field l after Cached o ≡ line_field l words Cached o)
 
-  volatile_store : (n offset y : ℕ) → n < l.nodes → offset < 16 → offset ≢ 2 → BesidesAll (slice_set words (address_of l (Volatile n offset)) y)
+  volatile_store : (n offset y : ℕ) → n < l.nodes → offset < 16 → offset ≢ stamp_offset → BesidesAll (slice_set words (address_of l (Volatile n offset)) y)
   volatile_store n offset y within most no_stamp =
       let p : Location = Volatile n offset in
       let after : List ℕ = slice_set words (address_of l (Volatile n offset)) y in
@@ -220,7 +219,7 @@ module _ (z : Layered) (i : ℕ) (p : Party) (is : IsLayered z) (there : get_ele
       offset_of _ = 0
 
   prev_store : (n y : ℕ) → n < l.nodes → BesidesAll (slice_set words (prev_address l n) y)
-  prev_store n y within = volatile_store n 1 y within (omega arith) (λ e. omega arith)
+  prev_store n y within = volatile_store n prev_offset y within (omega arith) (λ e. omega arith)
 
   -- or a load or a store of a permutation
   pub permutation_beside : (a : Action) → IsOnPermutation l a → BesidesAll (acted l words a)

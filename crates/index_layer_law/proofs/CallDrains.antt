@@ -6,9 +6,8 @@ use Rattle.pm_words.specs.declared.layout.Layout.{Layout}
 use Rattle.pm_words.specs.Locations.{Word, Location, Line, Cached, Durable, Volatile, HasLocation, address_of}
 use Rattle.pm_words.specs.Rows.{IsRow}
 use Rattle.pm_words.proofs.Apart.{at-set_other}
-use Rattle.pm_words.specs.Offsets.{stamp_offset}
-use Rattle.data_node.specs.Lists.{anchor_offset}
-use Rattle.data_node.specs.Lines.{state_offset}
+use Rattle.pm_words.specs.Offsets.{anchor_offset, state_offset, stamp_offset}
+use Rattle.pm_words.specs.Codes.{ready_state}
 use Rattle.call_stages.specs.Lines.{HeldLine}
 use Rattle.index_law.specs.Facts.{Facts}
 use Rattle.index_law.specs.Lines.{SureLine}
@@ -73,7 +72,7 @@ module _ (l : Layout) (words : List ℕ) (row : IsRow l words) (e : HeldLine) (s
       }
 
   -- the word is the cached one, or the state READY of a line that waits
-  module _ (what : (y ≡ line_field l words Cached offset mine) ⊎ ((offset ≡ 0) × (y ≡ 2))) where
+  module _ (what : (y ≡ line_field l words Cached offset mine) ⊎ ((offset ≡ state_offset) × (y ≡ ready_state))) where
     -- where both rows have a word, it stays
     both_stay : (o j : ℕ) → o < 8 → 0 < o → line_field l words Durable o j ≡ line_field l words Cached o j → line_field l drained Durable o j ≡ line_field l words Cached o j
     both_stay o j within positive same = ⊎_elim
@@ -92,9 +91,9 @@ module _ (l : Layout) (words : List ℕ) (row : IsRow l words) (e : HeldLine) (s
           (λ (at : 0 ≡ offset).
           let stored : line_field l drained Durable state_offset j ≡ y = (λ k. line_field l drained Durable (at k) (own k)) ∙ field_here in
           ⊎_elim (λ cached. now ((λ k. line_field l words Cached (at k) (own k)) ∙ sym cached ∙ sym stored ∙ none)) (λ given. let two = given.1 in absurd (omega arith)) what)
-          (λ (apart : 0 ≢ offset). safe (sym (field_else 0 j (omega arith) (inr apart)) ∙ none))
+          (λ (apart : 0 ≢ offset). safe (sym (field_else state_offset j (omega arith) (inr apart)) ∙ none))
           (cases_eq 0 offset))
-          (λ (apart : j ≢ mine). safe (sym (field_else 0 j (omega arith) (inl apart)) ∙ none))
+          (λ (apart : j ≢ mine). safe (sym (field_else state_offset j (omega arith) (inl apart)) ∙ none))
           (cases_eq j mine);
       anchor = λ j same.
           let fit : (w : Word → Location) (o : ℕ) → line_field l words w o j < 2 ^ 64 = λ w o. column_fits l words (line_count l) (λ i. w (line_word o i)) j row.fits in
@@ -102,9 +101,9 @@ module _ (l : Layout) (words : List ℕ) (row : IsRow l words) (e : HeldLine) (s
           (line_field l words Durable anchor_offset j) (line_field l words Durable (anchor_offset + 1) j) (line_field l words Durable (anchor_offset + 2) j)
           (line_field l words Cached anchor_offset j) (line_field l words Cached (anchor_offset + 1) j) (line_field l words Cached (anchor_offset + 2) j)
           (fit (λ w. Durable w) 4) (fit (λ w. Durable w) 5) (fit (λ w. Cached w) 4) (fit (λ w. Cached w) 5) same in
-          let first = both_stay 3 j (omega arith) (omega arith) told.first in
-          let second = both_stay 4 j (omega arith) (omega arith) told.second in
-          let third = both_stay 5 j (omega arith) (omega arith) told.third in
+          let first = both_stay anchor_offset j (omega arith) (omega arith) told.first in
+          let second = both_stay (anchor_offset + 1) j (omega arith) (omega arith) told.second in
+          let third = both_stay (anchor_offset + 2) j (omega arith) (omega arith) told.third in
           λ k. key_of (first k) (second k) (third k);
     }
 

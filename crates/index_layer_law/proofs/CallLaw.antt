@@ -12,8 +12,8 @@ use Rattle.pm_words.specs.Rows.{IsRow, acted}
 use Rattle.pm_words.proofs.Apart.{at-set_other}
 use Rattle.pm_words.proofs.Kept.{action_address-drain}
 use Rattle.pm_words.specs.Codes.{free_status, ready_state}
+use Rattle.pm_words.specs.Offsets.{state_offset, kind_offset, line_node_offset}
 use Rattle.data_node.specs.Lists.{anchor_in}
-use Rattle.data_node.specs.Lines.{kind_offset, line_node_offset, state_offset}
 use Rattle.call_stages.specs.Stages.{Stage, Held, Grip, Gone, Joins, HoldsNode, IsSwitched, counted}
 use Rattle.call_stages.specs.Kinds.{Step}
 use Rattle.call_stages.specs.Lines.{HeldLine, line_address, Marks, Notes, passes_line, takes, looks_up, notes, keeps_safe}
@@ -158,15 +158,15 @@ module _ (z : Layered) (i : ℕ) (p : Party) (is : IsLayered z) (there : get_ele
   not_ready_before : line_field z.whole.world.layout z.whole.world.words Cached state_offset (line_number e) ≢ ready_state
   not_ready_before two = own_sure.unready unready (sym (line_tie z.whole.world.layout z.whole.world.words e own_sure.here state_offset (omega arith)) ∙ two)
 
-  state_here : offset ≡ 0 → line_field z.whole.world.layout put Cached state_offset (line_number e) ≡ y
+  state_here : offset ≡ state_offset → line_field z.whole.world.layout put Cached state_offset (line_number e) ≡ y
   state_here first = ap (λ (n : Lines). n.state (line_number e)) (state_lines z.whole.world.layout z.whole.world.words row e own_sure offset y small first) ∙ columns.here (line_field z.whole.world.layout z.whole.world.words Cached state_offset) (line_number e) (line_number e) y refl
 
   -- where the line is READY then, it was made so
-  made_ready : line_field z.whole.world.layout put Cached state_offset (line_number e) ≡ ready_state → (offset ≡ 0) × (y ≡ 2) × (ready ≡ true)
+  made_ready : line_field z.whole.world.layout put Cached state_offset (line_number e) ≡ ready_state → (offset ≡ state_offset) × (y ≡ ready_state) × (ready ≡ true)
   made_ready two = ⊎_elim (λ made. made)
       (λ not_made. absurd (⊎_elim
-      (λ (first : offset ≡ 0). not_made.1 first (sym (state_here first) ∙ two))
-      (λ (further : offset ≢ 0). not_ready_before (ap (λ (s : ℕ → ℕ). s (line_number e)) (sym (field_else z.whole.world.layout z.whole.world.words row e own_sure offset y small 0 (omega arith) (λ zero_offset. further (sym zero_offset)))) ∙ two))
+      (λ (first : offset ≡ state_offset). not_made.1 first (sym (state_here first) ∙ two))
+      (λ (further : offset ≢ state_offset). not_ready_before (ap (λ (s : ℕ → ℕ). s (line_number e)) (sym (field_else z.whole.world.layout z.whole.world.words row e own_sure offset y small 0 (omega arith) (λ zero_offset. further (sym zero_offset)))) ∙ two))
       (cases_eq offset 0)))
       (marks_ready z i p is there e offset y seen ready marks)
 
@@ -182,8 +182,8 @@ module _ (z : Layered) (i : ℕ) (p : Party) (is : IsLayered z) (there : get_ele
         (is_ready ∙ made.2, own ∙ sym number))
         (λ (apart : n ≢ line_number e). absurd (
         let was = is.retiring i p (Some e) u h left right there at_line stage in
-        let mine = was.alone n (sym (else_was 0 n (omega arith) apart) ∙ sym (ap (λ (k : Lines). k.state n) lines) ∙ two)
-        (sym (else_was 1 n (omega arith) apart) ∙ sym (ap (λ (k : Lines). k.kind n) lines) ∙ says.0, sym (else_was 2 n (omega arith) apart) ∙ sym (ap (λ (k : Lines). k.node n) lines) ∙ says.1) in
+        let mine = was.alone n (sym (else_was state_offset n (omega arith) apart) ∙ sym (ap (λ (k : Lines). k.state n) lines) ∙ two)
+        (sym (else_was kind_offset n (omega arith) apart) ∙ sym (ap (λ (k : Lines). k.kind n) lines) ∙ says.0, sym (else_was line_node_offset n (omega arith) apart) ∙ sym (ap (λ (k : Lines). k.node n) lines) ∙ says.1) in
         let no : true ≡ false = sym mine.0 ∙ unready in cc))
         (cases_eq n (line_number e));
     waits = λ now_ready says. ⊎_elim
@@ -208,8 +208,8 @@ module _ (z : Layered) (i : ℕ) (p : Party) (is : IsLayered z) (there : get_ele
             let its_node = line_tie z.whole.world.layout z.whole.world.words e own_sure.here line_node_offset (omega arith) ∙ merge.4.node (line_in z.whole.world.layout z.whole.world.words e.caller e.number) own_sure.seen in
             let one : merge.2.node ≡ right.node = sym its_node ∙ sym (ap (line_field z.whole.world.layout z.whole.world.words Cached line_node_offset) mine) ∙ node in
             differ (is.whole.joint.lawful.alone j i right.node q p at_q there (subst (λ (s : Stage). HoldsNode s right.node) (sym stage) (inr refl)) (subst (λ (s : Stage). HoldsNode s right.node) (sym merge.3) (inr one)))))
-            (λ (apart : n ≢ line_number e). was.alone n (sym (else_was 0 n (omega arith) apart) ∙ sym (ap (λ (k : Lines). k.state n) lines) ∙ two)
-            (sym (else_was 1 n (omega arith) apart) ∙ sym (ap (λ (k : Lines). k.kind n) lines) ∙ says.0, sym (else_was 2 n (omega arith) apart) ∙ sym (ap (λ (k : Lines). k.node n) lines) ∙ says.1))
+            (λ (apart : n ≢ line_number e). was.alone n (sym (else_was state_offset n (omega arith) apart) ∙ sym (ap (λ (k : Lines). k.state n) lines) ∙ two)
+            (sym (else_was kind_offset n (omega arith) apart) ∙ sym (ap (λ (k : Lines). k.kind n) lines) ∙ says.0, sym (else_was line_node_offset n (omega arith) apart) ∙ sym (ap (λ (k : Lines). k.node n) lines) ∙ says.1))
             (cases_eq n (line_number e));
         waits = still own at_own was.waits;
       }
@@ -231,8 +231,8 @@ module _ (z : Layered) (i : ℕ) (p : Party) (is : IsLayered z) (there : get_ele
       still (Some d) at_d was = λ d_ready says.
           let apart = apart_line d at_d in
           let n = line_number d in
-          ap (λ (k : Lines). k.state n) lines ∙ else_was 0 n (omega arith) apart
-          ∙ was d_ready (sym (else_was 1 n (omega arith) apart) ∙ sym (ap (λ (k : Lines). k.kind n) lines) ∙ says.0, sym (else_was 2 n (omega arith) apart) ∙ sym (ap (λ (k : Lines). k.node n) lines) ∙ says.1)
+          ap (λ (k : Lines). k.state n) lines ∙ else_was state_offset n (omega arith) apart
+          ∙ was d_ready (sym (else_was kind_offset n (omega arith) apart) ∙ sym (ap (λ (k : Lines). k.kind n) lines) ∙ says.0, sym (else_was line_node_offset n (omega arith) apart) ∙ sym (ap (λ (k : Lines). k.node n) lines) ∙ says.1)
 
 -- a line with other knowledge of the same words, which was made READY as little
 with_line : (f : TurnFacts) (right : Grip) (e d : HeldLine) → d.ready ≡ e.ready → line_number d ≡ line_number e → IsRetiring f (Some e) right → IsRetiring f (Some d) right

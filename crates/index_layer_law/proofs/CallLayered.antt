@@ -8,10 +8,10 @@ use Rattle.pm_words.specs.declared.action.Action.{Action}
 use Rattle.pm_words.specs.Locations.{Updater, Cached, Durable, at}
 use Rattle.pm_words.specs.Rows.{acted, got}
 use Rattle.pm_words.specs.Codes.{free_status, live_status, merge_kind, ready_state, empty_state}
+use Rattle.pm_words.specs.Offsets.{state_offset, kind_offset, line_node_offset}
 use Rattle.data_node.specs.Spots.{Spot, updated}
 use Rattle.data_node.specs.Lists.{anchor_in}
 use Rattle.data_node.proofs.SpotLemmas.{updated-same}
-use Rattle.data_node.specs.Lines.{kind_offset, line_node_offset, state_offset}
 use Rattle.call_stages.specs.declared.once.Once.{Once}
 use Rattle.call_stages.specs.declared.once.Placed.{Placed}
 use Rattle.call_stages.specs.Stages.{Stage, Held, Grip, Gone, Joins, HoldsNode, IsSwitched, Tells}

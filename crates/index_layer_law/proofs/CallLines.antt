@@ -5,11 +5,11 @@ use Rattle.std.proofs.lemmas.Bool.{cond_both}
 use Rattle.pm_words.specs.declared.layout.Layout.{Layout}
 use Rattle.pm_words.specs.Locations.{Line, Cached, Durable, Node, at, address_of, node_words}
 use Rattle.pm_words.specs.Codes.{open_state}
+use Rattle.pm_words.specs.Offsets.{anchor_offset, state_offset}
 use Rattle.cat_key.specs.Names.{IsName, AreNameWords, words_of}
 use Rattle.cat_key.proofs.Packing.{name_bytes, get_or-words_of_below}
 use Rattle.data_node.specs.Spots.{Spot}
-use Rattle.data_node.specs.Lists.{anchor_in, key_of, anchor_offset, anchor_words}
-use Rattle.data_node.specs.Lines.{state_offset}
+use Rattle.data_node.specs.Lists.{anchor_in, key_of, anchor_words}
 use Rattle.call_stages.specs.Stages.{Grip, Tells}
 use Rattle.call_stages.specs.Lines.{HeldLine}
 use Rattle.call_stages.specs.Footings.{IsOpenOf}
@@ -49,17 +49,17 @@ module _ (l : Layout) (words : List ℕ) (e : HeldLine) (here : (e.caller < l.ca
   pub anchor_line_tie : (lines_in l words Cached).anchor (line_number e) ≡ anchor_in (line_in l words e.caller e.number)
   unfolding anchor_in
   anchor_line_tie =
-      let first = line_tie 3 (omega arith) in
-      let second = line_tie 4 (omega arith) in
-      let third = line_tie 5 (omega arith) in
+      let first = line_tie anchor_offset (omega arith) in
+      let second = line_tie (anchor_offset + 1) (omega arith) in
+      let third = line_tie (anchor_offset + 2) (omega arith) in
       λ k. (first k * 2 ^ 64 + second k) * 2 ^ 64 + third k
 
   pub anchor_safe_tie : (lines_in l words Durable).anchor (line_number e) ≡ anchor_in (safe_line l words e.caller e.number)
   unfolding anchor_in
   anchor_safe_tie =
-      let first = safe_tie 3 (omega arith) in
-      let second = safe_tie 4 (omega arith) in
-      let third = safe_tie 5 (omega arith) in
+      let first = safe_tie anchor_offset (omega arith) in
+      let second = safe_tie (anchor_offset + 1) (omega arith) in
+      let third = safe_tie (anchor_offset + 2) (omega arith) in
       λ k. (first k * 2 ^ 64 + second k) * 2 ^ 64 + third k
 
 -- a node's words are words
@@ -75,7 +75,7 @@ unfolding anchor_in key_of words_of
 named_words l words fits n name named is =
     let small : (k : ℕ) → slice_index (words_of name) k < 2 ^ 64 = get_or-words_of_below name (name_bytes name named) in
     let told = words_told (spot_in l words n anchor_offset) (spot_in l words n (anchor_offset + 1)) (spot_in l words n (anchor_offset + 2)) (slice_index (words_of name) 0) (slice_index (words_of name) 1) (slice_index (words_of name) 2)
-    (spot_fits l words fits n 4) (spot_fits l words fits n 5) (small 1) (small 2) is in
+    (spot_fits l words fits n (anchor_offset + 1)) (spot_fits l words fits n (anchor_offset + 2)) (small 1) (small 2) is in
     (name, named, λ k. sym told.first k ∷ sym told.second k ∷ sym told.third k ∷ [])
 
 -- A line that is OPEN for a node, and durably so, covers the node's anchor.

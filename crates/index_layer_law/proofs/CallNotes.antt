@@ -7,8 +7,7 @@ use Rattle.pm_words.specs.Locations.{Word, Location, Line, Cached, Durable, Vola
 use Rattle.pm_words.specs.Rows.{IsRow}
 use Rattle.pm_words.proofs.Apart.{at-set_other}
 use Rattle.data_node.specs.Lists.{anchor_in}
-use Rattle.data_node.specs.Lines.{kind_offset, line_node_offset, state_offset}
-use Rattle.pm_words.specs.Offsets.{stamp_offset}
+use Rattle.pm_words.specs.Offsets.{anchor_offset, state_offset, kind_offset, line_node_offset, stamp_offset}
 use Rattle.pm_words.specs.Codes.{empty_state, merge_kind, open_state, ready_state}
 use Rattle.call_stages.specs.Stages.{IsAmong}
 use Rattle.call_stages.specs.Lines.{HeldLine, Marks, fills, opens, readies}
@@ -97,32 +96,32 @@ module _ (l : Layout) (words : List ℕ) (row : IsRow l words) (e : HeldLine) (s
   plain_lines : (state kind node : ℕ → ℕ) → line_field l stored Cached state_offset ≡ state → line_field l stored Cached kind_offset ≡ kind → line_field l stored Cached line_node_offset ≡ node → offset < 3
       → lines_in l stored Cached ≡ record { state = state; kind = kind; node = node; anchor = lines.anchor }
   plain_lines state kind node is_state is_kind is_node low =
-      let l3 = field_else 3 (omega arith) (λ same. omega arith) in
-      let l4 = field_else 4 (omega arith) (λ same. omega arith) in
-      let l5 = field_else 5 (omega arith) (λ same. omega arith) in
+      let l3 = field_else anchor_offset (omega arith) (λ same. omega arith) in
+      let l4 = field_else (anchor_offset + 1) (omega arith) (λ same. omega arith) in
+      let l5 = field_else (anchor_offset + 2) (omega arith) (λ same. omega arith) in
       λ k. record { state = is_state k; kind = is_kind k; node = is_node k; anchor = λ j. key_of (l3 k j) (l4 k j) (l5 k j) }
 
-  pub state_lines : offset ≡ 0 → lines_in l stored Cached ≡ record lines { state = set_at lines.state number y }
+  pub state_lines : offset ≡ state_offset → lines_in l stored Cached ≡ record lines { state = set_at lines.state number y }
   state_lines is = plain_lines (set_at lines.state number y) lines.kind lines.node (subst (λ o. line_field l stored Cached o ≡ set_at (line_field l words Cached o) number y) is field_here)
-      (field_else 1 (omega arith) (λ same. omega arith)) (field_else 2 (omega arith) (λ same. omega arith)) (omega arith)
+      (field_else kind_offset (omega arith) (λ same. omega arith)) (field_else line_node_offset (omega arith) (λ same. omega arith)) (omega arith)
 
-  kind_lines : offset ≡ 1 → lines_in l stored Cached ≡ record lines { kind = set_at lines.kind number y }
-  kind_lines is = plain_lines lines.state (set_at lines.kind number y) lines.node (field_else 0 (omega arith) (λ same. omega arith))
-      (subst (λ o. line_field l stored Cached o ≡ set_at (line_field l words Cached o) number y) is field_here) (field_else 2 (omega arith) (λ same. omega arith)) (omega arith)
+  kind_lines : offset ≡ kind_offset → lines_in l stored Cached ≡ record lines { kind = set_at lines.kind number y }
+  kind_lines is = plain_lines lines.state (set_at lines.kind number y) lines.node (field_else state_offset (omega arith) (λ same. omega arith))
+      (subst (λ o. line_field l stored Cached o ≡ set_at (line_field l words Cached o) number y) is field_here) (field_else line_node_offset (omega arith) (λ same. omega arith)) (omega arith)
 
-  node_lines : offset ≡ 2 → lines_in l stored Cached ≡ record lines { node = set_at lines.node number y }
-  node_lines is = plain_lines lines.state lines.kind (set_at lines.node number y) (field_else 0 (omega arith) (λ same. omega arith)) (field_else 1 (omega arith) (λ same. omega arith))
+  node_lines : offset ≡ line_node_offset → lines_in l stored Cached ≡ record lines { node = set_at lines.node number y }
+  node_lines is = plain_lines lines.state lines.kind (set_at lines.node number y) (field_else state_offset (omega arith) (λ same. omega arith)) (field_else kind_offset (omega arith) (λ same. omega arith))
       (subst (λ o. line_field l stored Cached o ≡ set_at (line_field l words Cached o) number y) is field_here) (omega arith)
 
   anchor_lines : 3 ≤ offset → lines_in l stored Cached ≡ record lines { anchor = set_at lines.anchor number ((lines_in l stored Cached).anchor number) }
   anchor_lines high =
-      let l0 = field_else 0 (omega arith) (λ same. omega arith) in
-      let l1 = field_else 1 (omega arith) (λ same. omega arith) in
-      let l2 = field_else 2 (omega arith) (λ same. omega arith) in
+      let l0 = field_else state_offset (omega arith) (λ same. omega arith) in
+      let l1 = field_else kind_offset (omega arith) (λ same. omega arith) in
+      let l2 = field_else line_node_offset (omega arith) (λ same. omega arith) in
       let anchor : (j : ℕ) → (lines_in l stored Cached).anchor j ≡ set_at lines.anchor number ((lines_in l stored Cached).anchor number) j = λ j. ⊎_elim
       (λ (same : j ≡ number). ap (lines_in l stored Cached).anchor same ∙ sym (here lines.anchor number j ((lines_in l stored Cached).anchor number) same))
       (λ (apart : j ≢ number).
-      (λ k. key_of (field_other 3 j (omega arith) apart k) (field_other 4 j (omega arith) apart k) (field_other 5 j (omega arith) apart k))
+      (λ k. key_of (field_other anchor_offset j (omega arith) apart k) (field_other (anchor_offset + 1) j (omega arith) apart k) (field_other (anchor_offset + 2) j (omega arith) apart k))
       ∙ sym (other lines.anchor number j ((lines_in l stored Cached).anchor number) apart))
       (cases_eq j number) in
       λ k. record { state = l0 k; kind = l1 k; node = l2 k; anchor = λ j. anchor j k }
@@ -138,17 +137,17 @@ module _ (l : Layout) (words : List ℕ) (row : IsRow l words) (e : HeldLine) (s
     path : (changed : Lines) → lines_in l stored Cached ≡ changed → after ≡ record F { line = changed }
     path changed is = ap (known l g f holder) (rest_path changed is)
 
-    fills_moved : offset ≢ 0 → lines.state number ≡ empty_state → Moved F after
+    fills_moved : offset ≢ state_offset → lines.state number ≡ empty_state → Moved F after
     fills_moved some_offset is_empty = ⊎_elim
-        (λ (one : offset ≡ 1). inr (subst (OtherStep F) (sym (path (record lines { kind = set_at lines.kind number y }) (kind_lines one))) (others.notes_kind number y is_empty)))
-        (λ (not_one : offset ≢ 1). ⊎_elim
-        (λ (two : offset ≡ 2). inr (subst (OtherStep F) (sym (path (record lines { node = set_at lines.node number y }) (node_lines two))) (others.notes_node number y is_empty)))
-        (λ (not_two : offset ≢ 2). inr (subst (OtherStep F) (sym (path (record lines { anchor = set_at lines.anchor number ((lines_in l stored Cached).anchor number) }) (anchor_lines (omega arith))))
+        (λ (one : offset ≡ kind_offset). inr (subst (OtherStep F) (sym (path (record lines { kind = set_at lines.kind number y }) (kind_lines one))) (others.notes_kind number y is_empty)))
+        (λ (not_one : offset ≢ kind_offset). ⊎_elim
+        (λ (two : offset ≡ line_node_offset). inr (subst (OtherStep F) (sym (path (record lines { node = set_at lines.node number y }) (node_lines two))) (others.notes_node number y is_empty)))
+        (λ (not_two : offset ≢ line_node_offset). inr (subst (OtherStep F) (sym (path (record lines { anchor = set_at lines.anchor number ((lines_in l stored Cached).anchor number) }) (anchor_lines (omega arith))))
         (others.notes_anchor number ((lines_in l stored Cached).anchor number) is_empty)))
         (cases_eq offset 2))
         (cases_eq offset 1)
 
-    state_moved : offset ≡ 0 → OtherStep F (record F { line = record lines { state = set_at lines.state number y } }) → Moved F after
+    state_moved : offset ≡ state_offset → OtherStep F (record F { line = record lines { state = set_at lines.state number y } }) → Moved F after
     state_moved is step = inr (subst (OtherStep F) (sym (path (record lines { state = set_at lines.state number y }) (state_lines is))) step)
 
 -- A mark on a line is such a step. A line that becomes READY is of a merge only once that is ripe.

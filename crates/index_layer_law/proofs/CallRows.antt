@@ -2,7 +2,7 @@
 use Rattle.std.proofs.Common.{◌≡◌, ◌≢◌, ℕ, zero, suc, ◌<◌, inl, inr, List, None, refl, sym, ◌∙◌, subst, arith}
 use Rattle.pm_words.specs.Codes.{ready_state}
 use Rattle.pm_words.specs.Locations.{Cached}
-use Rattle.data_node.specs.Lines.{state_offset}
+use Rattle.pm_words.specs.Offsets.{state_offset}
 use Rattle.updater_row_law.specs.search_layer.specs.Rows.{LayerWords, HasSameLayer}
 use Rattle.updater_row_law.specs.search_layer.specs.ChangeStages.{LayerAt}
 use Rattle.updater_row_law.specs.search_layer.specs.Kept.{kept, IsKept}

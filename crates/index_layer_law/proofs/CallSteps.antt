@@ -6,11 +6,12 @@ use Rattle.pm_words.specs.declared.layout.Layout.{Layout}
 use Rattle.pm_words.specs.declared.action.Action.{Action}
 use Rattle.pm_words.specs.Rows.{IsRow}
 use Rattle.pm_words.specs.Codes.{gone_status, merge_kind, ready_state}
+use Rattle.pm_words.specs.Offsets.{bitmap_offset, next_offset}
 use Rattle.version_lock.specs.Versions.{is_worn_word, IsFree, IsWorn}
 use Rattle.cat_history.specs.Maps.{Map}
 use Rattle.cat_history.specs.declared.op.Write.{Write}
-use Rattle.data_node.specs.Spots.{Means, updated, bitmap_offset}
-use Rattle.data_node.specs.Lists.{StaysIn, next_offset, anchor_in}
+use Rattle.data_node.specs.Spots.{Means, updated}
+use Rattle.data_node.specs.Lists.{StaysIn, anchor_in}
 use Rattle.call_stages.specs.declared.once.Once.{Once}
 use Rattle.call_stages.specs.declared.once.Placed.{Placed}
 use Rattle.call_stages.specs.Stages.{Stage, Held, Grip, Filling, Gathered, Gone, Splits, Joins, Holds, HoldsNode, Tells}

@@ -8,9 +8,9 @@ use Rattle.pm_words.specs.declared.action.Action.{Action}
 use Rattle.pm_words.specs.Locations.{Word, Location, Node, Volatile, Cached, Durable, at, node_words}
 use Rattle.pm_words.specs.Rows.{acted}
 use Rattle.version_lock.specs.Versions.{is_free_word, is_worn_word}
-use Rattle.data_node.specs.Lists.{ListNode, anchor_in, IsMember, anchor_offset}
-use Rattle.data_node.specs.Lines.{kind_offset, line_node_offset}
-use Rattle.pm_words.specs.Offsets.{stamp_offset, status_offset, version_offset}
+use Rattle.data_node.specs.Lists.{ListNode, anchor_in, IsMember}
+use Rattle.pm_words.specs.Offsets.{version_offset, anchor_offset, kind_offset, line_node_offset, status_offset}
+use Rattle.pm_words.specs.Offsets.{stamp_offset}
 use Rattle.call_stages.specs.Stages.{Stage}
 use Rattle.index_law.specs.Facts.{Facts, version_in, spot_in, status_in, IsListed}
 use Rattle.index_law.specs.Laws.{Allowed}
@@ -91,9 +91,9 @@ word_tie l words o n positive small =
 pub anchor_tie : (l : Layout) (words : List ℕ) (n : ℕ) → key_of (node_field l words anchor_offset n) (node_field l words (anchor_offset + 1) n) (node_field l words (anchor_offset + 2) n) ≡ anchor_in (spot_in l words n)
 unfolding anchor_in
 anchor_tie l words n =
-    let first = word_tie l words 3 n (omega arith) (omega arith) in
-    let second = word_tie l words 4 n (omega arith) (omega arith) in
-    let third = word_tie l words 5 n (omega arith) (omega arith) in
+    let first = word_tie l words anchor_offset n (omega arith) (omega arith) in
+    let second = word_tie l words (anchor_offset + 1) n (omega arith) (omega arith) in
+    let third = word_tie l words (anchor_offset + 2) n (omega arith) (omega arith) in
     λ k. key_of (first k) (second k) (third k)
 
 -- so it reads the facts, and the words beside nodes

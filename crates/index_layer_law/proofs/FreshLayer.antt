@@ -3,7 +3,7 @@ use Rattle.std.proofs.Common.{◌≡◌, ◌≢◌, ℕ, ◌<◌, ◌==◌, ◌|
 use Rattle.std.proofs.Common.{subst, inl, inr, arith}
 use Rattle.std.specs.Prelude.{not, nat_lt}
 use Rattle.std.proofs.lemmas.Bool.{cases_eq, ne_eqb, cond_both, lt-ltb, ltb-true}
-use Rattle.pm_words.specs.Codes.{free_status, live_status}
+use Rattle.pm_words.specs.Codes.{free_status, live_status, leaf_kind}
 use Rattle.pm_words.specs.declared.layout.Layout.{Layout}
 use Rattle.pm_words.specs.Layouts.{IsLayout}
 use Rattle.pm_words.specs.Images.{fresh_words, fresh_word}
@@ -12,7 +12,8 @@ use Rattle.pm_words.specs.Locations.{HasWord, at}
 use Rattle.pm_words.specs.Rows.{row_of}
 use Rattle.pm_words.proofs.Apart.{at-set_other, at-set_same}
 use Rattle.pm_words.proofs.Made.{fresh_at, fresh_image, row_of-row}
-use Rattle.pm_words.specs.Offsets.{stamp_offset, status_offset}
+use Rattle.pm_words.specs.Offsets.{version_offset, anchor_offset, state_offset, kind_offset, line_node_offset}
+use Rattle.pm_words.specs.Offsets.{status_offset, stamp_offset}
 use Rattle.version_lock.specs.Versions.{is_free_word, is_worn_word}
 use Rattle.index_law.specs.Laws.{marked_row, fresh_row, fresh_world}
 use Rattle.index_law.specs.Worlds.{Party, facts}
@@ -113,7 +114,7 @@ module _ (l : Layout) (layout : IsLayout l) where
   fresh : HasFreshLayer l image_row
   fresh = fresh_is_at_rest l layout
 
-  image_else : (p : Location) → HasLocation l p → p ≢ Volatile 0 status_offset → p ≢ Mark 1 0 → at l words p ≡ at l image_row p
+  image_else : (p : Location) → HasLocation l p → p ≢ Volatile 0 status_offset → p ≢ Mark leaf_kind 0 → at l words p ≡ at l image_row p
   image_else p has other unmarked = elsewhere p has other ∙ marked-else l p has unmarked
 
   layer_same : layer_words l words Cached ≡ layer_words l image_row Cached
@@ -151,12 +152,12 @@ module _ (l : Layout) (layout : IsLayout l) where
 
   lines_are : (lines_in l words Cached ≡ no_lines) × (lines_in l words Durable ≡ no_lines)
   lines_are =
-      let z0 = line_zero 0 (omega arith) in
-      let z1 = line_zero 1 (omega arith) in
-      let z2 = line_zero 2 (omega arith) in
-      let z3 = line_zero 3 (omega arith) in
-      let z4 = line_zero 4 (omega arith) in
-      let z5 = line_zero 5 (omega arith) in (
+      let z0 = line_zero state_offset (omega arith) in
+      let z1 = line_zero kind_offset (omega arith) in
+      let z2 = line_zero line_node_offset (omega arith) in
+      let z3 = line_zero anchor_offset (omega arith) in
+      let z4 = line_zero (anchor_offset + 1) (omega arith) in
+      let z5 = line_zero (anchor_offset + 2) (omega arith) in (
         λ k. record { state = z0.0 k; kind = z1.0 k; node = z2.0 k; anchor = λ j. key_of (z3.0 k j) (z4.0 k j) (z5.0 k j) },
         λ k. record { state = z0.1 k; kind = z1.1 k; node = z2.1 k; anchor = λ j. key_of (z3.1 k j) (z4.1 k j) (z5.1 k j) },
       )
@@ -170,10 +171,10 @@ module _ (l : Layout) (layout : IsLayout l) where
 
   fresh_turn : (parties : List Party) (t : Turning) → facts_in (terms_of (fresh_world l parties) t) (ghosts_of (fresh_world l parties) (λ n. 0)) words ≡ fresh_facts
   fresh_turn parties t =
-      let v = node_zero 0 (omega arith) in
-      let a3 = node_zero 3 (omega arith) in
-      let a4 = node_zero 4 (omega arith) in
-      let a5 = node_zero 5 (omega arith) in
+      let v = node_zero version_offset (omega arith) in
+      let a3 = node_zero anchor_offset (omega arith) in
+      let a4 = node_zero (anchor_offset + 1) (omega arith) in
+      let a5 = node_zero (anchor_offset + 2) (omega arith) in
       λ k. record {
         listed = only_first parties k;
         anchor = λ n. key_of (a3 k n) (a4 k n) (a5 k n);

@@ -5,11 +5,11 @@ use Rattle.pm_words.specs.declared.layout.Layout.{Layout}
 use Rattle.pm_words.specs.declared.action.Action.{Action}
 use Rattle.pm_words.specs.Rows.{IsRow}
 use Rattle.pm_words.specs.Codes.{free_status, live_status}
+use Rattle.pm_words.specs.Offsets.{next_offset, state_offset}
 use Rattle.cat_history.specs.Maps.{Map}
 use Rattle.cat_history.specs.declared.op.Write.{Write}
 use Rattle.cat_key.specs.Names.{IsName}
-use Rattle.data_node.specs.Lists.{next_offset, anchor_in, key_of}
-use Rattle.data_node.specs.Lines.{state_offset}
+use Rattle.data_node.specs.Lists.{anchor_in, key_of}
 use Rattle.call_stages.specs.declared.once.Once.{Once}
 use Rattle.call_stages.specs.declared.once.Placed.{Placed}
 use Rattle.call_stages.specs.Stages.{Stage, Held, Grip, Phase, Filling, Linked, Parted, Pace, Gathered, Joined, Gone, Idle, Saw, Wears, Reads, Holds, Eyes, Splits, Leaves, Meets, Joins, IsSwitched}

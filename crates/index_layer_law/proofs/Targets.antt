@@ -3,8 +3,9 @@ use Rattle.std.proofs.Common.{◌≡◌, ◌≢◌, ℕ, ◌<◌, ◌≤◌, ◌
 use Rattle.std.specs.Prelude.{nat_le}
 use Rattle.std.proofs.lemmas.Bool.{leb-true, leb-false}
 use Rattle.pm_words.specs.declared.layout.Layout.{Layout}
+use Rattle.pm_words.specs.Offsets.{next_offset}
 use Rattle.data_node.specs.Spots.{Spot}
-use Rattle.data_node.specs.Lists.{ListNode, IsMember, IsChain, Rise, IsBetween, next_offset, anchor_in, key_of, target_from}
+use Rattle.data_node.specs.Lists.{ListNode, IsMember, IsChain, Rise, IsBetween, anchor_in, key_of, target_from}
 use Rattle.data_node.proofs.ListLemmas.{above, rise_at, between_target}
 use Rattle.index_law.specs.Facts.{Facts, IsListed, range_of}
 use Rattle.index_law.specs.Lawful.{IsList}

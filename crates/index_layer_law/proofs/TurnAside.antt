@@ -10,8 +10,7 @@ use Rattle.pm_words.specs.Rows.{IsRow}
 use Rattle.cat_history.specs.Maps.{Map}
 use Rattle.cat_history.specs.declared.op.Write.{Write}
 use Rattle.data_node.specs.Lists.{members_from}
-use Rattle.data_node.specs.Lines.{state_offset}
-use Rattle.pm_words.specs.Offsets.{prev_offset, stamp_offset, status_offset, version_offset}
+use Rattle.pm_words.specs.Offsets.{version_offset, state_offset, status_offset, prev_offset, stamp_offset}
 use Rattle.pm_words.specs.Codes.{empty_state}
 use Rattle.index_law.specs.Facts.{facts_of, version_in, status_in, spot_in}
 use Rattle.index_law.specs.Lawful.{Lawful}
@@ -61,7 +60,7 @@ module _ (l : Layout) (words after : List ℕ) (same : KeepsRest l words after) 
       let version : (n : ℕ) → version_in l after n ≡ version_in l words n =
       λ n. version_in-alike l words after n (λ here. same.rest (Cached (Node n version_offset)) (here, omega arith) (kept_cached (Node n version_offset) refl)) in
       let status : (n : ℕ) → status_in l after n ≡ status_in l words n =
-      λ n. status_in-alike l words after n (λ here. same.rest (Volatile n status_offset) (here, omega arith) (kept_volatile n 0 (λ e. omega arith))) in
+      λ n. status_in-alike l words after n (λ here. same.rest (Volatile n status_offset) (here, omega arith) (kept_volatile n status_offset (λ e. omega arith))) in
       let spot : (n offset : ℕ) → spot_in l after n offset ≡ spot_in l words n offset =
       λ n offset. spot_in-alike l words after n offset (λ has positive. same.rest (Cached (Node n offset)) has (kept_cached (Node n offset) refl)) in
       λ k. record { version = λ n. version n k; status = λ n. status n k; now = λ n offset. spot n offset k; list = members_from (λ n offset. spot n offset k) l.nodes 0; base = base; history = history }
@@ -76,7 +75,7 @@ module _ (l : Layout) (words after : List ℕ) (same : KeepsRest l words after) 
   unfolding prev_in
   prevs_kept n =
       elim (nat_lt n l.nodes) as (λ b. nat_lt n l.nodes ≡ b → cond b (at l after (Volatile n prev_offset)) 0 ≡ cond b (at l words (Volatile n prev_offset)) 0) [
-        | true ↦ λ is. same.rest (Volatile n prev_offset) (ltb-true n l.nodes is, omega arith) (kept_volatile n 1 (λ e. omega arith))
+        | true ↦ λ is. same.rest (Volatile n prev_offset) (ltb-true n l.nodes is, omega arith) (kept_volatile n prev_offset (λ e. omega arith))
         | false ↦ λ _. refl
       ] refl
 

@@ -13,8 +13,7 @@ use Rattle.version_lock.specs.Versions.{IsFree, is_free_word}
 use Rattle.version_lock.proofs.WordTests.{free_word}
 use Rattle.data_node.specs.Spots.{Spot}
 use Rattle.data_node.specs.Lists.{anchor_in}
-use Rattle.data_node.specs.Lines.{kind_offset, line_node_offset, state_offset}
-use Rattle.pm_words.specs.Offsets.{status_offset, version_offset}
+use Rattle.pm_words.specs.Offsets.{version_offset, state_offset, kind_offset, line_node_offset, status_offset}
 use Rattle.call_stages.specs.Stages.{Held, Grip, Gone, Stage, Joins, IsSwitched}
 use Rattle.call_stages.specs.Lines.{HeldLine}
 use Rattle.updater_law.specs.Covers.{set_at, IsCover}
@@ -142,7 +141,7 @@ module _ (z : Whole) (holder : ℕ → ℕ) (t : Turning) (whole : IsWhole z) (t
       (λ j lt. at-set_other l words (Volatile n status_offset) (Durable (line_word offset j)) 0 (here, omega arith) (omega arith, omega arith, small) (λ e. cc)) in
       record {
         whole = freed_whole z n here gone (told_free l g words n freeing.free) row row' whole;
-        tended = still_tended z after (λ c j. inr (store_leaves l words (Volatile n status_offset) 0 (here, omega arith) (λ d k o. (λ e. cc, λ e. cc)) c j 0).0) tended;
+        tended = still_tended z after (λ c j. inr (store_leaves l words (Volatile n status_offset) 0 (here, omega arith) (λ d k o. (λ e. cc, λ e. cc)) c j state_offset).0) tended;
         version = ap (λ (φ : Facts). φ.version) facts_same;
         now = ap (λ (φ : Facts). φ.now) facts_same;
         list = ap (λ (φ : Facts). φ.list) facts_same;
@@ -156,7 +155,7 @@ module _ (z : Whole) (holder : ℕ → ℕ) (t : Turning) (whole : IsWhole z) (t
 
   module _ (j : ℕ) (here : j < line_count z.world.layout) (carried : IsCarried (rows.terms_of (terms_of z.world t)) (facts_in (terms_of z.world t) (ghosts_of z.world holder) z.world.words) j) where
     abbrev emptied : List ℕ
-    emptied = slice_set words (line_at l j 0) 0
+    emptied = slice_set words (line_at l j state_offset) 0
 
     state_set : line_field l emptied Cached state_offset ≡ set_at (line_field l words Cached state_offset) j empty_state
     state_set = ap (λ φ. φ.line.state) (line_emptied r ghosts words j row.whole here).facts
@@ -220,7 +219,7 @@ module _ (z : Whole) (holder : ℕ → ℕ) (t : Turning) (whole : IsWhole z) (t
 
         -- what a line says beside its state it said
         said : (k node : ℕ) → (line_field l emptied Cached kind_offset k ≡ merge_kind) × (line_field l emptied Cached line_node_offset k ≡ node) → (line_field l words Cached kind_offset k ≡ merge_kind) × (line_field l words Cached line_node_offset k ≡ node)
-        said k node merge = (ap (λ s. s k) (sym (others 1 (omega arith) (omega arith))) ∙ merge.0, ap (λ s. s k) (sym (others 2 (omega arith) (omega arith))) ∙ merge.1)
+        said k node merge = (ap (λ s. s k) (sym (others kind_offset (omega arith) (omega arith))) ∙ merge.0, ap (λ s. s k) (sym (others line_node_offset (omega arith) (omega arith))) ∙ merge.1)
 
         still_waits : (i : ℕ) (p : Party) (line : Option HeldLine) (h : Held) (left right : Grip) → get_elem? z.world.parties i ≡ some p
             → p.stage ≡ Joins h left right Gone → IfSome line (λ e. e.ready ≡ true → (line_field l words Cached kind_offset (line_number e) ≡ merge_kind) × (line_field l words Cached line_node_offset (line_number e) ≡ right.node) → line_field l words Cached state_offset (line_number e) ≡ ready_state)

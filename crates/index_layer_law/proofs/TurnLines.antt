@@ -7,9 +7,9 @@ use Rattle.pm_words.specs.Locations.{Word, Header, Line, Location, Clock, Cached
 use Rattle.pm_words.specs.Rows.{IsRow}
 use Rattle.pm_words.proofs.Apart.{at-set_same, at-set_other}
 use Rattle.pm_words.specs.Codes.{empty_state, ready_state}
+use Rattle.pm_words.specs.Offsets.{state_offset}
 use Rattle.data_node.specs.Spots.{Spot, updated}
 use Rattle.data_node.proofs.SpotLemmas.{updated-same, updated-other}
-use Rattle.data_node.specs.Lines.{state_offset}
 use Rattle.call_stages.specs.Stages.{Tells}
 use Rattle.call_stages.specs.Lines.{HeldLine, IsEntry}
 use Rattle.index_law.specs.Lawful.{Lawful}
@@ -39,12 +39,12 @@ module _ (l : Layout) (words after : List ℕ) (e : HeldLine) (sure : SureLine l
     | false ↦ λ unready. absurd (unready refl two)
   ] sure.unready
 
-  other_word : (offset : ℕ) → offset ≢ 0 → later offset ≡ now offset
+  other_word : (offset : ℕ) → offset ≢ state_offset → later offset ≡ now offset
   other_word offset other = line offset ∙ updated-other now state_offset empty_state offset other
 
   ready_again : updated later state_offset ready_state ≡ updated now state_offset ready_state
   ready_again = same_spots (updated later state_offset ready_state) (updated now state_offset ready_state) (λ offset. ⊎_elim
-      (λ (first : offset ≡ 0). ap (updated later state_offset ready_state) first ∙ updated-same later state_offset ready_state ∙ sym (ap (updated now state_offset ready_state) first ∙ updated-same now state_offset ready_state))
+      (λ (first : offset ≡ state_offset). ap (updated later state_offset ready_state) first ∙ updated-same later state_offset ready_state ∙ sym (ap (updated now state_offset ready_state) first ∙ updated-same now state_offset ready_state))
       (λ other. updated-other later state_offset ready_state offset other ∙ other_word offset other ∙ sym (updated-other now state_offset ready_state offset other))
       (cases_eq offset 0))
 
@@ -106,7 +106,7 @@ module _ (z : Whole) (c j : ℕ) (here : c < z.world.layout.callers) (small : j 
   safe_kept : (d k offset : ℕ) → safe_line l emptied d k offset ≡ safe_line l words d k offset
   safe_kept d k offset = safe-alike l words emptied d k offset (λ there. at-set_other l words p (Durable (Line d k offset)) 0 has there (λ e. cc))
 
-  line_else : (d k offset : ℕ) → (d ≢ c) ⊎ ((k ≢ j) ⊎ (offset ≢ 0)) → line_in l emptied d k offset ≡ line_in l words d k offset
+  line_else : (d k offset : ℕ) → (d ≢ c) ⊎ ((k ≢ j) ⊎ (offset ≢ state_offset)) → line_in l emptied d k offset ≡ line_in l words d k offset
   line_else d k offset other = line-alike l words emptied d k offset (λ there. at-set_other l words p (Cached (Line d k offset)) 0 has there
       (λ e. ⊎_elim (λ n. n (ap caller_at e)) (λ rest. ⊎_elim (λ n. n (ap number_at e)) (λ n. n (ap offset_at e)) rest) other))
 
@@ -116,16 +116,16 @@ module _ (z : Whole) (c j : ℕ) (here : c < z.world.layout.callers) (small : j 
 
     line_own : (offset : ℕ) → line_in l emptied c j offset ≡ updated (line_in l words c j) state_offset empty_state offset
     line_own offset = ⊎_elim
-        (λ (first : offset ≡ 0). ap (line_in l emptied c j) first ∙ state_empty ∙ sym (ap (updated (line_in l words c j) state_offset empty_state) first ∙ updated-same (line_in l words c j) state_offset empty_state))
+        (λ (first : offset ≡ state_offset). ap (line_in l emptied c j) first ∙ state_empty ∙ sym (ap (updated (line_in l words c j) state_offset empty_state) first ∙ updated-same (line_in l words c j) state_offset empty_state))
         (λ other. line_else c j offset (inr (inr other)) ∙ sym (updated-other (line_in l words c j) state_offset empty_state offset other))
         (cases_eq offset 0)
 
     -- each word of a line is another only if it is that state
-    pub line_either : (d k offset : ℕ) → ((offset ≡ 0) × (line_in l emptied d k offset ≡ 0)) ⊎ (line_in l emptied d k offset ≡ line_in l words d k offset)
+    pub line_either : (d k offset : ℕ) → ((offset ≡ state_offset) × (line_in l emptied d k offset ≡ empty_state)) ⊎ (line_in l emptied d k offset ≡ line_in l words d k offset)
     line_either d k offset = ⊎_elim
         (λ (one : d ≡ c). ⊎_elim
         (λ (two : k ≡ j). ⊎_elim
-        (λ (three : offset ≡ 0). inl (three, (λ i. line_in l emptied (one i) (two i) (three i)) ∙ state_empty))
+        (λ (three : offset ≡ state_offset). inl (three, (λ i. line_in l emptied (one i) (two i) (three i)) ∙ state_empty))
         (λ other. inr (line_else d k offset (inr (inr other))))
         (cases_eq offset 0))
         (λ other. inr (line_else d k offset (inr (inl other))))
@@ -139,7 +139,7 @@ module _ (z : Whole) (c j : ℕ) (here : c < z.world.layout.callers) (small : j 
         (λ (other : mix 0 ≢ 0). fit d k mix (λ offset. ⊎_elim
         (λ durably. inl (durably ∙ safe_kept d k offset))
         (λ cached. ⊎_elim
-        (λ (empty : (offset ≡ 0) × (line_in l emptied d k offset ≡ 0)). absurd (other (ap mix (sym empty.0) ∙ cached ∙ empty.1)))
+        (λ (empty : (offset ≡ state_offset) × (line_in l emptied d k offset ≡ empty_state)). absurd (other (ap mix (sym empty.0) ∙ cached ∙ empty.1)))
         (λ same. inr (cached ∙ same))
         (line_either d k offset))
         (is offset)))

@@ -1,6 +1,6 @@
 -- A turn that rests after a step of its work has given the updater lock back.
 use Rattle.std.proofs.Common.{◌≡◌, ◌≢◌, ℕ, ◌+◌, Bool, true, false, cond, List, refl}
-use Rattle.pm_words.specs.Codes.{merge_kind}
+use Rattle.pm_words.specs.Codes.{merge_kind, untaken_lock}
 use Rattle.pm_words.specs.declared.action.Action.{Action}
 use Rattle.pm_words.specs.Locations.{Updater, at}
 use Rattle.pm_words.specs.Rows.{IsRow, acted}
@@ -31,7 +31,7 @@ past_change e is = by_test (e.kind == merge_kind) is
     by_test true same = cc
     by_test false same = cc
 
-pub gives_back : (r : RowTerms) (words : List ℕ) → IsRow r.layout words → {s : RowStage} {a : Action} {x : ℕ} {t : RowStage} → RowStep r s a x t → s ≢ Resting → t ≡ Resting → at r.layout (acted r.layout words a) Updater ≡ 0
+pub gives_back : (r : RowTerms) (words : List ℕ) → IsRow r.layout words → {s : RowStage} {a : Action} {x : ℕ} {t : RowStage} → RowStep r s a x t → s ≢ Resting → t ≡ Resting → at r.layout (acted r.layout words a) Updater ≡ untaken_lock
 gives_back r words row (takes_lock free) busy is = absurd (busy refl)
 gives_back r words row (finds_held taken) busy is = absurd (busy refl)
 gives_back r words row (passes {j = j} here other) busy is = absurd (past_line r j is)
@@ -56,4 +56,4 @@ gives_back r words row (sees_unworn here unworn) busy is = absurd cc
 gives_back r words row (unstamps here) busy is = absurd cc
 gives_back r words row (frees {n = n} here) busy is = absurd (past_node r n is)
 gives_back r words row (counts here) busy is = absurd cc
-gives_back r words row (leaves_lock done) busy is = at-set_same r.layout words Updater 0 row.whole tt
+gives_back r words row (leaves_lock done) busy is = at-set_same r.layout words Updater untaken_lock row.whole tt

@@ -9,6 +9,7 @@ use Rattle.pm_words.specs.declared.layout.Layout.{Layout}
 use Rattle.pm_words.specs.declared.action.Action.{Action}
 use Rattle.pm_words.specs.Locations.{Updater, at}
 use Rattle.pm_words.specs.Rows.{IsRow, CanAct, acted, got}
+use Rattle.pm_words.specs.Codes.{untaken_lock, taken_lock}
 use Rattle.pm_words.proofs.Apart.{addresses_within}
 use Rattle.pm_words.proofs.Kept.{acted_row, outside_header}
 use Rattle.call_stages.specs.Watches.{Watching, Watches, Watch}
@@ -58,19 +59,19 @@ pub record Misses (l : Layout) (words : List ℕ) (a : Action) (next : RowStage)
   pub can : CanAct l words a
 
 pub resting_step : (r : RowTerms) (words : List ℕ) (a : Action) (x : ℕ) (next : RowStage) → RowStep r Resting a x next → x ≡ got r.layout words a
-    → (at r.layout words Updater ≡ 0) ⊎ Misses r.layout words a next
+    → (at r.layout words Updater ≡ untaken_lock) ⊎ Misses r.layout words a next
 resting_step r words a x next (takes_lock free) told = inl (sym told ∙ free)
 resting_step r words a x next (finds_held taken) told =
     let l : Layout = r.layout in
     let word : ℕ = at l words Updater in
     inr (record {
       rests = refl;
-      same = ap (λ b. slice_set words (lock_at l) (cond b 1 word)) (ne_eqb word 0 (λ zero. taken (told ∙ zero))) ∙ set-get_or words (lock_at l) 0;
+      same = ap (λ b. slice_set words (lock_at l) (cond b taken_lock word)) (ne_eqb word untaken_lock (λ zero. taken (told ∙ zero))) ∙ set-get_or words (lock_at l) 0;
       can = ((addresses_within l Updater tt, outside_header l Updater tt (λ k lt. (λ e. cc, λ e. cc))), omega arith);
     })
 
 -- a turn that rests still has found the lock taken
-found_lock : (r : RowTerms) (words : List ℕ) {a : Action} {x : ℕ} {next : RowStage} → RowStep r Resting a x next → x ≡ got r.layout words a → next ≡ Resting → at r.layout words Updater ≡ 0 → ⊥
+found_lock : (r : RowTerms) (words : List ℕ) {a : Action} {x : ℕ} {next : RowStage} → RowStep r Resting a x next → x ≡ got r.layout words a → next ≡ Resting → at r.layout words Updater ≡ untaken_lock → ⊥
 found_lock r words (takes_lock free) told is zero = cc
 found_lock r words (finds_held taken) told is zero = taken (told ∙ zero)
 
@@ -131,7 +132,7 @@ module _ (z : Layered) (i : ℕ) (t next : Turning) (a : Action) (x : ℕ) (is :
         (λ e target has. found_target (terms_of w t) w.words w.base w.history is.holder lawful.list e.anchor target (shown_after e target has))))
 
     -- where it rests afterwards it has given the lock back
-    given_back : next.stage ≡ Resting → at w.layout after Updater ≡ 0
+    given_back : next.stage ≡ Resting → at w.layout after Updater ≡ untaken_lock
     given_back now_rests = ⊎_elim
         (λ (was : t.stage ≡ Resting). absurd (found_lock (terms_of w t) w.words (subst (λ s. RowStep (terms_of w t) s a x next.stage) was foot.row) told now_rests (is.unlocked (λ j u at_u. ⊎_elim
         (λ (same : j ≡ i). ap (λ (v : Turning). v.stage) (some-injective _ _ (sym at_u ∙ ap (get_elem? z.turns) same ∙ there)) ∙ was)

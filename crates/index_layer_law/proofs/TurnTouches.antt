@@ -8,8 +8,8 @@ use Rattle.pm_words.specs.declared.action.Action.TheVariants.{Load}
 use Rattle.pm_words.specs.Locations.{Location, Root, Updater, Cached, Durable, Volatile, HasLocation, address_of, at}
 use Rattle.pm_words.specs.Rows.{IsRow, acted, got}
 use Rattle.pm_words.proofs.Apart.{at-set_same, at-set_other}
-use Rattle.pm_words.specs.Offsets.{stamp_offset, status_offset}
-use Rattle.data_node.specs.Lines.{state_offset}
+use Rattle.pm_words.specs.Offsets.{state_offset, left_offset, status_offset, stamp_offset}
+use Rattle.pm_words.specs.Codes.{untaken_lock, taken_lock}
 use Rattle.updater_row_law.specs.search_layer.specs.ChangeStages.{Changing, Changed, ChangeStep}
 use Rattle.updater_row_law.specs.search_layer.specs.RootLine.{RootLineStays}
 use Rattle.updater_row_law.specs.search_layer.proofs.RootLemmas.{root_step_keeps}
@@ -28,23 +28,23 @@ use Rattle.index_layer_law.proofs.TurnAside.{KeepsRest}
 -- It touches words aside from nodes and lines alone, or empties a line, or makes a node FREE.
 pub data Touches (r : RowTerms) (ghosts : Ghosts) (words after : List ℕ) : Type 0 where
   is_aside : KeepsRest r.layout words after → Touches r ghosts words after
-  is_emptied : (j : ℕ) → j < line_count r.layout → IsCarried (terms_of r) (facts_in r ghosts words) j → after ≡ slice_set words (line_at r.layout j 0) 0 → Touches r ghosts words after
+  is_emptied : (j : ℕ) → j < line_count r.layout → IsCarried (terms_of r) (facts_in r ghosts words) j → after ≡ slice_set words (line_at r.layout j state_offset) 0 → Touches r ghosts words after
   is_freed : (n : ℕ) → n < r.layout.nodes → IsFreeing (facts_in r ghosts words) n → after ≡ slice_set words (volatile_at r.layout n status_offset) 0 → Touches r ghosts words after
 
 -- And whoever finds the updater lock free then has given it back.
 pub record Touched (r : RowTerms) (ghosts : Ghosts) (words after : List ℕ) (next : RowStage) : Type 0 where
   pub touches : Touches r ghosts words after
-  pub lock : at r.layout after Updater ≡ 0 → next ≡ Resting
+  pub lock : at r.layout after Updater ≡ untaken_lock → next ≡ Resting
 
 module _ (r : RowTerms) (ghosts : Ghosts) (words : List ℕ) (row : IsRow r.layout words) where
   abbrev l : Layout
   l = r.layout
 
   abbrev Locked : RowStage → Type 0
-  Locked s = at l words Updater ≡ 0 → s ≡ Resting
+  Locked s = at l words Updater ≡ untaken_lock → s ≡ Resting
 
   -- who has the lock finds it taken
-  still_locked : (after : List ℕ) (s t : RowStage) → at l after Updater ≡ at l words Updater → s ≢ Resting → Locked s → at l after Updater ≡ 0 → t ≡ Resting
+  still_locked : (after : List ℕ) (s t : RowStage) → at l after Updater ≡ at l words Updater → s ≢ Resting → Locked s → at l after Updater ≡ untaken_lock → t ≡ Resting
   still_locked after s t same busy locked zero = absurd (busy (locked (sym same ∙ zero)))
 
   -- a store elsewhere leaves the root's line
@@ -92,17 +92,17 @@ module _ (r : RowTerms) (ghosts : Ghosts) (words : List ℕ) (row : IsRow r.layo
       }
 
 pub touched : (r : RowTerms) (ghosts : Ghosts) (words : List ℕ) (row : IsRow r.layout words) {s : RowStage} {a : Action} {x : ℕ} {t : RowStage} → RowStep r s a x t → x ≡ got r.layout words a
-    → RowLawful r ghosts words s → (at r.layout words Updater ≡ 0 → s ≡ Resting) → Touched r ghosts words (acted r.layout words a) t
+    → RowLawful r ghosts words s → (at r.layout words Updater ≡ untaken_lock → s ≡ Resting) → Touched r ghosts words (acted r.layout words a) t
 touched r ghosts words row {t = t} (takes_lock {x = x} free) told is locked =
     let word : ℕ = at r.layout words Updater in
-    stores_lock r ghosts words row (cond (word == 0) 1 word) t
+    stores_lock r ghosts words row (cond (word == untaken_lock) taken_lock word) t
     (λ none. absurd (let one : cond (word == 0) 1 word ≡ 1 = ap (λ b. cond b 1 word) (eq-eqb word 0 (sym told ∙ free)) in omega (arith, one, none)))
 touched r ghosts words row (finds_held {x = x} taken) told is locked =
-    let word : ℕ = at r.layout words Updater in stores_lock r ghosts words row (cond (word == 0) 1 word) Resting (λ _. refl)
-touched r ghosts words row {s = s} {t = t} (passes {j = j} here other_state) told is locked = loads r ghosts words row (line_at r.layout j 0) s t (λ e. cc) locked
-touched r ghosts words row {s = s} {t = t} (sees {j = j} seen here ready size) told is locked = loads r ghosts words row (line_at r.layout j 0) s t (λ e. cc) locked
+    let word : ℕ = at r.layout words Updater in stores_lock r ghosts words row (cond (word == untaken_lock) taken_lock word) Resting (λ _. refl)
+touched r ghosts words row {s = s} {t = t} (passes {j = j} here other_state) told is locked = loads r ghosts words row (line_at r.layout j state_offset) s t (λ e. cc) locked
+touched r ghosts words row {s = s} {t = t} (sees {j = j} seen here ready size) told is locked = loads r ghosts words row (line_at r.layout j state_offset) s t (λ e. cc) locked
 touched r ghosts words row {s = s} {t = t} (reads {j = j} {offset = offset} here some_offset small named) told is locked = loads r ghosts words row (line_at r.layout j offset) s t (λ e. cc) locked
-touched r ghosts words row {s = s} {t = t} (has_read {j = j} here) told is locked = loads r ghosts words row (line_at r.layout j 6) s t (λ e. cc) locked
+touched r ghosts words row {s = s} {t = t} (has_read {j = j} here) told is locked = loads r ghosts words row (line_at r.layout j left_offset) s t (λ e. cc) locked
 touched r ghosts words row {s = s} {t = t} (walks {address = address} here) told is locked = loads r ghosts words row address s t (λ e. cc) locked
 touched r ghosts words row {s = s} {t = t} (is_turned_back {address = address} here) told is locked = loads r ghosts words row address s t (λ e. cc) locked
 touched r ghosts words row {s = s} {t = t} (finds {address = address} here within free) told is locked = loads r ghosts words row address s t (λ e. cc) locked
@@ -115,7 +115,7 @@ touched r ghosts words row {t = t} (has_changed {e = e} {word = word} {x = x} {s
 touched r ghosts words row {s = s} {t = t} (stamps {e = e} here) told is locked = stores_stamp r ghosts words row e.node r.stamp s t here (λ e. cc) locked
 touched r ghosts words row {s = s} {t = t} (empties {j = j} here) told is locked = record {
   touches = is_emptied j here is.law.sure refl;
-  lock = still_locked r ghosts words row (slice_set words (line_at r.layout j 0) 0) s t
+  lock = still_locked r ghosts words row (slice_set words (line_at r.layout j state_offset) 0) s t
       (at-set_other r.layout words (Cached (line_word state_offset j)) Updater 0 (omega arith, omega arith, omega arith) tt (λ e. cc)) (λ e. cc) locked;
 }
 touched r ghosts words row {s = s} {t = t} (passes_node {n = n} here other_status) told is locked = loads r ghosts words row (volatile_at r.layout n status_offset) s t (λ e. cc) locked

@@ -4,8 +4,7 @@ use Rattle.pm_words.specs.declared.layout.Layout.{Layout}
 use Rattle.pm_words.specs.Locations.{Location, Cached, Volatile, at}
 use Rattle.pm_words.specs.Rows.{acted}
 use Rattle.pm_words.proofs.Apart.{at-set_other}
-use Rattle.pm_words.specs.Offsets.{status_offset}
-use Rattle.data_node.specs.Lines.{state_offset}
+use Rattle.pm_words.specs.Offsets.{state_offset, status_offset}
 use Rattle.updater_row_law.specs.Columns.{Ghosts, RowTerms, line_word}
 use Rattle.updater_row_law.specs.RowStages.{Resting}
 use Rattle.updater_row_law.specs.RowSteps.{RowStep}

@@ -4,11 +4,11 @@ use Rattle.pm_words.specs.declared.layout.Layout.{Layout}
 use Rattle.pm_words.specs.declared.action.Action.{Action}
 use Rattle.pm_words.specs.Rows.{got}
 use Rattle.pm_words.specs.Codes.{live_status}
-use Rattle.pm_words.specs.Offsets.{version_offset}
+use Rattle.pm_words.specs.Offsets.{version_offset, next_offset}
 use Rattle.version_lock.specs.Versions.{generation_of, IsFree}
 use Rattle.cat_history.specs.Maps.{Map}
 use Rattle.cat_history.specs.declared.op.Write.{Write}
-use Rattle.data_node.specs.Lists.{next_offset, anchor_in}
+use Rattle.data_node.specs.Lists.{anchor_in}
 use Rattle.call_stages.specs.Watches.{Watching, Nothing, Watches, Watch, begins, finds_live, watches, watches_next, lets_go}
 use Rattle.layer_map.specs.Keys.{key_number}
 use Rattle.updater_law.specs.Covered.{IsTarget}

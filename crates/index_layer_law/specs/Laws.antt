@@ -2,7 +2,7 @@
 use Rattle.std.specs.Prelude.{◌≡◌, ◌≢◌, ℕ, ◌<◌, ◌⊎◌, ◌^◌, length, slice_set, Option}
 use mathlib.Core.Option.{some}
 use lib.ListN.{get_elem?}
-use Rattle.pm_words.specs.Codes.{free_status}
+use Rattle.pm_words.specs.Codes.{free_status, untaken_lock}
 use Rattle.pm_words.specs.declared.action.Action.{Action}
 use Rattle.pm_words.specs.Locations.{Updater, Cached, Durable, Volatile, image_words, at}
 use Rattle.pm_words.specs.Rows.{CanAct, acted, got}
@@ -114,7 +114,7 @@ abbrev pub RestIsLayered : Type 0
 RestIsLayered = (z : Layered) (i : ℕ) (t : Turning) → IsWhole z.whole → AreTended z.whole →
     Each (λ p. p.stage ≡ Idle) z.whole.world.parties →
     ((j : ℕ) (u : Turning) → get_elem? z.turns j ≡ some u → IsAtRest u) → get_elem? z.turns i ≡ some t →
-    at z.whole.world.layout z.whole.world.words Updater ≡ 0 →
+    at z.whole.world.layout z.whole.world.words Updater ≡ untaken_lock →
     RowLawful (terms_of z.whole.world t) (ghosts_of z.whole.world (λ n. 0)) z.whole.world.words Resting → IsLayered z
 
 -- The target that a turn's walk came to is that of its line's anchor, as long as the node's version word stands.

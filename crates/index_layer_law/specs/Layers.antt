@@ -2,7 +2,7 @@
 use Rattle.std.specs.Prelude.{◌≡◌, ◌≢◌, ℕ, true, false, List, Option, IfSome}
 use mathlib.Core.Option.{some}
 use lib.ListN.{get_elem?}
-use Rattle.pm_words.specs.Codes.{ready_state, merge_kind}
+use Rattle.pm_words.specs.Codes.{ready_state, merge_kind, untaken_lock}
 use Rattle.pm_words.specs.Locations.{Updater, Cached, Durable, at}
 use Rattle.data_node.specs.Lists.{anchor_in}
 use Rattle.call_stages.specs.Stages.{Held, Grip, Gone, Joins, HoldsNode, IsSwitched}
@@ -58,8 +58,8 @@ pub record IsLayered (z : Layered) : Type 0 where
   pub one : (i j : ℕ) (t u : Turning) → get_elem? z.turns i ≡ some t → get_elem? z.turns j ≡ some u →
       t.stage ≢ Resting → u.stage ≢ Resting → i ≡ j
   pub active : (i : ℕ) × (t : Turning) × (get_elem? z.turns i ≡ some t) × AreRestingBut z.turns i
-  pub lock : at z.whole.world.layout z.whole.world.words Updater ≡ 0 → AreResting z.turns
-  pub unlocked : AreResting z.turns → at z.whole.world.layout z.whole.world.words Updater ≡ 0
+  pub lock : at z.whole.world.layout z.whole.world.words Updater ≡ untaken_lock → AreResting z.turns
+  pub unlocked : AreResting z.turns → at z.whole.world.layout z.whole.world.words Updater ≡ untaken_lock
   pub rows : (i : ℕ) (t : Turning) → get_elem? z.turns i ≡ some t → AreRestingBut z.turns i →
       RowLawful (terms_of z.whole.world t) (ghosts_of z.whole.world holder) z.whole.world.words t.stage
   pub stamps : (i : ℕ) (t : Turning) → get_elem? z.turns i ≡ some t → t.stamp ≢ 0

@@ -3,8 +3,9 @@ use Rattle.std.specs.Prelude.{◌≡◌, ◌≢◌, ℕ, ◌+◌, ◌*◌, ◌<�
 use mathlib.Core.Option.{some}
 use lib.ListN.{get_elem?}
 use Rattle.pm_words.specs.declared.layout.Layout.{Layout}
+use Rattle.pm_words.specs.Offsets.{next_offset}
 use Rattle.version_lock.specs.Versions.{generation_of, IsFree}
-use Rattle.data_node.specs.Lists.{ListNode, next_offset}
+use Rattle.data_node.specs.Lists.{ListNode}
 use Rattle.call_stages.specs.Stages.{Sight}
 use Rattle.call_stages.specs.Lines.{HeldLine}
 use Rattle.call_stages.specs.Watches.{Watching, Nothing, Watches, IsSeenAs}

@@ -10,9 +10,8 @@ use Rattle.pm_words.specs.Locations.{Word, Location, Line, Volatile, Cached, Dur
 use Rattle.cat_history.specs.Maps.{Map}
 use Rattle.data_node.specs.Spots.{Spot}
 use Rattle.data_node.proofs.ListLemmas.{chain_closed, member_or}
-use Rattle.data_node.specs.Lists.{ListNode, IsIn, IsMember, IsChain, next_offset}
-use Rattle.data_node.specs.Lines.{state_offset}
-use Rattle.pm_words.specs.Offsets.{prev_offset}
+use Rattle.data_node.specs.Lists.{ListNode, IsIn, IsMember, IsChain}
+use Rattle.pm_words.specs.Offsets.{next_offset, state_offset, prev_offset}
 use Rattle.call_stages.specs.Lines.{HeldLine}
 use Rattle.call_stages.specs.Prevs.{Debt}
 use Rattle.index_law.specs.Facts.{list_in, spot_in, status_in}
@@ -59,7 +58,7 @@ module _ (l : Layout) (list : List ListNode) (o : Columns) (words : List ℕ) (m
       let line : k / 8 ≡ c = omega arith in
       let place : k % 8 ≡ j = omega arith in
       (λ i. at l words (twin (Line (sym line i) (sym place i) state_offset)))
-      ∙ sym (word_if-here (nat_lt k (line_count l) && nat_lt 0 8) (at l words (twin (line_word state_offset k))) (line_here l k 0 (omega arith) (omega arith)))
+      ∙ sym (word_if-here (nat_lt k (line_count l) && nat_lt 0 8) (at l words (twin (line_word state_offset k))) (line_here l k state_offset (omega arith) (omega arith)))
       ∙ none k
 
   line_zero : (c j : ℕ) → line_in l words c j state_offset ≡ empty_state

@@ -1,5 +1,5 @@
 -- An opened index has its search layer: it is exactly the list's.
-use Rattle.std.proofs.Common.{◌≡◌, ◌≢◌, ℕ, ◌<◌, ◌≤◌, ◌==◌, ◌||◌, ◌&&◌, not, Bool, true, false, cond, List, [], ◌∷◌}
+use Rattle.std.proofs.Common.{◌≡◌, ◌≢◌, ℕ, ◌+◌, ◌<◌, ◌≤◌, ◌==◌, ◌||◌, ◌&&◌, not, Bool, true, false, cond, List, [], ◌∷◌}
 use Rattle.std.proofs.Common.{inl, ⊎_elim, refl, sym, ap, ◌∙◌, subst, arith}
 use Rattle.std.specs.Prelude.{nat_lt}
 use Rattle.std.proofs.lemmas.Bool.{cases_lt, cond_both, lt-ltb, le-ltb, ltb-true, false_from_ne_true}
@@ -10,8 +10,8 @@ use Rattle.cat_history.specs.Maps.{Map}
 use Rattle.version_lock.specs.Versions.{generation_of, IsFree, IsWorn, is_worn_word}
 use Rattle.version_lock.proofs.WordTests.{free_is, worn_word}
 use Rattle.data_node.specs.Lists.{ListNode, anchor_in}
+use Rattle.pm_words.specs.Offsets.{generation_offset, anchor_offset, state_offset, kind_offset, line_node_offset}
 use Rattle.pm_words.specs.Offsets.{stamp_offset}
-use Rattle.image_recovery_law.specs.image_rules.specs.Rules.{generation_offset}
 use Rattle.index_law.specs.Facts.{Facts, version_in, status_in}
 use Rattle.index_law.specs.Worlds.{Party, facts}
 use Rattle.layer_map.specs.Keys.{key_of}
@@ -51,16 +51,16 @@ line_is l words twin o j small = rw (lt-ltb o 8 small) (both (nat_lt j (line_cou
 line_anchor_is : (l : Layout) (words : List ℕ) (twin : Word → Location) (j : ℕ) → (lines_in l words twin).anchor j ≡ (lines_of (columns_in l words twin)).anchor j
 unfolding anchor_in
 line_anchor_is l words twin j =
-    let first = line_is l words twin 3 j (omega arith) in
-    let second = line_is l words twin 4 j (omega arith) in
-    let third = line_is l words twin 5 j (omega arith) in
+    let first = line_is l words twin anchor_offset j (omega arith) in
+    let second = line_is l words twin (anchor_offset + 1) j (omega arith) in
+    let third = line_is l words twin (anchor_offset + 2) j (omega arith) in
     λ k. key_of (first k) (second k) (third k)
 
 lines_are : (l : Layout) (words : List ℕ) (twin : Word → Location) → lines_in l words twin ≡ lines_of (columns_in l words twin)
 lines_are l words twin = λ k. record {
-  state = λ j. line_is l words twin 0 j (omega arith) k;
-  kind = λ j. line_is l words twin 1 j (omega arith) k;
-  node = λ j. line_is l words twin 2 j (omega arith) k;
+  state = λ j. line_is l words twin state_offset j (omega arith) k;
+  kind = λ j. line_is l words twin kind_offset j (omega arith) k;
+  node = λ j. line_is l words twin line_node_offset j (omega arith) k;
   anchor = λ j. line_anchor_is l words twin j k;
 }
 

@@ -7,11 +7,10 @@ use Rattle.pm_words.specs.declared.layout.Layout.{Layout}
 use Rattle.pm_words.specs.Locations.{Word, Location, Header, Root, Node, Line, Leaf, Cell, Cached, Durable, at, node_words}
 use Rattle.cat_history.specs.Maps.{Map}
 use Rattle.version_lock.specs.Versions.{generation_of, IsFree}
-use Rattle.data_node.specs.Lists.{ListNode, IsIn, MakeList, Rise, StaysIn, next_offset, range_in}
+use Rattle.data_node.specs.Lists.{ListNode, IsIn, MakeList, Rise, StaysIn, range_in}
 use Rattle.data_node.specs.Spots.{Spot, Means}
 use Rattle.data_node.proofs.ListLemmas.{chain_is, members_few, member_or}
-use Rattle.pm_words.specs.Offsets.{version_offset}
-use Rattle.image_recovery_law.specs.image_rules.specs.Rules.{generation_offset}
+use Rattle.pm_words.specs.Offsets.{version_offset, next_offset, generation_offset}
 use Rattle.call_stages.specs.Stages.{Idle}
 use Rattle.index_law.specs.Facts.{version_in, spot_in, status_in, list_in, durable_spot, durable_version}
 use Rattle.index_law.specs.Worlds.{Party, facts}

@@ -2,14 +2,14 @@
 use Rattle.std.specs.Prelude.{◌≡◌, ℕ, ◌<◌, ◌≤◌, List, [], ◌∷◌, Option}
 use mathlib.Core.Option.{some}
 use lib.ListN.{get_elem?}
-use Rattle.pm_words.specs.Codes.{free_status, live_status, gone_status, no_permutation}
+use Rattle.pm_words.specs.Codes.{free_status, live_status, gone_status, no_permutation, untaken_lock}
 use Rattle.pm_words.specs.declared.layout.Layout.{Layout}
 use Rattle.pm_words.specs.Locations.{Header, Cached, Durable, Volatile, Clock, Updater, at}
 use Rattle.pm_words.specs.Rows.{IsRow}
-use Rattle.pm_words.specs.Offsets.{permutation_version_offset, prev_offset, stamp_offset, status_offset}
+use Rattle.pm_words.specs.Offsets.{status_offset, prev_offset, stamp_offset, permutation_version_offset}
+use Rattle.pm_words.specs.Offsets.{generation_offset}
 use Rattle.cat_history.specs.Maps.{Map}
 use Rattle.data_node.specs.Lists.{ListNode, IsIn, IsMember}
-use Rattle.image_recovery_law.specs.image_rules.specs.Rules.{generation_offset}
 use Rattle.call_stages.specs.Stages.{Idle}
 use Rattle.call_stages.specs.Lines.{HeldLine}
 use Rattle.call_stages.specs.Prevs.{Debt}
@@ -40,7 +40,7 @@ pub record TellsList (l : Layout) (list : List ListNode) (words : List ℕ) : Ty
   pub none : (n : ℕ) → n < l.nodes → (IsMember list n → ⊥) → at l words (Volatile n prev_offset) ≡ 0
   pub stamps : (n : ℕ) → n < l.nodes → at l words (Volatile n stamp_offset) ≡ 0
   pub clock : at l words Clock ≡ 0
-  pub updater : at l words Updater ≡ 0
+  pub updater : at l words Updater ≡ untaken_lock
 
 -- No node has a permutation, listed or not.
 abbrev pub HaveNoOrders : Layout → List ℕ → Type 0

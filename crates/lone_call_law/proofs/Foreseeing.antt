@@ -12,6 +12,7 @@ use Rattle.pm_words.specs.declared.machine.Turn.{Turn}
 use Rattle.pm_words.specs.declared.machine.Turn.TheVariants.{Go, Done}
 use Rattle.pm_words.specs.Fences.{fence_next}
 use Rattle.pm_words.specs.Rows.{got}
+use Rattle.pm_words.specs.Offsets.{bitmap_offset, next_offset}
 use Rattle.cat_history.specs.Maps.{at}
 use Rattle.cat_history.specs.declared.op.Change.{Change}
 use Rattle.cat_history.specs.declared.op.Change.TheVariants.{Del as Deletes}
@@ -21,8 +22,6 @@ use Rattle.shapes.specs.Anchors.{names_at}
 use Rattle.shapes.proofs.Orders.{clash}
 use Rattle.data_node.specs.Slots.{AreAllLive}
 use Rattle.data_node.specs.Bits.{live_count, lowest_clear}
-use Rattle.data_node.specs.Spots.{bitmap_offset}
-use Rattle.data_node.specs.Lists.{next_offset}
 use Rattle.data_node.proofs.LiveCounts.{live_without}
 use Rattle.call_stages.specs.declared.once.Once.{Once}
 use Rattle.call_stages.specs.declared.once.Once.TheVariants as once

@@ -8,12 +8,13 @@ use Rattle.pm_words.specs.declared.machine.Turn.{Turn}
 use Rattle.pm_words.specs.declared.machine.Turn.TheVariants.{Go, Done}
 use Rattle.pm_words.specs.declared.action.Action.TheVariants.{Load}
 use Rattle.pm_words.specs.Rows.{got}
+use Rattle.pm_words.specs.Offsets.{bitmap_offset, next_offset}
 use Rattle.version_lock.specs.Versions.{IsFree, IsWorn, is_free_word, is_worn_word}
 use Rattle.version_lock.proofs.WordTests.{taken_word, worn_word, fresh_word}
 use Rattle.cat_history.specs.declared.op.Change.{Change}
 use Rattle.data_node.specs.Bits.{live_count}
-use Rattle.data_node.specs.Spots.{Spot, bitmap_offset}
-use Rattle.data_node.specs.Lists.{ListNode, next_offset, anchor_in, IsMember, IsChain, Rise}
+use Rattle.data_node.specs.Spots.{Spot}
+use Rattle.data_node.specs.Lists.{ListNode, anchor_in, IsMember, IsChain, Rise}
 use Rattle.data_node.proofs.ListLemmas.{not_behind, rise_at}
 use Rattle.call_stages.specs.Kinds.{version_address, word_address}
 use Rattle.call_stages.specs.Stages.{Held, Stage, Idle, Saw, Wears, Reads, Holds, Eyes, Splits, Leaves, Meets, Joins}
@@ -228,7 +229,7 @@ module _ (name : List ℕ) (own : Option Change) (w0 : World) (i : ℕ) (w : Wor
           subst (Sure w.layout w.generation (facts w) p.caller p.index p.since) stage (o.lawful.sure i p o.there) in
           let first : count ≡ 1 = eqb-true count 1 one in
           let own_word : (facts w).now merge.node bitmap_offset ≡ near.own = knows.0.knows.seen.0 in
-          let right_word : (facts w).now near.right bitmap_offset ≡ x = sym (loaded_word near.right 1 here (omega arith) (omega arith) (subst (λ k. x ≡ got w.layout w.words (Load (word_address merge.view.layout near.right k))) first told)) in
+          let right_word : (facts w).now near.right bitmap_offset ≡ x = sym (loaded_word near.right bitmap_offset here (omega arith) (omega arith) (subst (λ k. x ≡ got w.layout w.words (Load (word_address merge.view.layout near.right k))) first told)) in
           let left_live : live_in w.layout.slots ((facts w).now merge.node) ≡ live_count merge.view.layout.slots near.own =
           live_is w.layout.slots ((facts w).now merge.node) ∙ (λ k. live_count (sym layout k).slots (own_word k)) in
           let right_live : live_in w.layout.slots ((facts w).now near.right) ≡ live_count merge.view.layout.slots x =
@@ -244,7 +245,7 @@ module _ (name : List ℕ) (own : Option Change) (w0 : World) (i : ℕ) (w : Wor
       → HasLocked w.generation (facts w0).version (facts w).version (merge_leaves at) (merge_at_footing h merge at).stage
       → MergeForesees w0 name at → x ≡ got w.layout w.words (merge_at_asks merge at) → ForeseesSo w0 name (merge_at_turned merge at x)
   foresees_at stands.Bitmap stage is locks so told = tt
-  foresees_at (stands.Next seen) stage is locks so told = at_next seen stage (loaded_word merge.node 2 within (omega arith) (omega arith) told)
+  foresees_at (stands.Next seen) stage is locks so told = at_next seen stage (loaded_word merge.node next_offset within (omega arith) (omega arith) told)
   foresees_at (stands.Version near) stage is locks so told = at_version near stage (subst (λ (l : Layout). near.right < l.nodes) layout is.0.right) is.1 locks.others told
   foresees_at (stands.Lock near version locked) stage is locks so told = at_lock near version locked stage (subst (λ (l : Layout). near.right < l.nodes) layout is.0.right) is.1 locks.others so told
   foresees_at (stands.Head near locked head count) stage is locks so told = at_head near locked head count stage (subst (λ (l : Layout). near.right < l.nodes) layout is.0.leads.right) is.3 so told

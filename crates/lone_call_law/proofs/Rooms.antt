@@ -3,10 +3,11 @@ use Rattle.std.proofs.Common.{◌≡◌, ℕ, zero, suc, ◌+◌, ◌<◌, ◌�
 use Rattle.std.specs.Prelude.{IsSome}
 use Rattle.std.proofs.lemmas.Bool.{eqb-true, eq-eqb, and_from, and_parts, ltb-true, ltb-false, lt-leb, le-leb}
 use Rattle.pm_words.specs.declared.layout.Layout.{Layout}
+use Rattle.pm_words.specs.Offsets.{bitmap_offset}
 use Rattle.std.specs.Int.{bit_at}
 use Rattle.cat_key.specs.Names.{bytes_of}
 use Rattle.cat_history.specs.Maps.{Map, at}
-use Rattle.data_node.specs.Spots.{Spot, Means, bitmap_offset, name_words}
+use Rattle.data_node.specs.Spots.{Spot, Means, name_words}
 use Rattle.cat_history.specs.Writes.{after_all}
 use Rattle.lone_call_law.specs.Tries.{IsHalvedSince}
 use Rattle.data_node.specs.Lists.{ListNode, target_from, key_of}

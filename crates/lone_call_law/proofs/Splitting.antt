@@ -47,9 +47,7 @@ use Rattle.split_merge.specs.Splits.{IsSplit, IsSplitAt, word_count, plan_of, mo
 use Rattle.index_law.specs.Facts.{version_in, status_in}
 use Rattle.index_law.specs.Lines.{line_in}
 use Rattle.index_law.proofs.Rows.{version_in-here, status_in-here, version_in-alike, spot_in-alike, status_in-alike}
-use Rattle.data_node.specs.Lists.{next_offset}
-use Rattle.data_node.specs.Lines.{state_offset}
-use Rattle.pm_words.specs.Offsets.{status_offset, version_offset}
+use Rattle.pm_words.specs.Offsets.{version_offset, next_offset, state_offset, status_offset}
 use Rattle.index_law.proofs.Noting.{line-alike, line-here}
 use Rattle.lone_call_law.specs.There.{IsUnmoved}
 use Rattle.lone_call_law.proofs.There.{stored_unmoved}

@@ -15,9 +15,10 @@ use Rattle.shapes.proofs.Keys.{rise-between, del-between}
 use Rattle.shapes.proofs.NameLists.{all_by, filter-keeps, filter-drops, filter-all}
 use Rattle.shapes.proofs.Orders.{same, true_or_false, clash, not_back, same-is, below-differs}
 use Rattle.shapes.proofs.Targets.{part, names_at-is, has-name, names-joined}
+use Rattle.pm_words.specs.Offsets.{bitmap_offset, next_offset}
 use Rattle.data_node.specs.Slots.{AreAllLive}
-use Rattle.data_node.specs.Spots.{Spot, bitmap_offset}
-use Rattle.data_node.specs.Lists.{ListNode, next_offset, target_from, key_of, IsMember, IsIn, IsChain}
+use Rattle.data_node.specs.Spots.{Spot}
+use Rattle.data_node.specs.Lists.{ListNode, target_from, key_of, IsMember, IsIn, IsChain}
 use Rattle.data_node.proofs.RangeNames.{range_names}
 use Rattle.call_stages.specs.Stages.{Held, Grip, Holds, Meets, placed_in}
 use Rattle.index_law.specs.Facts.{map_now, range_of, IsListed}

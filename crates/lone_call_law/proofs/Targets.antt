@@ -4,8 +4,9 @@ use Rattle.std.specs.Prelude.{◌↔◌, IsSome, IfSome, slice_index}
 use Rattle.std.specs.List.{AllByRecursion}
 use Rattle.cat_key.specs.Names.{IsName, words_of}
 use Rattle.cat_key.proofs.Packing.{length-words_of, words_tell_names}
+use Rattle.pm_words.specs.Offsets.{next_offset, anchor_offset}
 use Rattle.data_node.specs.Spots.{Spot}
-use Rattle.data_node.specs.Lists.{ListNode, next_offset, three_words, key_of, anchor_in, IsMember, IsIn, IsChain, number_of, anchor_offset}
+use Rattle.data_node.specs.Lists.{ListNode, three_words, key_of, anchor_in, IsMember, IsIn, IsChain, number_of}
 use Rattle.call_stages.specs.Stages.{Sees}
 use Rattle.data_list.specs.declared.target.Next.{Next}
 use Rattle.data_list.specs.Keys.{IsNameOf, key_words}

@@ -11,7 +11,7 @@ use Rattle.pm_words.specs.declared.machine.Turn.TheVariants.{Go, Done}
 use Rattle.pm_words.specs.Rows.{acted, got}
 use Rattle.version_lock.specs.Versions.{kept_count, locked_word, IsWorn, is_worn_word}
 use Rattle.data_node.specs.Bits.{without_live, lowest_live, candidate_bits}
-use Rattle.data_node.specs.Lists.{target_from, key_of, next_offset, anchor_offset, number_of}
+use Rattle.data_node.specs.Lists.{target_from, key_of, number_of}
 use Rattle.call_stages.specs.Kinds.{clock_address, version_address, status_address, word_address, prev_address}
 use Rattle.call_stages.specs.declared.once.Once.TheVariants as once
 use Rattle.data_list.specs.declared.target.Walked.{Walked}
@@ -32,8 +32,6 @@ use Rattle.node_ops.specs.declared.lookup.Lookup.{Lookup}
 use Rattle.node_ops.specs.declared.lookup.LookupAt.{LookupAt}
 use Rattle.node_ops.specs.declared.lookup.LookupAt.TheVariants as at
 use Rattle.node_ops.specs.Calls.{IsCall, name_in, at_node, call_address}
-use Rattle.data_node.specs.Spots.{bitmap_offset, slot_offset}
-use Rattle.data_node.specs.Lines.{state_offset}
 use Rattle.node_ops.specs.LookupSteps.{came_by, is_spent, goes_to, ends, floored, walked_on, saw_directory}
 use Rattle.node_ops.specs.LookupSteps.{next_candidate, candidate_turned, lookup_at_asks, lookup_at_turned, IsFlooring}
 use Rattle.node_ops.specs.LookupSteps.{IsLookupAt}
@@ -59,7 +57,8 @@ use Rattle.lone_call_law.specs.There.{LookupStands, LookedStands, LooksComeThere
 use Rattle.lone_call_law.specs.There.{RestIsStill, IdleIsQuiet}
 use Rattle.std.specs.Prelude.{IsSome, is_some}
 use Rattle.std.specs.Prelude.{Option, Some, None}
-use Rattle.pm_words.specs.Offsets.{status_offset, version_offset}
+use Rattle.pm_words.specs.Offsets.{version_offset, bitmap_offset, next_offset, anchor_offset, slot_offset, state_offset}
+use Rattle.pm_words.specs.Offsets.{status_offset}
 use Rattle.index_law.proofs.Places.{node_at, offset_at}
 
 pub rest_is_still : RestIsStill

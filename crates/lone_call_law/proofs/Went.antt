@@ -92,7 +92,7 @@ use Rattle.lone_call_law.specs.Splitting.{HasLine, HasFree, IsLacking, SplitStan
 use Rattle.lone_call_law.specs.Splitting.{HoldsAlone}
 use Rattle.lone_call_law.proofs.Splitting.{splits_come_there, take_unmoved, take_told}
 use Rattle.index_law.specs.Facts.{version_in, list_in}
-use Rattle.data_node.specs.Lists.{IsIn, key_of, next_offset}
+use Rattle.data_node.specs.Lists.{IsIn, key_of}
 use Rattle.data_node.proofs.ListLemmas.{target_in}
 use Rattle.call_stages.specs.Kinds.{Told}
 use Rattle.call_stages.specs.declared.view.View.{View}
@@ -121,9 +121,8 @@ use Rattle.pm_words.proofs.Apart.{at-set_other}
 use Rattle.index_law.proofs.Noting.{line-alike}
 use Rattle.index_law.proofs.Rows.{spot_in-alike, status_in-alike, version_in-alike}
 use Rattle.node_ops.specs.Calls.{IsCall}
-use Rattle.data_node.specs.Spots.{bitmap_offset, slot_offset}
-use Rattle.data_node.specs.Lines.{state_offset}
-use Rattle.pm_words.specs.Offsets.{permutation_version_offset, status_offset, version_offset}
+use Rattle.pm_words.specs.Offsets.{version_offset, bitmap_offset, next_offset, slot_offset, state_offset, status_offset}
+use Rattle.pm_words.specs.Offsets.{permutation_version_offset}
 
 -- a write that has come there holds the lock
 came_locked : (l : Layout) (words0 words : List ℕ) (call : Call) (word : ℕ) (limit : Option ℕ) → IsSome limit → HasCome limit l words0 words call word → IsAtNode l words0 call × IsUnmoved l words0 words call.node
@@ -546,7 +545,7 @@ stores_unmoved store l words0 words n layout here unmoved =
       | true ↦ λ more. subst (λ (m : Layout). IsUnmoved l words0 (set words (address_of m (Volatile store.node (8 + store.stored))) (slice_index store.words store.stored)) n) (sym layout)
           (beyond_unmoved l words0 words n store.node (8 + store.stored) (slice_index store.words store.stored) here (let low = ltb-true store.stored 8 more in omega arith) (λ e. omega arith) unmoved)
       | false ↦ λ last. subst (λ (m : Layout). IsUnmoved l words0 (set words (address_of m (Volatile store.node permutation_version_offset)) (store.locked + 1)) n) (sym layout)
-          (beyond_unmoved l words0 words n store.node 3 (store.locked + 1) here (omega arith) (λ e. omega arith) unmoved)
+          (beyond_unmoved l words0 words n store.node permutation_version_offset (store.locked + 1) here (omega arith) (λ e. omega arith) unmoved)
     ] refl
 
 stored_went : (l : Layout) (words0 words : List ℕ) (reading : Reading) (turn : Turn StorePermutation (Unit {0})) → WayIsThere l words0 words reading.call reading.hold.locked reading.way → PartIsThere l words0 words (part.Reading (store_on reading turn))

@@ -8,6 +8,7 @@ use Rattle.pm_words.specs.declared.again.Again.TheVariants as again
 use Rattle.pm_words.specs.declared.machine.Turn.{Turn}
 use Rattle.pm_words.specs.declared.machine.Turn.TheVariants.{Go, Done}
 use Rattle.pm_words.specs.Rows.{got, acted}
+use Rattle.pm_words.specs.Offsets.{state_offset}
 use Rattle.version_lock.specs.Versions.{IsWorn}
 use Rattle.cat_history.specs.Maps.{at}
 use Rattle.cat_history.specs.Records.{change_of}
@@ -18,7 +19,6 @@ use Rattle.call_stages.specs.declared.once.Once.TheVariants as once
 use Rattle.call_stages.specs.declared.once.Placed.{Placed}
 use Rattle.call_stages.specs.Stages.{Idle}
 use Rattle.cat_key.specs.Names.{IsName}
-use Rattle.data_node.specs.Lines.{state_offset}
 use Rattle.call_stages.specs.declared.view.View.{View}
 use Rattle.node_ops.specs.Calls.{new_call}
 use Rattle.node_ops.specs.declared.call.Call.{Call}

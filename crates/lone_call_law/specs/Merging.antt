@@ -6,7 +6,8 @@ use Rattle.cat_history.specs.declared.op.NameOp.{NameOp}
 use Rattle.cat_history.specs.declared.op.NameOp.TheVariants as op
 use Rattle.version_lock.specs.Versions.{IsWorn}
 use Rattle.shapes.specs.Anchors.{next_of, names_at, merges, del_anchors}
-use Rattle.data_node.specs.Lists.{next_offset, target_from, key_of, without_member}
+use Rattle.pm_words.specs.Offsets.{next_offset}
+use Rattle.data_node.specs.Lists.{target_from, key_of, without_member}
 use Rattle.node_ops.specs.Asked.{name_asked}
 use Rattle.index_law.specs.Facts.{map_now}
 use Rattle.index_law.specs.Anchors.{anchors_in, members_most}

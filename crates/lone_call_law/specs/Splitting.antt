@@ -7,7 +7,7 @@ use Rattle.pm_words.specs.declared.again.Again.TheVariants as again
 use Rattle.pm_words.specs.declared.machine.Turn.{Turn}
 use Rattle.pm_words.specs.declared.machine.Turn.TheVariants.{Go, Done}
 use Rattle.pm_words.specs.Rows.{acted, got}
-use Rattle.data_node.specs.Lines.{state_offset}
+use Rattle.pm_words.specs.Offsets.{state_offset}
 use Rattle.version_lock.specs.Versions.{IsFree, IsWorn}
 use Rattle.call_stages.specs.Kinds.{Told}
 use Rattle.pm_alloc.specs.Events.{Heard, HasHeard}

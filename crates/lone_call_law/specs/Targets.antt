@@ -4,8 +4,9 @@ use mathlib.Core.Option.{some}
 use lib.ListN.{get_elem?}
 use Rattle.pm_words.specs.Codes.{live_status}
 use Rattle.pm_words.specs.declared.layout.Layout.{Layout}
+use Rattle.pm_words.specs.Offsets.{next_offset}
 use Rattle.cat_key.specs.Names.{IsName}
-use Rattle.data_node.specs.Lists.{next_offset, target_from, key_of, anchor_in, number_of}
+use Rattle.data_node.specs.Lists.{target_from, key_of, anchor_in, number_of}
 use Rattle.call_stages.specs.Stages.{Saw}
 use Rattle.data_list.specs.declared.target.Next.{Next}
 use Rattle.data_list.specs.declared.target.Target.{Target}

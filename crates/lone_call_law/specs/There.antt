@@ -5,9 +5,9 @@ use Rattle.pm_words.specs.declared.machine.Turn.{Turn}
 use Rattle.pm_words.specs.declared.machine.Turn.TheVariants.{Go, Done}
 use Rattle.pm_words.specs.Locations.{Cached}
 use Rattle.pm_words.specs.Rows.{acted, got}
+use Rattle.pm_words.specs.Offsets.{next_offset, state_offset}
 use Rattle.version_lock.specs.Versions.{IsWorn}
-use Rattle.data_node.specs.Lists.{next_offset, target_from, key_of}
-use Rattle.data_node.specs.Lines.{state_offset}
+use Rattle.data_node.specs.Lists.{target_from, key_of}
 use Rattle.call_stages.specs.declared.once.Once.{Once}
 use Rattle.call_stages.specs.declared.once.Once.TheVariants as once
 use Rattle.call_stages.specs.declared.once.Placed.{Placed}

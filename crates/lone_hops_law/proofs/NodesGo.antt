@@ -10,10 +10,10 @@ use Rattle.pm_words.specs.declared.layout.Layout.{Layout}
 use Rattle.pm_words.specs.declared.action.Action.{Action}
 use Rattle.pm_words.specs.Locations.{Line, Cached, Durable, address_of}
 use Rattle.pm_words.specs.Rows.{acted, got}
+use Rattle.pm_words.specs.Offsets.{next_offset, state_offset}
 use Rattle.pm_words.proofs.Kept.{action_address-drain}
 use Rattle.cat_history.specs.declared.op.Change.{Change}
-use Rattle.data_node.specs.Lists.{ListNode, next_offset, IsIn, IsChain, without_member}
-use Rattle.data_node.specs.Lines.{state_offset}
+use Rattle.data_node.specs.Lists.{ListNode, IsIn, IsChain, without_member}
 use Rattle.call_stages.specs.declared.once.Once.{Once}
 use Rattle.call_stages.specs.declared.once.Placed.{Placed}
 use Rattle.call_stages.specs.Stages.{Stage, Filling, Gathered, Gone, Idle, Saw, Wears, Reads, Holds, Eyes, Splits}

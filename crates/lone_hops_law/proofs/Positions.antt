@@ -2,8 +2,9 @@
 use Rattle.std.proofs.Common.{◌≡◌, ◌≢◌, ℕ, ◌+◌, ◌<◌, ◌≤◌, ◌⊎◌, ◌==◌, true, false, cond, List, [], ◌∷◌, inl, inr, ⊎_elim, refl, sym, ap, ◌∙◌, arith}
 use Rattle.std.specs.Prelude.{nat_le}
 use Rattle.std.proofs.lemmas.Bool.{eqb-true, eqb-false, leb-true, leb-false, le-leb, lt-leb}
+use Rattle.pm_words.specs.Offsets.{next_offset}
 use Rattle.data_node.specs.Spots.{Spot}
-use Rattle.data_node.specs.Lists.{ListNode, next_offset, anchor_in, IsMember, IsChain, Rise, with_member, without_member}
+use Rattle.data_node.specs.Lists.{ListNode, anchor_in, IsMember, IsChain, Rise, with_member, without_member}
 use Rattle.data_node.proofs.ListLemmas.{above, rise_at, chain_closed}
 use Rattle.data_list.specs.Still.{position_from}
 

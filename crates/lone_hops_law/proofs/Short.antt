@@ -4,8 +4,7 @@ use Rattle.pm_words.specs.Codes.{ready_state}
 use Rattle.pm_words.specs.declared.layout.Layout.{Layout}
 use Rattle.pm_words.specs.Locations.{Node, Cached, Volatile}
 use Rattle.data_node.specs.Lists.{anchor_in, members_from, IsIn, Rise}
-use Rattle.data_node.specs.Lines.{state_offset}
-use Rattle.pm_words.specs.Offsets.{prev_offset, status_offset, version_offset}
+use Rattle.pm_words.specs.Offsets.{version_offset, state_offset, status_offset, prev_offset}
 use Rattle.data_list.specs.Still.{Nodes, AreQuiet}
 use Rattle.data_list.proofs.Comings.{comes_once}
 use Rattle.index_law.specs.Facts.{spot_in, status_in, version_in}

@@ -3,8 +3,10 @@ use Rattle.std.proofs.Common.{◌≡◌, ◌≢◌, ℕ, suc, ◌+◌, ◌<◌, 
 use Rattle.std.specs.Prelude.{nat_le}
 use Rattle.std.proofs.lemmas.Bool.{cases_eq, eqb-true, leb-true, leb-false}
 use Rattle.pm_words.specs.declared.layout.Layout.{Layout}
+use Rattle.pm_words.specs.Offsets.{next_offset}
 use Rattle.data_node.specs.Spots.{Spot}
-use Rattle.data_node.specs.Lists.{ListNode, next_offset, anchor_in, target_from, IsMember, IsIn, IsChain, Rise, with_member, without_member}
+use Rattle.data_node.specs.Lists.{ListNode, anchor_in, target_from, IsMember, IsIn, IsChain, Rise, with_member}
+use Rattle.data_node.specs.Lists.{without_member}
 use Rattle.data_node.proofs.ListLemmas.{above, rise_at, chain_closed}
 use Rattle.data_list.specs.Still.{Nodes, position_from, AreQuiet, Comes, is_there, leaves_gone, goes_back}
 use Rattle.data_list.proofs.Comings.{forward}

@@ -5,8 +5,9 @@ use lib.ListN.{get_elem?}
 use Rattle.pm_words.specs.Codes.{gone_status}
 use Rattle.pm_words.specs.declared.action.Action.{Action}
 use Rattle.pm_words.specs.Rows.{got}
+use Rattle.pm_words.specs.Offsets.{next_offset}
 use Rattle.cat_history.specs.declared.op.Change.{Change}
-use Rattle.data_node.specs.Lists.{next_offset, without_member}
+use Rattle.data_node.specs.Lists.{without_member}
 use Rattle.call_stages.specs.declared.once.Once.{Once}
 use Rattle.call_stages.specs.declared.once.Placed.{Placed}
 use Rattle.call_stages.specs.Stages.{Stage, Idle, Joins}

@@ -3,7 +3,8 @@
 use Rattle.std.specs.Prelude.{◌≡◌, ◌≢◌, ℕ, suc, ◌+◌, ◌-◌, ◌<◌, ◌≤◌, List}
 use Rattle.pm_words.specs.Codes.{gone_status}
 use Rattle.pm_words.specs.declared.layout.Layout.{Layout}
-use Rattle.data_node.specs.Lists.{ListNode, next_offset, anchor_in, IsIn, with_member, without_member}
+use Rattle.pm_words.specs.Offsets.{next_offset}
+use Rattle.data_node.specs.Lists.{ListNode, anchor_in, IsIn, with_member, without_member}
 use Rattle.data_list.specs.Still.{Nodes, position_from, AreQuiet, Comes}
 
 -- From a node the prevs of so many GONE ones lead to this listed one.

@@ -9,6 +9,7 @@ use Rattle.pm_words.specs.declared.action.Action.{Action}
 use Rattle.pm_words.specs.declared.machine.Turn.TheVariants.{Done}
 use Rattle.pm_words.specs.Locations.{Updater, at}
 use Rattle.pm_words.specs.Rows.{CanAct, acted, got}
+use Rattle.pm_words.specs.Codes.{untaken_lock, taken_lock}
 use Rattle.call_stages.specs.Watches.{Nothing}
 use Rattle.index_law.specs.Worlds.{World}
 use Rattle.index_law.proofs.Parties.{set_here, set_else}
@@ -64,7 +65,7 @@ module _ (z : Layered) (i : ℕ) (t : Turning) (stamp release : ℕ) (is : IsIdl
   about_rests : AreRestingBut about.turns i
   about_rests j u at_u other = (is.turns j u (sym (set_else z.turns i j first other) ∙ at_u)).stage
 
-  unlocked : at w.layout w.words Updater ≡ 0
+  unlocked : at w.layout w.words Updater ≡ untaken_lock
   unlocked = is.layered.unlocked (λ j u at_u. (is.turns j u at_u).stage)
 
   told : 0 ≡ got w.layout w.words asks
@@ -79,7 +80,7 @@ module _ (z : Layered) (i : ℕ) (t : Turning) (stamp release : ℕ) (is : IsIdl
       let ghosts : Ghosts = record { listed = λ n. false; holder = λ n. 0 } in
       let word : ℕ = at w.layout w.words Updater in
       let stored : row_marks w.layout after ≡ row_marks w.layout w.words =
-      ap (λ (f : TurnFacts). record { state = f.line.state; status = f.status; stamp = f.stamp }) (lock_stored terms ghosts w.words (cond (word == 0) 1 word)).facts in
+      ap (λ (f : TurnFacts). record { state = f.line.state; status = f.status; stamp = f.stamp }) (lock_stored terms ghosts w.words (cond (word == untaken_lock) taken_lock word)).facts in
       marks_tie (record w { words = after }) ∙ stored ∙ sym (marks_tie w)
 
   begun : HasEmptied w stamp (marks_in w) 0

@@ -8,8 +8,7 @@ use Rattle.pm_words.specs.declared.machine.Turn.{Turn}
 use Rattle.pm_words.specs.declared.machine.Turn.TheVariants.{Go, Done}
 use Rattle.pm_words.specs.Locations.{Volatile, Cached}
 use Rattle.pm_words.specs.Rows.{acted, got}
-use Rattle.pm_words.specs.Offsets.{stamp_offset, version_offset}
-use Rattle.data_node.specs.Lines.{state_offset}
+use Rattle.pm_words.specs.Offsets.{version_offset, state_offset, stamp_offset}
 use Rattle.version_lock.specs.Versions.{is_worn_word}
 use Rattle.call_stages.specs.Stages.{Idle}
 use Rattle.call_stages.specs.Watches.{Nothing}

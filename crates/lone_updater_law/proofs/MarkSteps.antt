@@ -10,8 +10,7 @@ use Rattle.pm_words.specs.declared.action.Action.{Action}
 use Rattle.pm_words.specs.declared.action.Action.TheVariants.{Load}
 use Rattle.pm_words.specs.Locations.{Volatile, Cached, Node}
 use Rattle.pm_words.specs.Rows.{IsRow, acted, got}
-use Rattle.pm_words.specs.Offsets.{stamp_offset, status_offset, version_offset}
-use Rattle.data_node.specs.Lines.{state_offset}
+use Rattle.pm_words.specs.Offsets.{version_offset, state_offset, left_offset, status_offset, stamp_offset}
 use Rattle.version_lock.specs.Versions.{is_worn_word}
 use Rattle.index_law.specs.Worlds.{World, facts}
 use Rattle.index_layer_law.specs.search_layer.specs.ChangeStages.{Changing, Changed, ChangeStep}
@@ -122,10 +121,10 @@ module _ (before : World) (stamp release : ℕ) where
 
   -- which nodes it doesn't free, and which it does
   not_gone : (n : ℕ) → status n ≢ gone_status → frees_node before stamp release n ≡ false
-  not_gone n other_status = ap (λ b. b && (nat_le (stamp_then before stamp n) release && not (worn n))) (ne_eqb (status n) 2 other_status)
+  not_gone n other_status = ap (λ b. b && (nat_le (stamp_then before stamp n) release && not (worn n))) (ne_eqb (status n) gone_status other_status)
 
   both_gone : (n : ℕ) → status n ≡ gone_status → frees_node before stamp release n ≡ (nat_le (stamp_then before stamp n) release && not (worn n))
-  both_gone n gone = ap (λ b. b && (nat_le (stamp_then before stamp n) release && not (worn n))) (eq-eqb (status n) 2 gone)
+  both_gone n gone = ap (λ b. b && (nat_le (stamp_then before stamp n) release && not (worn n))) (eq-eqb (status n) gone_status gone)
 
   is_late : (n : ℕ) → status n ≡ gone_status → release < stamp_then before stamp n → frees_node before stamp release n ≡ false
   is_late n gone late = both_gone n gone ∙ ap (λ b. b && not (worn n)) (lt-leb (stamp_then before stamp n) release late)
@@ -231,7 +230,7 @@ module _ (before : World) (stamp release : ℕ) (l : Layout) (g : ℕ) (some : s
     m = row_marks l words
 
     -- what a load tells
-    state_told : (j x : ℕ) → j < line_count l → x ≡ got l words (Load (line_at l j 0)) → m.state j ≡ x
+    state_told : (j x : ℕ) → j < line_count l → x ≡ got l words (Load (line_at l j state_offset)) → m.state j ≡ x
     state_told j x lt told = column-here l words (line_count l) (λ i. Cached (line_word state_offset i)) j lt ∙ sym told
 
     volatile_told : (n o x : ℕ) → n < l.nodes → x ≡ got l words (Load (volatile_at l n o)) → volatile_field l words o n ≡ x
@@ -274,11 +273,11 @@ module _ (before : World) (stamp release : ℕ) (l : Layout) (g : ℕ) (some : s
     done_after (takes_lock free) busy handles told is later_is done = absurd (busy refl)
     done_after (finds_held taken) busy handles told is later_is done = absurd (busy refl)
     done_after (passes {j = j} {x = x} within unready) busy handles told is later_is done =
-        line_done (facts_in r later (acted l words (Load (line_at l j 0)))) j within later_is.0 later_is.1
-        (loads (λ k. HasEmptied before stamp k (suc j)) (line_at l j 0) (passed before stamp m j (states j) (λ two. unready (sym (state_told j x within told) ∙ two)) done))
-    done_after (sees {j = j} seen within ready size) busy handles told is later_is done = loads (λ k. HasEmptied before stamp k j) (line_at l j 0) done
+        line_done (facts_in r later (acted l words (Load (line_at l j state_offset)))) j within later_is.0 later_is.1
+        (loads (λ k. HasEmptied before stamp k (suc j)) (line_at l j state_offset) (passed before stamp m j (states j) (λ two. unready (sym (state_told j x within told) ∙ two)) done))
+    done_after (sees {j = j} seen within ready size) busy handles told is later_is done = loads (λ k. HasEmptied before stamp k j) (line_at l j state_offset) done
     done_after (reads {j = j} {offset = offset} within positive small named) busy handles told is later_is done = loads (λ k. HasEmptied before stamp k j) (line_at l j offset) done
-    done_after (has_read {j = j} within) busy handles told is later_is done = loads (λ k. HasEmptied before stamp k j) (line_at l j 6) done
+    done_after (has_read {j = j} within) busy handles told is later_is done = loads (λ k. HasEmptied before stamp k j) (line_at l j left_offset) done
     done_after (walks {e = e} {address = address} within) busy handles told is later_is done = loads (λ k. HasEmptied before stamp k e.line) address done
     done_after (is_turned_back {e = e} within) busy handles told is later_is done = absurd (past_no_line (nat_lt (e.line + 1) (line_count l)) e.line handles)
     done_after (finds {e = e} {address = address} within node free) busy handles told is later_is done = loads (λ k. HasEmptied before stamp k e.line) address done
@@ -298,10 +297,10 @@ module _ (before : World) (stamp release : ℕ) (l : Layout) (g : ℕ) (some : s
         line_done (facts_in r later _) j within later_is.0 later_is.1
         (stores (λ k. HasEmptied before stamp k (suc j)) _ _ (line_emptied r ghosts words j row.whole within).facts (emptied before stamp m j done))
     done_after (passes_node {n = n} {x = x} within other_status) busy handles told is later_is done =
-        skips n (volatile_at l n status_offset) within (not_gone before stamp release n (λ gone. other_status (sym (volatile_told n 0 x within told) ∙ (done.ahead n (omega arith)).status ∙ gone))) done
+        skips n (volatile_at l n status_offset) within (not_gone before stamp release n (λ gone. other_status (sym (volatile_told n status_offset x within told) ∙ (done.ahead n (omega arith)).status ∙ gone))) done
     done_after (sees_gone {n = n} within gone) busy handles told is later_is done = loads (λ k. HasSwept before stamp release k n) (volatile_at l n status_offset) done
     done_after (passes_stamp {n = n} {x = x} within why) busy handles told is later_is done =
-        let stamp_x : stamp_then before stamp n ≡ x = sym (stamp_is n is.law.sure done) ∙ volatile_told n 2 x within told in
+        let stamp_x : stamp_then before stamp n ≡ x = sym (stamp_is n is.law.sure done) ∙ volatile_told n stamp_offset x within told in
         skips n (volatile_at l n stamp_offset) within (is_late before stamp release n (gone_was n is.law.sure done)
         (elim why [ inl none ↦ absurd (then_some before stamp some n (stamp_x ∙ none)) | inr late ↦ subst (λ k. release < k) (sym stamp_x) late ])) done
     done_after (sees_stamp {n = n} within some_stamp early) busy handles told is later_is done = loads (λ k. HasSwept before stamp release k n) (volatile_at l n stamp_offset) done

@@ -1,5 +1,6 @@
 -- What the actions of a turn give in an index: it may be told that, and of a READY line a node and an anchor.
 use Rattle.std.proofs.Common.{◌≡◌, ◌≢◌, ℕ, ◌/◌, ◌%◌, ◌<◌, ◌≤◌, List, [], ◌∷◌, slice_index, inl, inr, refl, sym, subst}
+use Rattle.std.proofs.Common.{◌+◌}
 use Rattle.std.proofs.Common.{ap, ◌∙◌, arith, true, false}
 use Rattle.std.proofs.lemmas.Bool.{cases_eq}
 use Rattle.std.proofs.lemmas.List.Elements.{All-head}
@@ -14,10 +15,10 @@ use Rattle.std.specs.Int.{w64, to_be_bytes}
 use Rattle.cat_key.proofs.Digits.{to_be_bytes-word_of}
 use Rattle.cat_key.proofs.Packing.{name_bytes}
 use Rattle.version_lock.specs.Versions.{generation_of}
-use Rattle.data_node.specs.Lists.{next_offset, anchor_in}
+use Rattle.data_node.specs.Lists.{anchor_in}
 use Rattle.data_node.proofs.KeyLemmas.{zero_anchor}
-use Rattle.data_node.specs.Lines.{state_offset}
-use Rattle.pm_words.specs.Offsets.{stamp_offset, status_offset, version_offset}
+use Rattle.pm_words.specs.Offsets.{version_offset, next_offset, anchor_offset, state_offset, line_node_offset}
+use Rattle.pm_words.specs.Offsets.{status_offset, stamp_offset}
 use Rattle.pm_words.specs.Codes.{ready_state}
 use Rattle.call_stages.specs.Kinds.{HasWordAt, Told}
 use Rattle.call_stages.specs.Lines.{IsEntry}
@@ -76,11 +77,11 @@ told_any w a lawful =
     anchor_word : (f : Facts) (offset : ℕ) → anchor_in (f.now 0) ≡ 0 → 3 ≤ offset → offset ≤ 5 → f.now 0 offset ≡ 0
     anchor_word f offset lowest least most =
         let zeros = zero_anchor (f.now 0) lowest in
-        elim (cases_eq offset 3) [
+        elim (cases_eq offset anchor_offset) [
           | inl e ↦ ap (f.now 0) e ∙ ap (λ ws. slice_index ws 0) zeros
           | inr not_third ↦ elim (cases_eq offset 4) [
             | inl e ↦ ap (f.now 0) e ∙ ap (λ ws. slice_index ws 1) zeros
-            | inr not_fourth ↦ let last : offset ≡ 5 = omega (arith, not_third, not_fourth) in ap (f.now 0) last ∙ ap (λ ws. slice_index ws 2) zeros
+            | inr not_fourth ↦ let last : offset ≡ anchor_offset + 2 = omega (arith, not_third, not_fourth) in ap (f.now 0) last ∙ ap (λ ws. slice_index ws 2) zeros
           ]
         ]
 
@@ -117,13 +118,13 @@ module _ (l : Layout) (words : List ℕ) where
       → ToldOfLine l (Load (numbered_address l line offset)) (got l words (Load (numbered_address l line offset)))
   line_told line offset fit within small ready = record {
     node = λ other here is.
-        let same = same_as other 2 here (omega arith) is in
+        let same = same_as other line_node_offset here (omega arith) is in
         let entry = ready_entry l words line fit within (ready (omega (arith, same.1))) in
-        subst (λ x. x < l.nodes) (sym (loaded 2 same.1 (omega arith))) entry.node.1;
+        subst (λ x. x < l.nodes) (sym (loaded line_node_offset same.1 (omega arith))) entry.node.1;
     named = λ other here is none.
-        let same = same_as other 3 here (omega arith) is in
+        let same = same_as other anchor_offset here (omega arith) is in
         let entry = ready_entry l words line fit within (ready (omega (arith, same.1))) in
-        name_first entry.name entry.is_name (ap (λ ws. slice_index ws 0) (sym entry.anchor) ∙ sym (loaded 3 same.1 (omega arith)) ∙ none);
+        name_first entry.name entry.is_name (ap (λ ws. slice_index ws 0) (sym entry.anchor) ∙ sym (loaded anchor_offset same.1 (omega arith)) ∙ none);
   }
     where
       same_as : (other o : ℕ) → other < line_count l → o < 8 → Load (numbered_address l line offset) ≡ Load (numbered_address l other o) → (line ≡ other) × (offset ≡ o)

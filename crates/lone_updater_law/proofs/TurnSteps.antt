@@ -11,8 +11,7 @@ use Rattle.pm_words.specs.Locations.{Cached, at}
 use Rattle.pm_words.specs.Rows.{IsRow, CanAct, acted, got}
 use Rattle.pm_words.proofs.Kept.{acted_row}
 use Rattle.pm_words.specs.Codes.{empty_state, ready_state}
-use Rattle.pm_words.specs.Offsets.{version_offset}
-use Rattle.data_node.specs.Lines.{state_offset}
+use Rattle.pm_words.specs.Offsets.{version_offset, state_offset}
 use Rattle.version_lock.specs.Versions.{is_free_word}
 use Rattle.version_lock.proofs.WordTests.{free_is}
 use Rattle.call_stages.specs.Stages.{Idle}

@@ -11,9 +11,9 @@ use Rattle.call_stages.specs.Footings.{Footing, FootStep}
 use Rattle.call_stages.specs.Prevs.{Debt}
 use Rattle.cat_history.specs.declared.op.Change.{Change}
 use Rattle.data_node.specs.Spots.{Spot}
-use Rattle.data_node.specs.Lines.{state_offset}
 use Rattle.pm_words.specs.Rows.{got}
 use Rattle.pm_words.specs.declared.action.Action.{Action}
+use Rattle.pm_words.specs.Offsets.{state_offset}
 use mathlib.Core.Option.{some}
 use lib.ListN.{get_elem?}
 use Rattle.lone_call_law.specs.node_ops.specs.CallStages.{footing_of}

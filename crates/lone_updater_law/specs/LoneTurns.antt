@@ -4,10 +4,9 @@ use mathlib.Core.Option.{some}
 use lib.ListN.{get_elem?}
 use Rattle.pm_words.specs.Codes.{free_status, gone_status, empty_state, ready_state}
 use Rattle.pm_words.specs.Locations.{Cached}
-use Rattle.pm_words.specs.Offsets.{stamp_offset}
+use Rattle.pm_words.specs.Offsets.{state_offset, stamp_offset}
 use Rattle.version_lock.specs.Versions.{is_worn_word, IsWorn}
 use Rattle.data_node.specs.Lists.{anchor_in}
-use Rattle.data_node.specs.Lines.{state_offset}
 use Rattle.call_stages.specs.Stages.{Idle}
 use Rattle.index_law.specs.Facts.{IsListed}
 use Rattle.index_law.specs.Worlds.{World, facts}

@@ -7,7 +7,7 @@ use Rattle.pm_words.specs.declared.machine.Turn.{Turn}
 use Rattle.pm_words.specs.declared.machine.Turn.TheVariants.{Go, Done}
 use Rattle.data_node.specs.Slots.{AreAllLive}
 use Rattle.data_node.specs.Bits.{lowest_clear}
-use Rattle.data_node.specs.Spots.{Spot, bitmap_offset, slot_offset}
+use Rattle.data_node.specs.Spots.{Spot}
 use Rattle.data_node.proofs.BitLemmas.{lowest_clear-some}
 use Rattle.data_node.proofs.StoreLemmas.{means_valued}
 use Rattle.call_stages.specs.declared.once.Once.{Once}
@@ -60,6 +60,7 @@ use Rattle.node_ops.specs.declared.running.Running.{Running}
 use Rattle.node_ops.specs.declared.running.Running.TheVariants.{Getting, Putting, Deleting, Parting}
 use Rattle.node_ops.specs.Calls.{IsCall, name_in}
 use Rattle.pm_words.specs.Fences.{line_of, fence_start}
+use Rattle.pm_words.specs.Offsets.{bitmap_offset, prints_offset, slot_offset}
 use Rattle.node_ops.specs.LookupSteps.{IsHit, IsFoundBy, lookup_turned}
 use Rattle.node_ops.specs.FinishSteps.{finish_turned}
 use Rattle.node_ops.specs.FillSteps.{fill_turned}
@@ -123,7 +124,7 @@ module _ (call : Call) (sound : IsCall call) where
       (get_or found.directory.prints (slot / 8) 0) 0)) s
   fill_known s found value slot eight small known =
       let prints = found.directory.prints in
-      let stands : Stand s 8 prints (length prints) = stand_whole s 8 prints (seen_front s (words_from 8 prints) (hit_words call found.hit) known.seen.1) in
+      let stands : Stand s prints_offset prints (length prints) = stand_whole s prints_offset prints (seen_front s (words_from prints_offset prints) (hit_words call found.hit) known.seen.1) in
       record {
         seen = (stands (slot / 8) (omega arith), seen_append s (seen_hit call found.directory.bitmap found.hit) [] (part_hit s call found known) tt);
         left = tt;

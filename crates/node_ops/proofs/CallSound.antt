@@ -6,7 +6,6 @@ use Rattle.pm_words.specs.declared.machine.Turn.{Turn}
 use Rattle.pm_words.specs.declared.machine.Turn.TheVariants.{Go, Done}
 use Rattle.data_node.specs.Slots.{AreAllLive}
 use Rattle.data_node.specs.Bits.{lowest_clear}
-use Rattle.data_node.specs.Spots.{bitmap_offset, slot_offset}
 use Rattle.data_node.proofs.BitLemmas.{lowest_clear-some, lowest_clear-none}
 use Rattle.call_stages.specs.declared.once.Once.{Once}
 use Rattle.call_stages.specs.declared.once.Placed.{Placed}
@@ -37,6 +36,7 @@ use Rattle.node_ops.specs.declared.running.Running.TheVariants.{Getting, Putting
 use Rattle.node_ops.specs.Calls.{IsCall, at_node, IsSame}
 use Rattle.pm_words.specs.Fences.{IsFence, line_of, fence_start, fence_next}
 use Rattle.pm_words.specs.Locations.{node_words}
+use Rattle.pm_words.specs.Offsets.{bitmap_offset, slot_offset}
 use Rattle.pm_words.proofs.Fencing.{fence_stays}
 use Rattle.node_ops.specs.LookupSteps.{IsHit, IsFoundBy, lookup_turned}
 use Rattle.node_ops.specs.FinishSteps.{IsFinish, IsFinishAt, finish_turned, finish_at_turned, finish_fenced}

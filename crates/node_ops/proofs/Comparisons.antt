@@ -11,8 +11,8 @@ use Rattle.pm_words.specs.Locations.{node_words}
 use Rattle.pm_words.specs.Rows.{CanAct, acted, got}
 use Rattle.pm_words.specs.Turns.{GoesBelow}
 use Rattle.pm_words.specs.declared.machine.Turn.{Turn}
+use Rattle.pm_words.specs.Offsets.{bitmap_offset, prints_offset, slot_offset}
 use Rattle.data_node.specs.Bits.{candidate_bits, without_live, lowest_live}
-use Rattle.data_node.specs.Spots.{slot_offset, bitmap_offset}
 use Rattle.data_node.proofs.BitLemmas.{lowest_live-some, without_live-same}
 use Rattle.node_ops.specs.declared.call.Call.{Call}
 use Rattle.node_ops.specs.declared.lookup.Hold.{Hold}
@@ -30,7 +30,7 @@ use Rattle.node_ops.proofs.Leading.{leads_looks, leads_on, leads_to, leads_turn,
 use Rattle.node_ops.proofs.Measures.{comparing_within, name_fewer}
 
 -- addresses of words that stand one behind another
-print_address : (call : Call) (k first : ℕ) → first ≡ call_address call 8 → first + k ≡ call_address call (8 + k)
+print_address : (call : Call) (k first : ℕ) → first ≡ call_address call prints_offset → first + k ≡ call_address call (8 + k)
 print_address call k first is = omega (arith, is)
 
 word_address : (call : Call) (slot k first : ℕ) → first ≡ call_address call (slot_offset slot 0)
@@ -80,12 +80,12 @@ module _ {old now : Row} (call : Call) (hold : Hold) (bitmap : ℕ) (prints : Li
       (ap (λ (b : Bool). cond b (goes_to call (at.Prints hold bitmap prints k))
       (saw_directory call hold (record { bitmap = bitmap; prints = prints }))) (lt-ltb k 8 small))
 
-  pub print_can : {first : ℕ} → first ≡ call_address call 8 → CanAct now.layout now.words (Load (first + k))
+  pub print_can : {first : ℕ} → first ≡ call_address call prints_offset → CanAct now.layout now.words (Load (first + k))
   print_can {first} is =
       look_can (record { call = call; at = at.Prints hold bitmap prints k }) prints_on.may
       (ap (λ (a : ℕ). Load a) (print_address call k first is))
 
-  pub print_leads : {after : Row} {first number later : ℕ} → first ≡ call_address call 8
+  pub print_leads : {after : Row} {first number later : ℕ} → first ≡ call_address call prints_offset
       → after ≡ record now { words = acted now.layout now.words (Load (first + k)) }
       → number ≡ got now.layout now.words (Load (first + k)) → later ≡ steps + 1
       → LeadsTo old after call from (has_prints call hold bitmap (slice_set prints k number) (k + 1)) begun later

@@ -7,11 +7,10 @@ use Rattle.pm_words.specs.declared.action.Action.{Action}
 use Rattle.pm_words.specs.declared.machine.Turn.{Turn}
 use Rattle.pm_words.specs.declared.machine.Turn.TheVariants.{Go, Done}
 use Rattle.data_node.specs.Bits.{without_live}
-use Rattle.data_node.specs.Spots.{updated, bitmap_offset, Means}
+use Rattle.data_node.specs.Spots.{updated, Means}
 use Rattle.data_node.proofs.BitLemmas.{without_live_below}
 use Rattle.data_node.proofs.SpotLemmas.{remove_absent}
 use Rattle.data_node.proofs.StoreLemmas.{means_cleared}
-use Rattle.data_node.specs.Lines.{state_offset}
 use Rattle.call_stages.specs.declared.once.Once.{Once}
 use Rattle.call_stages.specs.declared.once.Placed.{Placed}
 use Rattle.call_stages.specs.Stages.{Held, Stage, Idle}
@@ -62,6 +61,7 @@ use Rattle.pm_words.specs.declared.fence.Fence.{Fence}
 use Rattle.pm_words.specs.declared.action.Action.TheVariants.{Load}
 use Rattle.pm_words.specs.Fences.{fence_next}
 use Rattle.pm_words.specs.Codes.{empty_state}
+use Rattle.pm_words.specs.Offsets.{bitmap_offset, state_offset}
 use Rattle.node_ops.specs.DelSteps.{IsDel, IsTakeOf, IsUnplaced, IsMerging, names_left, del_call, del_asks, del_turned, del_looked, del_hit, del_taken, del_finished, del_merged, cleared}
 use Rattle.node_ops.proofs.MergeFacts.{placed_still, goes_on_stage}
 use Rattle.node_ops.specs.RunningSteps.{running_turned, wrapped}

@@ -14,7 +14,7 @@ use Rattle.pm_words.specs.declared.machine.Turn.{Turn}
 use Rattle.pm_words.specs.declared.machine.Turn.TheVariants.{Go, Done}
 use Rattle.data_node.specs.Slots.{IsLive, IsClear, prints_of}
 use Rattle.data_node.specs.Bits.{with_live, without_live, printed}
-use Rattle.data_node.specs.Spots.{Spot, updated, bitmap_offset, print_offset, slot_offset, IsLiveIn, name_words, Means}
+use Rattle.data_node.specs.Spots.{Spot, updated, IsLiveIn, name_words, Means}
 use Rattle.data_node.proofs.BitLemmas.{with_live_below, without_live_below, printed_below, prints_of-printed}
 use Rattle.data_node.proofs.SpotLemmas.{updated-same, updated-other, lacks}
 use Rattle.data_node.proofs.StoreLemmas.{HasPair, means_slot_store, means_print_store, means_added, means_moved_from}
@@ -31,6 +31,7 @@ use Rattle.node_ops.specs.Calls.{name_in, call_address}
 use Rattle.pm_words.specs.Locations.{node_words}
 use Rattle.node_ops.specs.LookupSteps.{value_of, IsHit}
 use Rattle.pm_words.specs.Fences.{line_of, fence_start, fence_asks, fence_next}
+use Rattle.pm_words.specs.Offsets.{bitmap_offset, print_offset, slot_offset}
 use Rattle.node_ops.specs.FillSteps.{slot_line, print_line}
 use Rattle.node_ops.specs.FillSteps.{IsFill, IsFillAt, fill_word, bitmap_without, bitmap_after, fill_asks, fill_at_asks, fill_turned, fill_at_turned, slot_fenced, print_fenced}
 use Rattle.node_ops.specs.CallStages.{words_from, nothing, knows, decided, fence_rest, seen_hit, seen_fill, pair_words, slot_words, fill_stage, fill_at_held, finish_stage}

@@ -20,9 +20,9 @@ use Rattle.version_lock.specs.Versions.{kept_count, locked_word, is_worn_word}
 use Rattle.data_node.specs.Slots.{IsLive}
 use Rattle.data_node.specs.Bits.{without_live, lowest_live, candidate_bits}
 use Rattle.pm_words.specs.declared.layout.Layout.{Layout}
-use Rattle.pm_words.specs.Offsets.{version_offset}
+use Rattle.pm_words.specs.Offsets.{version_offset, bitmap_offset, prints_offset, slot_offset}
 use Rattle.data_node.specs.Lists.{three_words, key_of, IsBetween, number_of}
-use Rattle.data_node.specs.Spots.{Spot, bitmap_offset, slot_offset, IsLiveIn, name_words, IsTidy, Means}
+use Rattle.data_node.specs.Spots.{Spot, IsLiveIn, name_words, IsTidy, Means}
 use Rattle.data_node.proofs.BitLemmas.{lowest_live-some, lowest_live-none, without_live-other}
 use Rattle.data_node.proofs.SpotLemmas.{at_found, at_missing}
 use Rattle.data_node.proofs.StoreLemmas.{candidates_cover}
@@ -72,7 +72,7 @@ hit_words call None = []
 hit_words call (Some hit) = words_from (slot_offset hit.slot 0) call.name
 
 abbrev pub found_known : Call → Found → Known
-found_known call found = knows ((bitmap_offset, found.directory.bitmap) ∷ (words_from 8 found.directory.prints ++ hit_words call found.hit))
+found_known call found = knows ((bitmap_offset, found.directory.bitmap) ∷ (words_from prints_offset found.directory.prints ++ hit_words call found.hit))
 
 -- The step that ends the look-up of a write leads to each stage that relies on what was found: with the name's old
 -- number, with a part of what is known, and with a change that the node shows already. That of a read leads to one that
@@ -252,16 +252,16 @@ module _ (kept : Sight) (call : Call) (sound : IsCall call) where
 
   -- on to the lowest candidate that is left, if these slots cover the name
   next_leads : (hold : Hold) (directory : Directory) (left : ℕ) (k : Known) (offset x : ℕ) → offset < node_words call.view.layout → 0 < offset
-      → ((s : Spot) → Knows name k s → s offset ≡ x → Seen s ((bitmap_offset, directory.bitmap) ∷ words_from 8 directory.prints))
+      → ((s : Spot) → Knows name k s → s offset ≡ x → Seen s ((bitmap_offset, directory.bitmap) ∷ words_from prints_offset directory.prints))
       → ((s : Spot) → IsTidy slots s → Knows name k s → s offset ≡ x → (slot : ℕ) → slot < 64 → IsLiveIn s slot → name_words s slot ≡ words_of name → IsLive left slot)
       → Leads kept call (at_hold kept call hold (timed call hold k)) (Load (call_address call offset)) x (next_candidate call hold directory left)
   next_leads hold directory left k offset x within behind seen covers =
       elim (lowest_live left) as (λ o. lowest_live left ≡ o → Leads kept call (at_hold kept call hold (timed call hold k)) (Load (call_address call offset)) x (candidate_turned call hold directory left o)) [
-        | Some slot ↦ λ is. learn hold k (record { seen = (bitmap_offset, directory.bitmap) ∷ (words_from 8 directory.prints ++ []); left = Some left }) offset x within behind (λ s tidy known e.
+        | Some slot ↦ λ is. learn hold k (record { seen = (bitmap_offset, directory.bitmap) ∷ (words_from prints_offset directory.prints ++ []); left = Some left }) offset x within behind (λ s tidy known e.
             let both = seen s known e in
-            record { seen = (both.0, seen_append s (words_from 8 directory.prints) [] both.1 tt); left = covers s tidy known e })
+            record { seen = (both.0, seen_append s (words_from prints_offset directory.prints) [] both.1 tt); left = covers s tidy known e })
         | None ↦ λ is. decide (record { hold = hold; directory = directory; hit = None }) k offset x within behind
-            (λ s tidy known e. let both = seen s known e in record { seen = (both.0, seen_append s (words_from 8 directory.prints) [] both.1 tt); left = tt })
+            (λ s tidy known e. let both = seen s known e in record { seen = (both.0, seen_append s (words_from prints_offset directory.prints) [] both.1 tt); left = tt })
             (λ range s m in_range known e means. at_missing slots range s m name sound.packed.named in_range means (λ slot slot_within live same.
             let none : left ≡ 0 = lowest_live-none left is in
             let small : slot < 64 = let few : slots ≤ 64 = limit in omega arith in
@@ -333,19 +333,19 @@ module _ (kept : Sight) (call : Call) (sound : IsCall call) where
       → Leads kept call (lookup_at_stage kept call (look.Prints hold bitmap prints k)) (Load (call_address call (8 + k))) x (saw_prints call hold bitmap prints k x)
   prints_leads hold bitmap prints k x eight small =
       let directory : Directory = record { bitmap = bitmap; prints = set prints k x } in
-      let seen_so_far = knows ((bitmap_offset, bitmap) ∷ words_from 8 (take k prints)) in
+      let seen_so_far = knows ((bitmap_offset, bitmap) ∷ words_from prints_offset (take k prints)) in
       let whole : length (set prints k x) ≡ 8 = length-set prints k x ∙ eight in
-      let more : (s : Spot) → Knows name seen_so_far s → s (8 + k) ≡ x → Stand s 8 (set prints k x) (k + 1) =
-      λ s known e. stand_set s 8 prints k x (omega arith) (stand_taken s 8 prints k (omega arith) known.seen.1) e in
+      let more : (s : Spot) → Knows name seen_so_far s → s (8 + k) ≡ x → Stand s prints_offset (set prints k x) (k + 1) =
+      λ s known e. stand_set s prints_offset prints k x (omega arith) (stand_taken s prints_offset prints k (omega arith) known.seen.1) e in
       elim (ltb (k + 1) 8) as (λ b. ltb (k + 1) 8 ≡ b → Leads kept call (lookup_at_stage kept call (look.Prints hold bitmap prints k)) (Load (call_address call (8 + k))) x
       (cond b (goes_to call (look.Prints hold bitmap (set prints k x) (k + 1))) (saw_directory call hold directory))) [
-        | true ↦ λ is. learn hold seen_so_far (knows ((bitmap_offset, bitmap) ∷ words_from 8 (take (k + 1) (set prints k x)))) (8 + k) x (omega arith) (omega arith) (λ s tidy known e.
-            record { seen = (known.seen.0, taken_stand s 8 (set prints k x) (k + 1) (omega arith) (more s known e)); left = tt })
+        | true ↦ λ is. learn hold seen_so_far (knows ((bitmap_offset, bitmap) ∷ words_from prints_offset (take (k + 1) (set prints k x)))) (8 + k) x (omega arith) (omega arith) (λ s tidy known e.
+            record { seen = (known.seen.0, taken_stand s prints_offset (set prints k x) (k + 1) (omega arith) (more s known e)); left = tt })
         | false ↦ λ is.
             let last : k + 1 ≡ 8 = let past : 8 ≤ k + 1 = ltb-false _ _ is in omega arith in
-            let stands : (s : Spot) → Knows name seen_so_far s → s (8 + k) ≡ x → Stand s 8 (set prints k x) 8 = λ s known e. subst (Stand s 8 (set prints k x)) last (more s known e) in
+            let stands : (s : Spot) → Knows name seen_so_far s → s (8 + k) ≡ x → Stand s prints_offset (set prints k x) 8 = λ s known e. subst (Stand s prints_offset (set prints k x)) last (more s known e) in
             next_leads hold directory (candidate_bits bitmap (set prints k x) call.print slots) seen_so_far (8 + k) x (omega arith) (omega arith)
-            (λ s known e. (known.seen.0, whole_stand s 8 (set prints k x) (subst (Stand s 8 (set prints k x)) (sym whole) (stands s known e))))
+            (λ s known e. (known.seen.0, whole_stand s prints_offset (set prints k x) (subst (Stand s prints_offset (set prints k x)) (sym whole) (stands s known e))))
             (λ s tidy known e slot slot_small live same.
             subst (λ b. IsLive (candidate_bits b (set prints k x) call.print slots) slot) known.seen.0
             (subst (λ p. IsLive (candidate_bits (s bitmap_offset) (set prints k x) p slots) slot) (sym sound.print)
@@ -355,7 +355,7 @@ module _ (kept : Sight) (call : Call) (sound : IsCall call) where
   -- what is known while a candidate's name is compared
   abbrev comparing_known : Directory → ℕ → ℕ → ℕ → Known
   comparing_known directory left slot k =
-      record { seen = (bitmap_offset, directory.bitmap) ∷ (words_from 8 directory.prints ++ words_from (slot_offset slot 0) (take k call.name)); left = Some left }
+      record { seen = (bitmap_offset, directory.bitmap) ∷ (words_from prints_offset directory.prints ++ words_from (slot_offset slot 0) (take k call.name)); left = Some left }
 
   name_leads : (hold : Hold) (directory : Directory) (left slot k x : ℕ) → IsComparing slots directory.bitmap left slot → k < 3
       → Leads kept call (at_hold kept call hold (timed call hold (comparing_known directory left slot k))) (Load (call_address call (slot_offset slot k))) x
@@ -371,10 +371,10 @@ module _ (kept : Sight) (call : Call) (sound : IsCall call) where
       let within : slot_offset slot k < node_words call.view.layout = omega arith in
       let more : (s : Spot) → Knows name (comparing_known directory left slot k) s → s (slot_offset slot k) ≡ get_or words k 0 → Stand s (slot_offset slot 0) words (k + 1) =
       λ s known e. stand_more s (slot_offset slot 0) words k
-      (stand_taken s (slot_offset slot 0) words k (omega arith) (seen_back s (words_from 8 directory.prints) (words_from (slot_offset slot 0) (take k words)) known.seen.1))
+      (stand_taken s (slot_offset slot 0) words k (omega arith) (seen_back s (words_from prints_offset directory.prints) (words_from (slot_offset slot 0) (take k words)) known.seen.1))
       (subst (λ o. s o ≡ get_or words k 0) (let e : slot_offset slot k ≡ slot_offset slot 0 + k = omega arith in e) e) in
-      let front : (s : Spot) → Knows name (comparing_known directory left slot k) s → Seen s (words_from 8 directory.prints) =
-      λ s known. seen_front s (words_from 8 directory.prints) (words_from (slot_offset slot 0) (take k words)) known.seen.1 in
+      let front : (s : Spot) → Knows name (comparing_known directory left slot k) s → Seen s (words_from prints_offset directory.prints) =
+      λ s known. seen_front s (words_from prints_offset directory.prints) (words_from (slot_offset slot 0) (take k words)) known.seen.1 in
       elim (x == get_or words k 0) as (λ b. (x == get_or words k 0) ≡ b → Leads kept call stage action x
       (cond b (cond (ltb (k + 1) 3) (goes_to call (look.Name hold directory left slot (k + 1))) (goes_to call (look.Value hold directory slot)))
       (next_candidate call hold directory (without_live left slot)))) [
@@ -383,17 +383,17 @@ module _ (kept : Sight) (call : Call) (sound : IsCall call) where
               | true ↦ λ is. learn hold (comparing_known directory left slot k) (comparing_known directory left slot (k + 1)) (slot_offset slot k) x within (omega arith) (λ s tidy known e. record {
                 seen = (
                   known.seen.0,
-                  seen_append s (words_from 8 directory.prints) (words_from (slot_offset slot 0) (take (k + 1) words)) (front s known)
+                  seen_append s (words_from prints_offset directory.prints) (words_from (slot_offset slot 0) (take (k + 1) words)) (front s known)
                       (taken_stand s (slot_offset slot 0) words (k + 1) (omega arith) (more s known (e ∙ is_word))),
                 );
                 left = known.left;
               })
               | false ↦ λ is.
                   let last : k + 1 ≡ length words = let past : 3 ≤ k + 1 = ltb-false _ _ is in omega arith in
-                  learn hold (comparing_known directory left slot k) (knows ((bitmap_offset, directory.bitmap) ∷ (words_from 8 directory.prints ++ words_from (slot_offset slot 0) call.name))) (slot_offset slot k) x within (omega arith) (λ s tidy known e. record {
+                  learn hold (comparing_known directory left slot k) (knows ((bitmap_offset, directory.bitmap) ∷ (words_from prints_offset directory.prints ++ words_from (slot_offset slot 0) call.name))) (slot_offset slot k) x within (omega arith) (λ s tidy known e. record {
                     seen = (
                       known.seen.0,
-                      seen_append s (words_from 8 directory.prints) (words_from (slot_offset slot 0) words) (front s known)
+                      seen_append s (words_from prints_offset directory.prints) (words_from (slot_offset slot 0) words) (front s known)
                           (whole_stand s (slot_offset slot 0) words (subst (Stand s (slot_offset slot 0) words) last (more s known (e ∙ is_word)))),
                     );
                     left = tt;
@@ -411,12 +411,12 @@ module _ (kept : Sight) (call : Call) (sound : IsCall call) where
   value_leads : (hold : Hold) (directory : Directory) (slot x : ℕ) → slot < slots → IsLive directory.bitmap slot
       → Leads kept call (lookup_at_stage kept call (look.Value hold directory slot)) (Load (call_address call (slot_offset slot 3))) x (finds hold directory (Some (record { slot = slot; value = x })))
   value_leads hold directory slot x slot_within live =
-      let known_now = knows ((bitmap_offset, directory.bitmap) ∷ (words_from 8 directory.prints ++ words_from (slot_offset slot 0) call.name)) in
+      let known_now = knows ((bitmap_offset, directory.bitmap) ∷ (words_from prints_offset directory.prints ++ words_from (slot_offset slot 0) call.name)) in
       decide (record { hold = hold; directory = directory; hit = Some (record { slot = slot; value = x }) }) known_now (slot_offset slot 3) x (omega arith) (omega arith)
       (λ s tidy known e. known)
       (λ range s m in_range known e means.
       let stands : Stand s (slot_offset slot 0) call.name (length call.name) =
-      stand_whole s (slot_offset slot 0) call.name (seen_back s (words_from 8 directory.prints) (words_from (slot_offset slot 0) call.name) known.seen.1) in
+      stand_whole s (slot_offset slot 0) call.name (seen_back s (words_from prints_offset directory.prints) (words_from (slot_offset slot 0) call.name) known.seen.1) in
       let same : name_words s slot ≡ words_of name = name_stands s slot call.name three (subst (Stand s (slot_offset slot 0) call.name) three stands) ∙ sym sound.packed.whole in
       let live_here : IsLiveIn s slot = subst (λ b. IsLive b slot) (sym known.seen.0) live in
       at_found slots range s m name slot sound.packed.named in_range means live_here same ∙ ap Some e)
@@ -433,7 +433,7 @@ module _ (kept : Sight) (call : Call) (sound : IsCall call) where
       clock_by None is some = absurd (let no : false ≡ true = some in cc)
       clock_by (Some most) is some = clock_leads most word x is
   lookup_leads (look.Spent hold) x here keeps told = unlocks refl refl refl refl (is_spent refl refl)
-  lookup_leads (look.Bitmap hold) x here keeps told = learn hold nothing (knows ((bitmap_offset, x) ∷ words_from 8 (take 0 (replicate 8 0)))) bitmap_offset x (omega arith) (omega arith) (λ s tidy known e. record { seen = (e, tt); left = tt })
+  lookup_leads (look.Bitmap hold) x here keeps told = learn hold nothing (knows ((bitmap_offset, x) ∷ words_from prints_offset (take 0 (replicate 8 0)))) bitmap_offset x (omega arith) (omega arith) (λ s tidy known e. record { seen = (e, tt); left = tt })
   lookup_leads (look.Prints hold bitmap prints k) x here keeps told = prints_leads hold bitmap prints k x here.1.prints here.2
   lookup_leads (look.Name hold directory left slot k) x here keeps told = name_leads hold directory left slot k x here.2 here.3
   lookup_leads (look.Value hold directory slot) x here keeps told = value_leads hold directory slot x here.2 here.3

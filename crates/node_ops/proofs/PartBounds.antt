@@ -15,11 +15,12 @@ use Rattle.pm_words.specs.declared.machine.Turn.TheVariants.{Go, Done}
 use Rattle.pm_words.specs.declared.again.Again.TheVariants as again
 use Rattle.pm_words.specs.Locations.{node_words}
 use Rattle.pm_words.specs.Rows.{got}
-use Rattle.pm_words.specs.Offsets.{version_offset}
+use Rattle.pm_words.specs.Offsets.{version_offset, next_offset}
 use Rattle.cat_key.specs.Names.{IsName, AreNameWords}
 use Rattle.cat_history.specs.Scans.{is_below, is_under, is_between}
 use Rattle.data_node.specs.Spots.{Spot}
-use Rattle.data_node.specs.Lists.{ListNode, IsMember, IsChain, IsBetween, next_offset, key_of, number_of, anchor_in, anchor_words, range_in, target_from}
+use Rattle.data_node.specs.Lists.{ListNode, IsMember, IsChain, IsBetween, key_of, number_of, anchor_in, anchor_words}
+use Rattle.data_node.specs.Lists.{range_in, target_from}
 use Rattle.data_node.proofs.KeyLemmas.{key-number, anchor-number, named_anchor}
 use Rattle.data_node.proofs.ListLemmas.{between_target, target_between, chain_closed}
 use Rattle.data_list.specs.declared.target.Next.{Next}

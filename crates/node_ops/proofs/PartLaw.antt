@@ -13,7 +13,7 @@ use Rattle.cat_key.specs.Names.{words_of}
 use Rattle.cat_history.specs.Maps.{Map}
 use Rattle.cat_history.specs.Maps as maps
 use Rattle.data_node.specs.Slots.{IsLive}
-use Rattle.data_node.specs.Spots.{Spot, Finds, IsLiveIn, IsTidy, Means, bitmap_offset, name_words, slot_offset}
+use Rattle.data_node.specs.Spots.{Spot, Finds, IsLiveIn, IsTidy, Means, name_words}
 use Rattle.data_node.specs.Lists.{IsBetween}
 use Rattle.data_node.specs.Orders.{comes_before, live_slots}
 use Rattle.data_node.proofs.SpotLemmas.{at_found, at_missing}
@@ -28,7 +28,7 @@ use Rattle.call_stages.specs.declared.once.Placed.{Placed}
 use Rattle.call_stages.specs.Stages.{Held, Known, Knows, Sees, Stage, Idle, Reads, Holds, just_held}
 use Rattle.call_stages.specs.Kinds.{Told, Step, looks, learns, times, decides, reads_on, dates, notes, finds, confirms, misses_read, wavers, locks_read, unlocks, reads, clock_address}
 use Rattle.pm_words.specs.declared.again.Again.TheVariants as again
-use Rattle.pm_words.specs.Offsets.{version_offset}
+use Rattle.pm_words.specs.Offsets.{version_offset, bitmap_offset, slot_offset}
 use Rattle.permutation.specs.declared.load.LoadPermutation.{LoadPermutation}
 use Rattle.permutation.specs.declared.load.LoadPermutationAt.{LoadPermutationAt}
 use Rattle.permutation.specs.declared.load.LoadPermutationAt.TheVariants as load_at

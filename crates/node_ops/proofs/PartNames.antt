@@ -13,8 +13,9 @@ use Rattle.cat_key.specs.Names.{IsName, AreNameWords, IsPacked, name_cmp, words_
 use Rattle.cat_key.proofs.Packing.{packed_from_words, bytes_of-words_of}
 use Rattle.cat_key.proofs.WordOrder.{packed_cmp}
 use Rattle.cat_history.specs.Maps.{Map, at}
+use Rattle.pm_words.specs.Offsets.{bitmap_offset}
 use Rattle.data_node.specs.Slots.{IsLive}
-use Rattle.data_node.specs.Spots.{Spot, bitmap_offset, IsLiveIn, name_words, Finds, Means}
+use Rattle.data_node.specs.Spots.{Spot, IsLiveIn, name_words, Finds, Means}
 use Rattle.data_node.specs.Lists.{StaysIn}
 use Rattle.data_node.specs.Orders.{words_in, comes_before}
 use Rattle.data_node.proofs.SpotLemmas.{same_name, at_found}

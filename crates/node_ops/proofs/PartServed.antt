@@ -1,9 +1,10 @@
 -- The order by which a part lists is that of its live slots, wherever it has it from.
 use Rattle.std.proofs.Common.{◌≡◌, ℕ, ◌≤◌, List, ◌∷◌, length, slice_index, sym, subst, ap, ◌∙◌, arith}
 use Rattle.std.specs.List.Sorted.{IsPermutation}
+use Rattle.pm_words.specs.Offsets.{bitmap_offset}
 use Rattle.data_node.specs.Bits.{live_count}
 use Rattle.data_node.specs.Orders.{comes_before, live_slots}
-use Rattle.data_node.specs.Spots.{Spot, bitmap_offset}
+use Rattle.data_node.specs.Spots.{Spot}
 use Rattle.data_node.proofs.LiveCounts.{live_most}
 use Rattle.call_stages.specs.Stages.{Knows, Tells}
 use Rattle.permutation.specs.Permutations.{IsPermutationOf, first_slots, permutation_words, placed_in}

@@ -24,12 +24,12 @@ use Rattle.shapes.proofs.NameLists.{all_by, filter-twice}
 use Rattle.index_law.specs.Facts.{Facts, map_now, range_of}
 use Rattle.index_law.specs.Lawful.{HasNames, IsRead, Sure, SureHolds, SureReads}
 use Rattle.data_node.specs.Lists.{StaysIn}
-use Rattle.data_node.specs.Spots.{bitmap_offset}
 use Rattle.call_stages.specs.Stages.{Knows}
 use Rattle.index_law.proofs.AnchorTexts.{key-order, named-text}
 use Rattle.call_stages.specs.declared.once.Once.{Once}
 use Rattle.call_stages.specs.declared.once.Once.TheVariants as once
 use Rattle.pm_words.specs.declared.again.Again.TheVariants as again
+use Rattle.pm_words.specs.Offsets.{bitmap_offset}
 use Rattle.call_stages.specs.declared.once.Placed.{Placed}
 use Rattle.call_stages.specs.Kinds.{version_address}
 use Rattle.node_ops.specs.declared.call.Call.{Call}

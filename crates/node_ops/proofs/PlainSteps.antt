@@ -5,8 +5,9 @@ use Rattle.cat_key.proofs.Packing.{length-words_of}
 use Rattle.pm_words.specs.declared.layout.Layout.{Layout}
 use Rattle.pm_words.specs.declared.action.Action.{Action}
 use Rattle.pm_words.specs.declared.machine.Turn.{Turn}
+use Rattle.pm_words.specs.Offsets.{prints_offset, slot_offset}
 use Rattle.data_node.specs.Slots.{IsLive}
-use Rattle.data_node.specs.Spots.{Spot, slot_offset, IsLiveIn, name_words}
+use Rattle.data_node.specs.Spots.{Spot, IsLiveIn, name_words}
 use Rattle.call_stages.specs.declared.once.Once.{Once}
 use Rattle.call_stages.specs.declared.once.Placed.{Placed}
 use Rattle.call_stages.specs.Stages.{Knows, Sight, Held, Stage, Idle, Saw, Wears, Reads, Holds, Eyes, Splits, Leaves, Meets, Joins, IsLoose}
@@ -40,9 +41,9 @@ hit_words_known s call bitmap hit sound seen live =
 -- a part of what is known once the name is looked up
 pub part_hit : (s : Spot) (call : Call) (found : Found) → Knows (name_in call) (found_known call found) s → Seen s (seen_hit call found.directory.bitmap found.hit)
 part_hit s call found known =
-    elim found.hit as (λ hit. Seen s (words_from 8 found.directory.prints ++ hit_words call hit) → Seen s (seen_hit call found.directory.bitmap hit)) [
+    elim found.hit as (λ hit. Seen s (words_from prints_offset found.directory.prints ++ hit_words call hit) → Seen s (seen_hit call found.directory.bitmap hit)) [
       | None ↦ λ seen. (known.seen.0, tt)
-      | Some hit ↦ λ seen. (known.seen.0, seen_back s (words_from 8 found.directory.prints) (words_from (slot_offset hit.slot 0) call.name) seen)
+      | Some hit ↦ λ seen. (known.seen.0, seen_back s (words_from prints_offset found.directory.prints) (words_from (slot_offset hit.slot 0) call.name) seen)
     ] known.seen.1
 
 -- a step on nodes of a call that has this line, if any, and no debt

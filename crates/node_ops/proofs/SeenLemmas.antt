@@ -3,7 +3,8 @@ use Rattle.std.proofs.Common.{◌≡◌, ℕ, zero, suc, ◌+◌, ◌<◌, ◌�
 use Rattle.std.specs.List.{AllByRecursion}
 use Rattle.std.proofs.lemmas.Bool.{cases_eq}
 use Rattle.std.proofs.lemmas.List.{get_or-set_same, get_or-set_other}
-use Rattle.data_node.specs.Spots.{Spot, updated, slot_offset, name_words}
+use Rattle.pm_words.specs.Offsets.{slot_offset}
+use Rattle.data_node.specs.Spots.{Spot, updated, name_words}
 use Rattle.data_node.proofs.SpotLemmas.{updated-other}
 use Rattle.node_ops.specs.CallStages.{words_from}
 

@@ -10,7 +10,6 @@ use Rattle.pm_words.specs.declared.layout.Layout.{Layout}
 use Rattle.cat_history.specs.declared.op.Change.{Change}
 use Rattle.cat_history.specs.declared.op.Change.TheVariants as change
 use Rattle.data_node.specs.Bits.{printed}
-use Rattle.data_node.specs.Spots.{bitmap_offset, print_offset, slot_offset}
 use Rattle.call_stages.specs.declared.once.Once.{Once}
 use Rattle.call_stages.specs.declared.once.Placed.{Placed}
 use Rattle.call_stages.specs.Stages.{Known, Held, Sight, Stage, Idle, Saw, Holds, Reads, just_held}
@@ -29,6 +28,7 @@ use Rattle.node_ops.specs.declared.lookup.LookupAt.TheVariants as look
 use Rattle.node_ops.specs.declared.lookup.Lookup.{Lookup}
 use Rattle.pm_words.specs.declared.fence.Fence.{Fence}
 use Rattle.pm_words.specs.Fences.{hand_of}
+use Rattle.pm_words.specs.Offsets.{bitmap_offset, next_offset, prints_offset, print_offset, slot_offset}
 use Rattle.node_ops.specs.declared.fill.Fill.{Fill}
 use Rattle.node_ops.specs.declared.fill.FillAt.{FillAt}
 use Rattle.node_ops.specs.declared.fill.FillAt.TheVariants as fill_at
@@ -56,7 +56,6 @@ use Rattle.node_ops.specs.PartSteps.{entry_in}
 use Rattle.data_list.specs.declared.target.Next.{Next}
 use Rattle.data_list.specs.declared.walk.Walk.{Walk}
 use Rattle.data_list.specs.WalkStages.{walk_watching, walk_stage, view_stage, live_sight, anchor_seen, sight_in}
-use Rattle.data_node.specs.Lists.{next_offset}
 use Rattle.node_ops.specs.Calls.{name_in}
 use Rattle.node_ops.specs.LookupSteps.{value_of}
 use Rattle.node_ops.specs.FillSteps.{slot_line, print_line}
@@ -180,10 +179,10 @@ lookup_at_stage kept call (look.Spent hold) =
     Holds call.node hold.locked (record (just_held (name_in call)) { time = Some hold.clock })
 lookup_at_stage kept call (look.Bitmap hold) = at_hold kept call hold (timed call hold nothing)
 lookup_at_stage kept call (look.Prints hold bitmap prints k) =
-    at_hold kept call hold (timed call hold (knows ((bitmap_offset, bitmap) ∷ words_from 8 (take k prints))))
+    at_hold kept call hold (timed call hold (knows ((bitmap_offset, bitmap) ∷ words_from prints_offset (take k prints))))
 lookup_at_stage kept call (look.Name hold directory left slot k) =
     at_hold kept call hold (timed call hold (record {
-      seen = (bitmap_offset, directory.bitmap) ∷ (words_from 8 directory.prints ++ words_from (slot_offset slot 0)
+      seen = (bitmap_offset, directory.bitmap) ∷ (words_from prints_offset directory.prints ++ words_from (slot_offset slot 0)
           (take k call.name));
       left = Some left;
     }))
@@ -191,7 +190,7 @@ lookup_at_stage kept call (look.Value hold directory slot) =
     at_hold kept call hold (timed call hold (knows ((
       bitmap_offset,
       directory.bitmap,
-    ) ∷ (words_from 8 directory.prints ++ words_from (slot_offset slot 0) call.name))))
+    ) ∷ (words_from prints_offset directory.prints ++ words_from (slot_offset slot 0) call.name))))
 
 -- a read of one name needs no more of what it saw
 abbrev pub lookup_stage : Lookup → Stage

@@ -7,8 +7,6 @@ use Rattle.pm_words.specs.declared.again.Again.TheVariants.{LogFull}
 use Rattle.pm_words.specs.declared.machine.Turn.{Turn}
 use Rattle.pm_words.specs.declared.machine.Turn.TheVariants.{Go, Done}
 use Rattle.data_node.specs.Bits.{without_live, live_count}
-use Rattle.data_node.specs.Spots.{bitmap_offset}
-use Rattle.data_node.specs.Lists.{next_offset}
 use Rattle.call_stages.specs.declared.view.View.{View}
 use Rattle.call_stages.specs.declared.once.Once.{Once}
 use Rattle.call_stages.specs.declared.once.Once.TheVariants as once
@@ -43,7 +41,7 @@ use Rattle.node_ops.specs.declared.single_del.SingleDelDone.TheVariants.{Answere
 use Rattle.node_ops.specs.Calls.{IsCall, call_address}
 use Rattle.version_lock.specs.Versions.{IsLockWord}
 use Rattle.pm_words.specs.Fences.{line_of, fence_start}
-use Rattle.pm_words.specs.Offsets.{version_offset}
+use Rattle.pm_words.specs.Offsets.{version_offset, bitmap_offset, next_offset}
 use Rattle.node_ops.specs.LookupSteps.{IsHit, IsLookup, lookup_asks, lookup_turned, lookup_left}
 use Rattle.node_ops.specs.FinishSteps.{IsFinish, finish_asks, finish_turned, finish_left}
 

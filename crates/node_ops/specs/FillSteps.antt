@@ -8,7 +8,6 @@ use Rattle.pm_words.specs.declared.machine.Turn.{Turn}
 use Rattle.pm_words.specs.declared.machine.Turn.TheVariants.{Go, Done}
 use Rattle.data_node.specs.Slots.{IsClear}
 use Rattle.data_node.specs.Bits.{with_live, without_live, printed}
-use Rattle.data_node.specs.Spots.{bitmap_offset, print_offset, slot_offset}
 use Rattle.call_stages.specs.Kinds.{Told}
 use Rattle.node_ops.specs.declared.lookup.Hit.{Hit}
 use Rattle.pm_words.specs.declared.fence.Fence.{Fence}
@@ -20,6 +19,7 @@ use Rattle.node_ops.specs.declared.fill.FillAt.TheVariants as at
 use Rattle.node_ops.specs.Calls.{IsCall, call_address}
 use Rattle.version_lock.specs.Versions.{IsLockWord}
 use Rattle.pm_words.specs.Fences.{IsFence, line_of, fence_start, fence_asks, fence_next, fence_left}
+use Rattle.pm_words.specs.Offsets.{bitmap_offset, print_offset, slot_offset}
 use Rattle.node_ops.specs.LookupSteps.{value_of, IsHit}
 
 -- word k of the slot: the name's words, then the value

@@ -9,9 +9,8 @@ use Rattle.pm_words.specs.declared.action.Action.TheVariants.{Exchange, Load, St
 use Rattle.pm_words.specs.declared.again.Again.TheVariants.{Moved}
 use Rattle.pm_words.specs.declared.machine.Turn.{Turn}
 use Rattle.pm_words.specs.declared.machine.Turn.TheVariants.{Go, Done}
-use Rattle.pm_words.specs.Offsets.{version_offset}
+use Rattle.pm_words.specs.Offsets.{version_offset, bitmap_offset, slot_offset}
 use Rattle.data_node.specs.Slots.{IsLive}
-use Rattle.data_node.specs.Spots.{bitmap_offset, slot_offset}
 use Rattle.data_node.specs.Bits.{live_count}
 use Rattle.data_node.specs.Lists.{number_of}
 use Rattle.data_node.specs.Orders.{comes_before}

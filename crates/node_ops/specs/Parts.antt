@@ -16,7 +16,8 @@ use Rattle.pm_words.specs.declared.layout.Layout.{Layout}
 use Rattle.pm_words.specs.declared.machine.Turn.{Turn}
 use Rattle.pm_words.specs.declared.machine.Turn.TheVariants.{Go, Done}
 use Rattle.pm_words.specs.Rows.{got}
-use Rattle.data_node.specs.Lists.{next_offset, anchor_words}
+use Rattle.pm_words.specs.Offsets.{next_offset}
+use Rattle.data_node.specs.Lists.{anchor_words}
 use Rattle.data_list.specs.declared.target.Next.{Next}
 use Rattle.data_list.specs.Keys.{key_words}
 use Rattle.data_list.specs.Walks.{high_of}

@@ -9,7 +9,6 @@ use Rattle.pm_words.specs.declared.machine.Turn.{Turn}
 use Rattle.pm_words.specs.declared.machine.Turn.TheVariants.{Go, Done}
 use Rattle.data_node.specs.Slots.{AreAllLive}
 use Rattle.data_node.specs.Bits.{lowest_clear}
-use Rattle.data_node.specs.Spots.{slot_offset}
 use Rattle.call_stages.specs.declared.once.Once.{Once}
 use Rattle.call_stages.specs.declared.once.Once.TheVariants as once
 use Rattle.call_stages.specs.declared.once.Placed.{Placed}
@@ -39,6 +38,7 @@ use Rattle.split_merge.specs.Splits.{IsSplit, LeadsIn, split_from, split_asks, s
 use Rattle.node_ops.specs.Calls.{IsCall, call_address}
 use Rattle.version_lock.specs.Versions.{IsLockWord}
 use Rattle.pm_words.specs.Fences.{line_of, fence_start}
+use Rattle.pm_words.specs.Offsets.{slot_offset}
 use Rattle.node_ops.specs.LookupSteps.{IsHit, IsLookup, lookup_asks, lookup_turned, lookup_left}
 use Rattle.node_ops.specs.FillSteps.{IsFill, fill_asks, fill_turned, fill_left}
 use Rattle.node_ops.specs.FinishSteps.{IsFinish, finish_asks, finish_turned, finish_left}

@@ -2,7 +2,7 @@
 
 ghost use Rattle.std.specs.Prelude.{◌≡◌, ◌↔◌, ◌^◌, ◌<◌, ◌≤◌, IfSome, IsFalse};
 ghost use Rattle.pm_words.specs.Locations.{node_words};
-ghost use Rattle.data_node.specs.Spots.{slot_offset, print_offset};
+ghost use Rattle.pm_words.specs.Offsets.{print_offset, slot_offset};
 ghost use Rattle.machine_runs.specs.Runs.{AddsNothing};
 
 use call_stages::View;

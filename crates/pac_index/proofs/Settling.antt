@@ -46,7 +46,7 @@ keeps_index l words n here large s quiet is =
     let footed = stamp_footed (footed (with_words s l words)) n (is.whole, is.tended) here lawful in
     let permuted = words_permuted (with_words s l words) (stamped l words n) (is.permuted, is.relying) lawful
     (row_by_facts l words (stamped l words n) (map_of s.base) s.history (ap (λ (f : Facts). f.version) same) (ap (λ (f : Facts). f.now) same) (ap (λ (f : Facts). f.list) same)
-    (λ m low. left_stored l words (Volatile n stamp_offset) 1 m has (λ o least e. let no : o ≡ 2 = ap offset_at e in omega arith))) in
+    (λ m low. left_stored l words (Volatile n stamp_offset) 1 m has (λ o least e. let no : o ≡ stamp_offset = ap offset_at e in omega arith))) in
     record {
       lawful = lawful;
       whole = footed.0;

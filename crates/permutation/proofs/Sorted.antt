@@ -7,8 +7,9 @@ use Rattle.std.specs.List.Sorted.{IsPermutation, IsSortedBy}
 use Rattle.std.proofs.lemmas.Bool.{eqb-true}
 use Rattle.std.proofs.lemmas.List.Elements.{All-append}
 use Rattle.std.proofs.lemmas.List.Sorted.{All-permutation, length_permutation}
+use Rattle.pm_words.specs.Offsets.{bitmap_offset}
 use Rattle.data_node.specs.Orders.{live_slots, comes_before}
-use Rattle.data_node.specs.Spots.{Spot, bitmap_offset}
+use Rattle.data_node.specs.Spots.{Spot}
 use Rattle.permutation.specs.Permutations.{first_slots, comes_first, live_in, placed_in, HasEntries, OrdersArePermutations, PermutationsAreOrders}
 
 -- one of the first so many slots that is live

@@ -5,7 +5,8 @@ use Rattle.std.proofs.lemmas.Bool.{ltb-true, ltb-false}
 use Rattle.std.specs.List.Sorted.{IsPermutation, IsSortedBy}
 use Rattle.pm_words.specs.declared.action.Action.TheVariants.{Store}
 use Rattle.pm_words.specs.declared.machine.Turn.TheVariants.{Go, Done}
-use Rattle.data_node.specs.Spots.{Spot, updated, bitmap_offset}
+use Rattle.pm_words.specs.Offsets.{bitmap_offset}
+use Rattle.data_node.specs.Spots.{Spot, updated}
 use Rattle.data_node.proofs.SpotLemmas.{updated-same, updated-other}
 use Rattle.call_stages.specs.Stages.{Held, Holds, Tells}
 use Rattle.call_stages.specs.AnySteps.{IsOnPermutation, loads, stores as stores_one}

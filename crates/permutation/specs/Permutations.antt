@@ -6,9 +6,10 @@ use Rattle.std.specs.Ordering.{nat_cmp, is_lt, ordering_then}
 use Rattle.std.specs.Cmp.Lexicographic.{slice_cmp}
 use Rattle.std.specs.Int.{w64, to_le_bytes}
 use Rattle.std.specs.List.Sorted.{IsPermutation, IsSortedBy}
+use Rattle.pm_words.specs.Offsets.{bitmap_offset}
 use Rattle.data_node.specs.Bits.{printed}
 use Rattle.data_node.specs.Orders.{live_slots, words_in, comes_before}
-use Rattle.data_node.specs.Spots.{Spot, IsLiveIn, bitmap_offset, name_words}
+use Rattle.data_node.specs.Spots.{Spot, IsLiveIn, name_words}
 
 -- The slot at a place, by the words of the permutation: eight places share a word, the lowest byte first.
 abbrev pub slot_at : (ℕ → ℕ) → ℕ → ℕ

@@ -9,7 +9,7 @@ use Rattle.pm_words.specs.Locations.{Line, Location, Volatile, Cached, Durable, 
 use Rattle.pm_words.specs.Rows.{acted}
 use Rattle.pm_words.proofs.Apart.{at-set_other}
 use Rattle.pm_words.proofs.Kept.{action_address-drain}
-use Rattle.pm_words.specs.Offsets.{permutation_version_offset, prev_offset}
+use Rattle.pm_words.specs.Offsets.{status_offset, prev_offset, permutation_version_offset}
 use Rattle.call_stages.specs.Stages.{Stage}
 use Rattle.call_stages.specs.Lines.{line_address}
 use Rattle.call_stages.specs.AnySteps.{IsBeside as IsBesideAction, loads_line, stores_line, drains_line, stores_prev, loads_layer, on_permutation, loads, stores, volatile_address}
@@ -61,7 +61,7 @@ pub record IsLeft (l : Layout) (words words' : List ℕ) (n : ℕ) : Type 0 wher
 -- where its words are as they were
 pub left_by : (l : Layout) (words words' : List ℕ) (n : ℕ) → ((offset : ℕ) → n < l.nodes → 2 < offset → offset < 16 → at l words' (Volatile n offset) ≡ at l words (Volatile n offset)) → IsLeft l words words' n
 left_by l words words' n same = record {
-  made = made_at-alike l words words' n (λ here. same 3 here (omega arith) (omega arith));
+  made = made_at-alike l words words' n (λ here. same permutation_version_offset here (omega arith) (omega arith));
   permutation = permutations_alike l words words' n (λ k here low. same (8 + k) here (omega arith) (omega arith));
 }
 
@@ -76,7 +76,7 @@ left_stored l words p y n has other = left_by l words (slice_set words (address_
 none_touched : (n offset : ℕ) → 2 < offset → IsBeside (Volatile n offset)
 none_touched n offset least = record {
   clock = λ e. cc;
-  status = λ m e. let no : offset ≡ 0 = ap offset_at e in omega arith;
+  status = λ m e. let no : offset ≡ status_offset = ap offset_at e in omega arith;
   cached = λ m o e. cc;
   durable = λ m o e. cc;
 }
@@ -91,7 +91,7 @@ left_beside l words a n (stores_line {c = c} {j = j} {offset = offset} {y = y} h
 left_beside l words a n (drains_line {c = c} {j = j} {offset = offset} {y = y} has fits) spared =
     subst (λ (place : ℕ). IsLeft l words (slice_set words place y) n) (sym (action_address-drain l (Line c j offset) y)) (left_stored l words (Durable (Line c j offset)) y n has (λ o least e. cc))
 left_beside l words a n (stores_prev {n = m} {y = y} here fits) spared =
-    left_stored l words (Volatile m prev_offset) y n (here, omega arith) (λ o least e. let no : o ≡ 1 = ap offset_at e in omega arith)
+    left_stored l words (Volatile m prev_offset) y n (here, omega arith) (λ o least e. let no : o ≡ prev_offset = ap offset_at e in omega arith)
 left_beside l words a n (loads_layer {w = v} place) spared = left_same l words (acted l words a) n (set-get_or words (address_of l (Cached v)) 0)
 left_beside l words a n (on_permutation (loads {n = m} {offset = offset} here of)) spared = left_same l words (acted l words a) n (set-get_or words (volatile_address l m offset) 0)
 left_beside l words a n (on_permutation (stores here of fits)) spared = absurd spared

@@ -9,11 +9,11 @@ use Rattle.pm_words.specs.declared.layout.Layout.{Layout}
 use Rattle.pm_words.specs.Codes.{no_permutation}
 use Rattle.pm_words.specs.Locations.{Volatile, address_of, cached_address, durable_address}
 use Rattle.pm_words.specs.Rows.{evicted}
+use Rattle.pm_words.specs.Offsets.{bitmap_offset}
 use Rattle.cat_history.specs.Maps.{Map}
 use Rattle.cat_history.specs.declared.op.Write.{Write}
 use Rattle.version_lock.specs.Versions.{IsFree}
 use Rattle.data_node.specs.Orders.{live_slots}
-use Rattle.data_node.specs.Spots.{bitmap_offset}
 use Rattle.call_stages.specs.Stages.{Stage, Idle, Holds, Tells}
 use Rattle.permutation.specs.Permutations.{first_slots, comes_first}
 use Rattle.permutation.specs.Sortings.{Sorting, Unsorted, Storing, Stored, HoldsBy}

@@ -7,6 +7,7 @@ use Rattle.pm_words.specs.declared.layout.Layout.{Layout}
 use Rattle.pm_words.specs.declared.action.Action.{Action}
 use Rattle.pm_words.specs.Locations.{Volatile, address_of}
 use Rattle.pm_words.specs.Rows.{acted}
+use Rattle.pm_words.specs.Offsets.{permutation_version_offset}
 use Rattle.version_lock.specs.Versions.{IsFree}
 use Rattle.call_stages.specs.Stages.{Stage, Held, Holds, Tells}
 use Rattle.permutation.specs.Sortings.{Sorting, Sorts, begins, stores, ends}
@@ -85,7 +86,7 @@ sorted_kept z i p a s sorting after n v seen is there stage (begins {n = m} {loc
 sorted_kept z i p a s sorting after n v seen is there stage (stores {n = m} {lock = lock} {k = k} {y = y} {h = h} here low fits tells) read =
     stored_kept z i p m lock (8 + k) y h n v seen is there stage here (omega arith) (omega arith) fits read
 sorted_kept z i p a s sorting after n v seen is there stage (ends {n = m} {lock = lock} {version = y} {h = h} here next fits order) read =
-    stored_kept z i p m lock 3 y h n v seen is there stage here (omega arith) (omega arith) fits read
+    stored_kept z i p m lock permutation_version_offset y h n v seen is there stage here (omega arith) (omega arith) fits read
 
 pub sorts_keep_reading : SortsKeepReading
 sorts_keep_reading z i p a sorting after n v seen is there k read = sorted_kept z i p a p.stage sorting after n v seen is there refl k read

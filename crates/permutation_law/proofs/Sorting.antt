@@ -14,7 +14,7 @@ use Rattle.pm_words.proofs.Kept.{acted_row, outside_header}
 use Rattle.version_lock.specs.Versions.{IsFree}
 use Rattle.data_node.specs.Spots.{updated}
 use Rattle.data_node.proofs.SpotLemmas.{updated-same, updated-other}
-use Rattle.pm_words.specs.Offsets.{permutation_version_offset}
+use Rattle.pm_words.specs.Offsets.{status_offset, permutation_version_offset}
 use Rattle.call_stages.specs.Stages.{Stage, Held, Holds, HoldsNode, Tells}
 use Rattle.permutation.specs.Sortings.{Sorting, Unsorted, Storing, Stored, Sorts, begins, stores, ends, permutation_address, permutation_version_address}
 use Rattle.index_law.specs.Facts.{Facts}
@@ -43,7 +43,7 @@ module _ (w : World) (lawful : Lawful w) (n offset y : ℕ) (here : n < w.layout
   store_can = ((addresses_within w.layout (Volatile n offset) has, outside_header w.layout (Volatile n offset) has (λ k lt. (λ e. cc, λ e. cc))), fits)
 
   pub store_facts : facts (record w { words = stored }) ≡ facts w
-  store_facts = facts-elsewhere w.layout w.words w.base w.history (Volatile n offset) y has (λ m o e. cc, λ m e. let no : offset ≡ 0 = ap offset_at e in omega arith)
+  store_facts = facts-elsewhere w.layout w.words w.base w.history (Volatile n offset) y has (λ m o e. cc, λ m e. let no : offset ≡ status_offset = ap offset_at e in omega arith)
 
   pub store_lawful : Lawful (record w { words = stored })
   store_lawful = beside_law w stored lawful
@@ -235,9 +235,9 @@ version_law z i p sorting n lock version h is there at stage here next fits orde
     let made : made_at l words' n ≡ version = made_at-here l words' n here ∙ at-set_same l words (Volatile n permutation_version_offset) version is.lawful.row.whole (here, omega arith) in
     let stays : permutation_in l words' n ≡ permutation_in l words n = permutations_alike l words words' n (λ k _ low. at-set_other l words (Volatile n permutation_version_offset) (Volatile n (8 + k)) version (here, omega arith) (here, omega arith) (λ e. let no : 8 + k ≡ 3 = ap offset_at e in omega arith)) in
     record {
-      can = store_can z.world is.lawful n 3 version here (omega arith) (omega arith) fits;
-      facts = store_facts z.world is.lawful n 3 version here (omega arith) (omega arith) fits;
-      kept = permuted z i p is there n lock h stage 3 version here (omega arith) (omega arith) fits sorting (Stored n lock) at
+      can = store_can z.world is.lawful n permutation_version_offset version here (omega arith) (omega arith) fits;
+      facts = store_facts z.world is.lawful n permutation_version_offset version here (omega arith) (omega arith) fits;
+      kept = permuted z i p is there n lock h stage permutation_version_offset version here (omega arith) (omega arith) fits sorting (Stored n lock) at
           (inr (inr (record { number = i; lock = lock; party = p; there = set_here z.sortings i (Stored n lock) sorting at; at = there })))
           ((h, stage), made ∙ next, order_same l words words' (facts z.world) (facts z.world) n stays refl order);
     }

@@ -72,7 +72,7 @@ steps_leave w i p a x t r lawful there (beside none is) spares n = left_beside w
 -- a store of a node's version word leaves its other words,
 spot_stays : (l : Layout) (words : List ℕ) (n y : ℕ) → n < l.nodes → spot_in l (slice_set words (version_address l n) y) n ≡ spot_in l words n
 spot_stays l words n y here = λ i offset. spot_in-alike l words (slice_set words (version_address l n) y) n offset
-    (λ has positive. at-set_other l words (Cached (Node n version_offset)) (Cached (Node n offset)) y (here, omega arith) has (λ e. let no : offset ≡ 0 = ap offset_in e in omega arith)) i
+    (λ has positive. at-set_other l words (Cached (Node n version_offset)) (Cached (Node n offset)) y (here, omega arith) has (λ e. let no : offset ≡ version_offset = ap offset_in e in omega arith)) i
   where
     offset_in : Location → ℕ
     offset_in (Cached (Node m o)) = o

@@ -8,11 +8,11 @@ use Rattle.pm_words.specs.declared.action.Action.TheVariants.{Load}
 use Rattle.pm_words.specs.Codes.{no_permutation}
 use Rattle.pm_words.specs.Locations.{image_words}
 use Rattle.pm_words.specs.Rows.{CanAct, acted, evicted, got}
+use Rattle.pm_words.specs.Offsets.{bitmap_offset}
 use Rattle.version_lock.specs.Versions.{IsFree}
 use Rattle.cat_history.specs.Maps.{Map}
 use Rattle.cat_history.specs.declared.op.Write.{Write}
 use Rattle.data_node.specs.Orders.{live_slots}
-use Rattle.data_node.specs.Spots.{bitmap_offset}
 use Rattle.call_stages.specs.declared.once.Once.{Once}
 use Rattle.call_stages.specs.declared.once.Placed.{Placed}
 use Rattle.call_stages.specs.Stages.{Held, Sight, Stage, Idle, Reads, Tells}

@@ -3,7 +3,11 @@ use Rattle.std.proofs.Common.{◌≡◌, ◌≢◌, ℕ, zero, suc, ◌+◌, ◌
 use Rattle.std.proofs.lemmas.List.{get_or-set_same, get_or-set_other}
 use Rattle.std.proofs.lemmas.Nat.{mul-add-lt, same_from_place}
 use Rattle.pm_words.specs.declared.layout.Layout.{Layout}
-use Rattle.pm_words.specs.Locations.{Word, Header, Root, Node, Line, Leaf, Cell, Location, Clock, Updater, Volatile, Mark, Cached, Durable, node_words, slot_offset, leaf_count, kind_words, image_parts, image_words, part_of_word, behind_part, word_number, HasWord, row_parts, row_words, part_of_address, behind_start, address_of, HasLocation, at, word_at}
+use Rattle.pm_words.specs.Locations.{Word, Header, Root, Node, Line, Leaf, Cell, Location, Clock, Updater, Volatile}
+use Rattle.pm_words.specs.Locations.{Mark, Cached, Durable, node_words, leaf_count, kind_words, image_parts}
+use Rattle.pm_words.specs.Locations.{image_words, part_of_word, behind_part, word_number, HasWord, row_parts, row_words}
+use Rattle.pm_words.specs.Locations.{part_of_address, behind_start, address_of, HasLocation, at, word_at}
+use Rattle.pm_words.specs.Offsets.{slot_offset}
 use Rattle.pm_words.proofs.Parts.{part_tells, part_within}
 
 cell_fits : (l : Layout) (kind k o : ℕ) → HasWord l (Cell kind k o) →

@@ -9,6 +9,7 @@ use Rattle.pm_words.specs.Layouts.{IsLayout}
 use Rattle.pm_words.specs.Locations.{Location, HasLocation, IsVolatile, address_of, row_parts, part_of_address, behind_start, Word, Header, Root, Node, Line, Leaf, Cell, Cached, Durable, HasWord, image_parts, part_of_word, behind_part, image_words, row_words, volatile_words, word_number, word_at, cached_address, durable_address, at}
 use Rattle.pm_words.specs.Images.{IsImage, header, first_leaf, fresh_words, fresh_word}
 use Rattle.pm_words.specs.Rows.{IsRow, cached_row, durable_row, row_of}
+use Rattle.pm_words.specs.Offsets.{reference_offset, leaf_node_offset}
 use Rattle.pm_words.proofs.Parts.{earlier}
 use Rattle.pm_words.proofs.Apart.{address_fits, words_within, word_at-set_other, word_at-set_same}
 
@@ -53,10 +54,10 @@ bare_fits l layout (suc (suc (suc (suc (suc (suc k)))))) = let none = zeros_are 
 
 -- and but for its leaf
 abbrev rooted : Layout → List ℕ
-rooted l = slice_set (bare l) (word_number l (Root 0)) first_leaf
+rooted l = slice_set (bare l) (word_number l (Root reference_offset)) first_leaf
 
 length-rooted : (l : Layout) → length (rooted l) ≡ image_words l
-length-rooted l = length-set (bare l) (word_number l (Root 0)) first_leaf ∙ length-bare l
+length-rooted l = length-set (bare l) (word_number l (Root reference_offset)) first_leaf ∙ length-bare l
 
 -- a header word stands at its number
 pub header_at : (l : Layout) (words : List ℕ) (k : ℕ) → word_at l words (Header k) ≡ slice_index words k
@@ -65,40 +66,40 @@ header_at l words k = ap (slice_index words) (let same : 0 + k ≡ k = omega ari
 six_words : (l : Layout) → 6 ≤ image_words l
 six_words l = omega arith
 
-leaf_has : (l : Layout) → HasWord l (Leaf 0 3)
+leaf_has : (l : Layout) → HasWord l (Leaf 0 leaf_node_offset)
 leaf_has l = (omega arith, omega arith)
 
-root_has : (l : Layout) → HasWord l (Root 0)
+root_has : (l : Layout) → HasWord l (Root reference_offset)
 root_has l = lit< tt
 
 -- a word of any part but the header stands behind the generation
 late : (l : Layout) (w : Word) → 0 < part_of_word w → 6 ≤ word_number l w
 late l w behind = let last = earlier (image_parts l) 0 (part_of_word w) 7 (behind_part l w) (lit< tt) behind in omega arith
 
-zero_at : (l : Layout) (w : Word) → HasWord l w → 0 < part_of_word w → w ≢ Leaf 0 3 → w ≢ Root 0 → word_at l (fresh_words l) w ≡ 0
-zero_at l w has behind other root = word_at-set_other l (rooted l) (Leaf 0 3) w 1 (leaf_has l) has other ∙
-    word_at-set_other l (bare l) (Root 0) w first_leaf (root_has l) has root ∙ bare_zero l (word_number l w) (late l w behind)
+zero_at : (l : Layout) (w : Word) → HasWord l w → 0 < part_of_word w → w ≢ Leaf 0 leaf_node_offset → w ≢ Root reference_offset → word_at l (fresh_words l) w ≡ 0
+zero_at l w has behind other root = word_at-set_other l (rooted l) (Leaf 0 leaf_node_offset) w 1 (leaf_has l) has other ∙
+    word_at-set_other l (bare l) (Root reference_offset) w first_leaf (root_has l) has root ∙ bare_zero l (word_number l w) (late l w behind)
 
 pub fresh_at : (l : Layout) (w : Word) → HasWord l w → word_at l (fresh_words l) w ≡ fresh_word l w
-fresh_at l (Header k) has = word_at-set_other l (rooted l) (Leaf 0 3) (Header k) 1 (leaf_has l) has (λ e. cc) ∙
-    word_at-set_other l (bare l) (Root 0) (Header k) first_leaf (root_has l) has (λ e. cc) ∙ header_at l (bare l) k ∙ bare_header l k
-fresh_at l (Root zero) has = word_at-set_other l (rooted l) (Leaf 0 3) (Root 0) 1 (leaf_has l) has (λ e. cc) ∙
-    word_at-set_same l (bare l) (Root 0) first_leaf (length-bare l) has
+fresh_at l (Header k) has = word_at-set_other l (rooted l) (Leaf 0 leaf_node_offset) (Header k) 1 (leaf_has l) has (λ e. cc) ∙
+    word_at-set_other l (bare l) (Root reference_offset) (Header k) first_leaf (root_has l) has (λ e. cc) ∙ header_at l (bare l) k ∙ bare_header l k
+fresh_at l (Root zero) has = word_at-set_other l (rooted l) (Leaf 0 leaf_node_offset) (Root reference_offset) 1 (leaf_has l) has (λ e. cc) ∙
+    word_at-set_same l (bare l) (Root reference_offset) first_leaf (length-bare l) has
 fresh_at l (Root (suc o)) has = zero_at l (Root (suc o)) has (lit< tt) (λ e. cc) (λ e. cc)
 fresh_at l (Node n o) has = zero_at l (Node n o) has (lit< tt) (λ e. cc) (λ e. cc)
 fresh_at l (Line c j o) has = zero_at l (Line c j o) has (lit< tt) (λ e. cc) (λ e. cc)
 fresh_at l (Leaf zero zero) has = zero_at l (Leaf 0 0) has (lit< tt) (λ e. cc) (λ e. cc)
 fresh_at l (Leaf zero (suc zero)) has = zero_at l (Leaf 0 1) has (lit< tt) (λ e. cc) (λ e. cc)
 fresh_at l (Leaf zero (suc (suc zero))) has = zero_at l (Leaf 0 2) has (lit< tt) (λ e. cc) (λ e. cc)
-fresh_at l (Leaf zero (suc (suc (suc zero)))) has = word_at-set_same l (rooted l) (Leaf 0 3) 1 (length-rooted l) has
+fresh_at l (Leaf zero (suc (suc (suc zero)))) has = word_at-set_same l (rooted l) (Leaf 0 leaf_node_offset) 1 (length-rooted l) has
 fresh_at l (Leaf zero (suc (suc (suc (suc o))))) has = zero_at l (Leaf 0 (suc (suc (suc (suc o))))) has (lit< tt) (λ e. cc) (λ e. cc)
 fresh_at l (Leaf (suc k) o) has = zero_at l (Leaf (suc k) o) has (lit< tt) (λ e. cc) (λ e. cc)
 fresh_at l (Cell kind k o) has = zero_at l (Cell kind k o) has (omega arith) (λ e. cc) (λ e. cc)
 
 rooted_fits : (l : Layout) → IsLayout l → (k : ℕ) → slice_index (rooted l) k < 2 ^ 64
 rooted_fits l layout k =
-    let address = word_number l (Root 0) in
-    let inside : address < length (bare l) = let within = words_within l (Root 0) (root_has l) in let size = length-bare l in omega arith in
+    let address = word_number l (Root reference_offset) in
+    let inside : address < length (bare l) = let within = words_within l (Root reference_offset) (root_has l) in let size = length-bare l in omega arith in
     elim (cases_eq k address) [
       | inl same ↦ subst (λ (n : ℕ). slice_index (rooted l) n < 2 ^ 64) (sym same) (let stored = get_or-set_same (bare l) address first_leaf 0 inside in omega arith)
       | inr other ↦ let kept = get_or-set_other (bare l) address k first_leaf 0 other in let before = bare_fits l layout k in omega arith
@@ -106,9 +107,9 @@ rooted_fits l layout k =
 
 pub fresh_image : (l : Layout) → IsLayout l → IsImage l (fresh_words l)
 fresh_image l layout =
-    let address = word_number l (Leaf 0 3) in
+    let address = word_number l (Leaf 0 leaf_node_offset) in
     let inside : address < length (rooted l) =
-    let within = words_within l (Leaf 0 3) (leaf_has l) in let size = length-rooted l in
+    let within = words_within l (Leaf 0 leaf_node_offset) (leaf_has l) in let size = length-rooted l in
     omega arith in
     record {
       layout = layout;
@@ -126,7 +127,7 @@ stored words magic nodes slots callers leaf =
     slice_set (slice_set (slice_set (slice_set (slice_set (slice_set (slice_set (slice_set words 0 magic) 1 1) 2 nodes) 3 slots) 4 callers) 5 1) 8 first_leaf) leaf 1
 
 abbrev stored_for : Layout → List ℕ → List ℕ
-stored_for l words = stored words (from_le_bytes w64 (codes "PACCAT01")) l.nodes l.slots l.callers (word_number l (Leaf 0 3))
+stored_for l words = stored words (from_le_bytes w64 (codes "PACCAT01")) l.nodes l.slots l.callers (word_number l (Leaf 0 leaf_node_offset))
 
 six_zeros : (n rest zero_word : ℕ) → 6 + rest ≡ n → replicate 6 zero_word ++ replicate rest zero_word ≡ replicate n zero_word
 six_zeros n rest zero_word size = replicate-append-replicate 6 rest zero_word ∙ ap (λ (k : ℕ). replicate k zero_word) size
@@ -136,7 +137,7 @@ stored_zeros l = sym (ap (stored_for l) (six_zeros (image_words l) (image_words 
 
 pub stored_image : (l : Layout) (words : List ℕ) (magic nodes slots callers leaf : ℕ) → IsLayout l →
     words ≡ replicate (image_words l) 0 → magic ≡ from_le_bytes w64 (codes "PACCAT01") → nodes ≡ l.nodes → slots ≡ l.slots →
-    callers ≡ l.callers → leaf ≡ word_number l (Leaf 0 3) → IsImage l (stored words magic nodes slots callers leaf)
+    callers ≡ l.callers → leaf ≡ word_number l (Leaf 0 leaf_node_offset) → IsImage l (stored words magic nodes slots callers leaf)
 stored_image l words magic nodes slots callers leaf layout zeros magic_is nodes_is slots_is callers_is leaf_is =
     let same : stored words magic nodes slots callers leaf ≡ stored_for l (replicate (image_words l) 0) = λ x. stored (zeros x) (magic_is x) (nodes_is x) (slots_is x) (callers_is x) (leaf_is x) in
     subst (IsImage l) (sym (same ∙ stored_zeros l)) (fresh_image l layout)

@@ -28,6 +28,17 @@ split_kind = 1
 abbrev pub merge_kind : ℕ
 merge_kind = 2
 
+-- What the updater lock says: no turn of the updater is being made, or one is.
+abbrev pub untaken_lock : ℕ
+untaken_lock = 0
+
+abbrev pub taken_lock : ℕ
+taken_lock = 1
+
+-- The kind of leaves, in references and marks; the kinds 2 to 5 are those of cells, by their form.
+abbrev pub leaf_kind : ℕ
+leaf_kind = 1
+
 -- The version of a permutation that was never made: no node has this version word.
 abbrev pub no_permutation : ℕ
 no_permutation = 2 ^ 64 - 1

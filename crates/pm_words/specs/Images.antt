@@ -5,6 +5,7 @@ use Rattle.std.specs.Int.{w64, from_le_bytes}
 use Rattle.pm_words.specs.declared.layout.Layout.{Layout}
 use Rattle.pm_words.specs.Layouts.{IsLayout}
 use Rattle.pm_words.specs.Locations.{Word, Header, Root, Node, Line, Leaf, Cell, image_words, word_number, word_at}
+use Rattle.pm_words.specs.Offsets.{reference_offset, leaf_node_offset}
 
 -- a row of words, and the layout that tells which word stands where
 pub record Row : Type 0 where
@@ -29,8 +30,8 @@ first_leaf = 2 ^ 16
 
 abbrev pub fresh_words : Layout → List ℕ
 fresh_words l =
-    slice_set (slice_set (header l ++ 1 ∷ replicate (image_words l - 6) 0) (word_number l (Root 0)) first_leaf)
-    (word_number l (Leaf 0 3)) 1
+    slice_set (slice_set (header l ++ 1 ∷ replicate (image_words l - 6) 0) (word_number l (Root reference_offset)) first_leaf)
+    (word_number l (Leaf 0 leaf_node_offset)) 1
 
 -- the same word by word: all are 0 but the header, the generation, the root and the node of leaf 0
 abbrev pub fresh_word : Layout → Word → ℕ

@@ -5,12 +5,13 @@ use Rattle.pm_words.specs.declared.action.Action.{Action}
 use Rattle.pm_words.specs.declared.action.Action.TheVariants.{Drain}
 use Rattle.pm_words.specs.declared.fence.Fence.{Fence}
 use Rattle.pm_words.specs.Layouts.{IsLayout}
-use Rattle.pm_words.specs.Locations.{Word, Header, Location, Cached, Durable, node_words, slot_offset, image_words}
+use Rattle.pm_words.specs.Locations.{Word, Header, Location, Cached, Durable, node_words, image_words}
 use Rattle.pm_words.specs.Locations.{word_number, HasWord, word_at, row_words, address_of, HasLocation, IsVolatile, at}
 use Rattle.pm_words.specs.Images.{IsImage, fresh_words, fresh_word}
 use Rattle.pm_words.specs.Fences.{IsFence, fence_asks, fence_next, FenceTurn}
 use Rattle.pm_words.specs.Rows.{IsRow, IsOutsideHeader, KeepsHeader, IsCached, CanAct, action_address, acted, evicted}
 use Rattle.pm_words.specs.Rows.{durable_row, cached_row, row_of}
+use Rattle.pm_words.specs.Offsets.{slot_offset}
 
 -- a word that an image has is one of its words
 abbrev pub WordsWithin : Type 0

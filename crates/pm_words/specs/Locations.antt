@@ -28,10 +28,6 @@ start_of sizes k = sum (take k sizes)
 abbrev pub node_words : Layout → ℕ
 node_words l = 16 + 4 * l.slots
 
--- the offset of word k of a slot, where its value is word 3
-abbrev pub slot_offset : ℕ → ℕ → ℕ
-slot_offset slot k = 16 + 4 * slot + k
-
 -- how many leaves there are, and how many cells of each kind
 abbrev pub leaf_count : Layout → ℕ
 leaf_count l = l.nodes + 4

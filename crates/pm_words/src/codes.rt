@@ -34,13 +34,25 @@ pub mod kind {
 }
 
 /// A reference of the search layer, which is `KIND` times the kind of what it refers to, and the number of that. The
-/// kinds 2 to 5 are those of cells, by their form.
+/// other kinds are those of cells, by how many children their form has room for.
 pub mod reference {
     /// What a kind counts for, above each number of a leaf or a cell.
     pub const KIND: u64 = 1 << 16;
 
     /// The kind of leaves.
     pub const LEAF: u64 = 1;
+
+    /// Four children, as entries.
+    pub const FORM_4: u64 = 2;
+
+    /// Sixteen, as entries.
+    pub const FORM_16: u64 = 3;
+
+    /// Forty-eight, through an index.
+    pub const FORM_48: u64 = 4;
+
+    /// One for each branch byte.
+    pub const FORM_256: u64 = 5;
 }
 
 /// The updater lock.

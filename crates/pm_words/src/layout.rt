@@ -5,6 +5,7 @@ ghost use Rattle.pm_words.specs.Locations.{leaf_count, kind_words, word_number, 
 ghost use Rattle.pm_words.specs.Locations.{durable_address, HasWord, HasLocation, Node, Line, Leaf, Cell, Volatile};
 ghost use Rattle.pm_words.specs.Locations.{Mark};
 
+use crate::codes::reference::{FORM_4, FORM_16, FORM_48};
 use crate::{KEY, LINE_WORDS, LOG_LINES, MOST_NODES};
 
 /// A number of a layout.
@@ -186,7 +187,7 @@ impl Layout {
     }
 
     /// How many leaves there are, and how many cells of each kind.
-    fn leaf_count(&self) -> u64
+    pub fn leaf_count(&self) -> u64
         requires { IsLayout self.now }
         ensures count { result ≡ leaf_count self.now }
         ensures bound { result ≤ 4100 }
@@ -218,9 +219,9 @@ impl Layout {
         ensures bound { result ≤ 1639952 }
     {
         let words_before = match kind {
-            2 => 8,
-            3 => 16,
-            4 => 40,
+            FORM_4 => 8,
+            FORM_16 => 16,
+            FORM_48 => 40,
             _ => 128,
         };
         self.leaves_start() + words_before * self.leaf_count()
@@ -236,16 +237,16 @@ impl Layout {
     }
 }
 
-/// The words of one cell.
-fn kind_words(kind: u64) -> u64
+/// How many words a cell of this kind has.
+pub fn kind_words(kind: u64) -> u64
     requires { (2 ≤ kind) × (kind ≤ 5) }
     ensures words { result ≡ kind_words kind }
     ensures bound { result ≤ 264 }
 {
     match kind {
-        2 => 8,
-        3 => 24,
-        4 => 88,
+        FORM_4 => 8,
+        FORM_16 => 24,
+        FORM_48 => 88,
         _ => 264,
     }
 }

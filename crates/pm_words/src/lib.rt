@@ -20,7 +20,7 @@ pub use again::Again;
 pub use bytes::ImageFault;
 pub use fence::{Fence, FenceAt, line_of};
 pub use image::Image;
-pub use layout::{Field, Layout, LayoutFault};
+pub use layout::{Field, Layout, LayoutFault, kind_words};
 pub use machine::{Machine, Turn};
 pub use memory::Memory;
 pub use steps::Steps;

@@ -75,6 +75,24 @@ pub mod leaf {
     pub const NODE: u64 = 3;
 }
 
+/// A cell of the search layer, of each form.
+pub mod cell {
+    /// How many bytes of a key lead to the cell.
+    pub const DEPTH: u64 = 0;
+
+    /// The first word of those bytes, which has as many words as a key.
+    pub const PREFIX: u64 = 1;
+
+    /// The first entry of form 4.
+    pub const FIRST_OF_4: u64 = 4;
+
+    /// The first entry of form 16, the first word of form 48's index, and the first reference of form 256.
+    pub const FIRST: u64 = 8;
+
+    /// The reference in form 48's first place.
+    pub const PLACES: u64 = 40;
+}
+
 /// The volatile words of a node. The words 4 to 7 are 0.
 pub mod volatile {
     /// Whether the node is free, live or gone.

@@ -1,6 +1,7 @@
 -- A cell of form 4 with two children.
 use Rattle.std.proofs.Common.{◌≡◌, ◌≢◌, ℕ, zero, suc, ◌+◌, ◌/◌, ◌%◌, ◌^◌, ◌<◌, ◌≤◌, ◌⊎◌, inl, inr, length, length-set, slice_index, slice_set, List, refl, sym, subst, ap, ◌∙◌, arith}
 use Rattle.std.proofs.lemmas.Bool.{cases_eq}
+use Rattle.pm_words.specs.Offsets.{depth_offset}
 use Rattle.radix_nodes.specs.declared.cell.Branch.{Branch}
 use Rattle.radix_nodes.specs.Keys.{KeyWords, key_bytes, word_byte, EndsAt}
 use Rattle.radix_nodes.specs.Cells.{CellWords, children, entry_byte, entry_reference, entry_of, AreEntries, IsForm, IsReference, IsLawful, prefix_words}
@@ -98,7 +99,7 @@ module _ (depth : ℕ) (prefix : KeyWords) (one two : Branch) (w : CellWords) (h
 
   pair_lawful : depth < key_bytes → EndsAt depth prefix → IsLawful 2 c
   pair_lawful lt ends =
-      let at_depth : c 0 ≡ depth = elsewhere 0 (λ e. not_four 0 refl e) (λ e. not_five 0 refl e) ∙ headed.depth_is in
+      let at_depth : c depth_offset ≡ depth = elsewhere depth_offset (λ e. not_four 0 refl e) (λ e. not_five 0 refl e) ∙ headed.depth_is in
       record {
         form = pair_form;
         depth = subst (λ d. d < key_bytes) (sym at_depth) lt;
@@ -131,7 +132,7 @@ module _ (depth : ℕ) (prefix : KeyWords) (one two : Branch) (w : CellWords) (h
   pub pair_is : (words : List ℕ) → depth < key_bytes → slice_index words ≡ c → IsPair depth prefix one two (record { kind = 2; words = words })
   pair_is words lt path = record {
     kind = refl;
-    depth_is = at 0 ∙ elsewhere 0 (λ e. not_four 0 refl e) (λ e. not_five 0 refl e) ∙ headed.depth_is;
+    depth_is = at depth_offset ∙ elsewhere depth_offset (λ e. not_four 0 refl e) (λ e. not_five 0 refl e) ∙ headed.depth_is;
     prefix_is = λ k less. at (1 + k) ∙ elsewhere (1 + k) (λ e. omega arith) (λ e. omega arith) ∙ headed.prefix_is k less;
     has_one = ap (λ (d : CellWords). children 2 d one.byte) path ∙ has_first;
     has_two = ap (λ (d : CellWords). children 2 d two.byte) path ∙ has_second;

@@ -3,6 +3,7 @@ use Rattle.std.proofs.Common.{◌≡◌, ◌≢◌, ℕ, zero, suc, ◌+◌, ◌
 use Rattle.std.specs.Prelude.{Some, None}
 use Rattle.std.proofs.lemmas.Bool.{cases_eq}
 use Rattle.pm_words.specs.Locations.{kind_words}
+use Rattle.pm_words.specs.Offsets.{depth_offset}
 use Rattle.radix_nodes.specs.declared.cell.Cell.{Cell}
 use Rattle.radix_nodes.specs.declared.cell.CellStore.{CellStore}
 use Rattle.radix_nodes.specs.Keys.{key_bytes, word_byte, EndsAt}
@@ -23,11 +24,11 @@ prefix_same c c' depth head ends at le within = ap (λ w. word_byte w (at % 8)) 
 -- a cell with the same head, another form and other children
 pub lawful_by : (kind kind' : ℕ) (c c' : CellWords) → IsLawful kind c → ((o : ℕ) → o < 4 → c' o ≡ c o) → IsForm kind' c' → ((b : ℕ) → children kind' c' b ≢ 0 → IsReference (children kind' c' b)) → HasTwo (children kind' c') → IsLawful kind' c'
 lawful_by kind kind' c c' is head form references two =
-    let depth : c' 0 ≡ c 0 = head 0 (omega arith) in
+    let depth : c' depth_offset ≡ c depth_offset = head 0 (omega arith) in
     record {
       form = form;
       depth = subst (λ d. d < key_bytes) (sym depth) is.depth;
-      prefix = subst (λ d. EndsAt d (prefix_words c')) (sym depth) (prefix_same c c' (c 0) head is.prefix);
+      prefix = subst (λ d. EndsAt d (prefix_words c')) (sym depth) (prefix_same c c' (c depth_offset) head is.prefix);
       references = references;
       two = two;
     }

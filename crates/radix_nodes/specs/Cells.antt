@@ -2,6 +2,7 @@
 use Rattle.std.specs.Prelude.{◌≡◌, ◌≢◌, ℕ, zero, suc, ◌+◌, ◌*◌, ◌/◌, ◌%◌, ◌^◌, ◌<◌, ◌≤◌, ◌==◌, ◌&&◌, not, nat_lt}
 use Rattle.std.specs.Prelude.{if◌then◌else◌, Option, Some, None, slice_index}
 use Rattle.pm_words.specs.Locations.{kind_words}
+use Rattle.pm_words.specs.Offsets.{depth_offset}
 use Rattle.radix_nodes.specs.declared.cell.Cell.{Cell}
 use Rattle.radix_nodes.specs.Bytes.{byte_in}
 use Rattle.radix_nodes.specs.Keys.{KeyWords, key_bytes, EndsAt}
@@ -101,8 +102,8 @@ prefix_words c k = c (1 + k)
 -- The words of a cell are lawful, but for what the references lead to.
 pub record IsLawful (kind : ℕ) (c : CellWords) : Type 0 where
   pub form : IsForm kind c
-  pub depth : c 0 < key_bytes
-  pub prefix : EndsAt (c 0) (prefix_words c)
+  pub depth : c depth_offset < key_bytes
+  pub prefix : EndsAt (c depth_offset) (prefix_words c)
   pub references : AreReferences (children kind c)
   pub two : HasTwo (children kind c)
 

@@ -10,6 +10,7 @@ use Rattle.pm_words.specs.declared.fence.Fence.{Fence}
 use Rattle.pm_words.specs.Fences.{IsFence, fence_start, fence_asks, fence_next, fence_left}
 use Rattle.pm_words.specs.Layouts.{IsLayout}
 use Rattle.pm_words.specs.Locations.{Leaf, Cell, Cached, address_of, leaf_count}
+use Rattle.pm_words.specs.Offsets.{leaf_node_offset}
 use Rattle.radix_nodes.specs.declared.cell.Cell as cells
 use Rattle.radix_nodes.specs.declared.filling.Filling.{Filling}
 use Rattle.radix_nodes.specs.declared.filling.Filling.TheVariants.{Store, Drain}
@@ -54,7 +55,7 @@ filling_left lines (Drain line fence) = 16 * (lines - (line + 1)) + fence_left f
 -- A leaf: the words of its key, and its node and one.
 
 abbrev pub leaf_value : KeyWords → ℕ → ℕ → ℕ
-leaf_value key node offset = if nat_lt offset 3 then key offset else if offset == 3 then node + 1 else 0
+leaf_value key node offset = if nat_lt offset 3 then key offset else if offset == leaf_node_offset then node + 1 else 0
 
 abbrev pub fill_leaf_start : Layout → ℕ → List ℕ → ℕ → FillLeaf
 fill_leaf_start layout number key node =

@@ -5,27 +5,19 @@ ghost use Rattle.radix_nodes.specs.Cells.{words_of, entry_of, index_of};
 ghost use Rattle.radix_nodes.specs.Changes.{stored};
 ghost use Rattle.radix_nodes.specs.Bytes.{byte_in, byte_set};
 
+use pm_words::offsets::cell::FIRST;
+
 /// The words of the largest form.
 pub const CELL_WORDS: usize = 264;
 
-/// The kinds of references: of a cell by its form. Kind 1 is a leaf.
-pub(crate) const FORM_4: u64 = 2;
-
-pub(crate) const FORM_16: u64 = 3;
-
-pub(crate) const FORM_48: u64 = 4;
-
-/// The first entry of form 4.
-pub(crate) const FIRST_OF_4: u64 = 4;
-
-/// The first entry of form 16, the first word of form 48's index, and the first reference of form 256.
-pub(crate) const FIRST: u64 = 8;
-
-/// The first place of form 48.
-pub(crate) const PLACES: u64 = 40;
-
 /// In an entry the branch byte stands above the reference.
-pub(crate) const ENTRY: u64 = 1 << 32;
+pub const ENTRY: u64 = 1 << 32;
+
+/// How many places form 48 has.
+pub const PLACE_COUNT: u64 = 48;
+
+/// How many words its index has.
+pub const INDEX_WORDS: u64 = 32;
 
 /// A cell as it was read: its kind, 2 to 5, and its words, with zeros behind them.
 #[derive(Clone, Copy)]

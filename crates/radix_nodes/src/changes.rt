@@ -7,10 +7,10 @@ ghost use Rattle.radix_nodes.specs.Places.{IsFreePlace, AddsEntry, AddsInPlace, 
 ghost use Rattle.radix_nodes.specs.Changes.{Adds, IsFull, HasPlaces, IsTaken, Removes, IsOneMore, HasTwoMore};
 ghost use Rattle.radix_nodes.specs.Changes.{SetsChild};
 
-use crate::cell::{
-    Cell, CellStore, ENTRY, FIRST, FIRST_OF_4, FORM_4, FORM_16, FORM_48, PLACES, byte_set,
-};
+use crate::cell::{Cell, CellStore, ENTRY, PLACE_COUNT, byte_set};
 use crate::lookup::{child_word, entry_with};
+use pm_words::codes::reference::{FORM_4, FORM_16, FORM_48};
+use pm_words::offsets::cell::{FIRST, FIRST_OF_4, PLACES};
 
 /// The stores by which a child comes into a cell. In form 48 `first` puts its reference into a free place, and is to be
 /// durable before `switch` is made; in the other forms there is `switch` alone.
@@ -157,7 +157,7 @@ fn free_place(cell: &Cell) -> Option<u64>
     ensures { MatchOption result ((place : ℕ) → place < 48 → IsTaken (words_of cell.now) place)
         (IsFreePlace (words_of cell.now)) }
 {
-    for place in 0..48 {
+    for place in 0..PLACE_COUNT {
         if !is_taken(cell, place) {
             return Some(place);
         }

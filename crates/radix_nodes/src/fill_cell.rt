@@ -3,8 +3,9 @@
 ghost use Rattle.std.specs.Prelude.{◌≡◌, ◌≤◌};
 ghost use Rattle.radix_nodes.specs.Fills.{lines_of};
 
-use crate::cell::{Cell, FORM_4, FORM_16, FORM_48};
+use crate::cell::Cell;
 use crate::filling::Filling;
+use pm_words::codes::reference::{FORM_4, FORM_16, FORM_48};
 use pm_words::{Action, Layout, Machine, Turn};
 
 /// Stores the words of a cell that nothing leads to, and makes them durable.

@@ -28,7 +28,9 @@ pub mod laws;
 mod lookup;
 mod making;
 
-pub use cell::{Branch, CELL_WORDS, Cell, CellStore, byte_in, byte_set};
+pub use cell::{
+    Branch, CELL_WORDS, Cell, CellStore, ENTRY, INDEX_WORDS, PLACE_COUNT, byte_in, byte_set,
+};
 pub use changes::{Added, Removed, add, remove};
 pub use fill_cell::FillCell;
 pub use fill_leaf::FillLeaf;

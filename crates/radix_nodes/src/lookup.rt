@@ -4,7 +4,9 @@ ghost use Rattle.std.specs.Prelude.{◌≡◌, ℕ, ◌+◌, ◌<◌, ◌≤◌,
 ghost use Rattle.radix_nodes.specs.Cells.{words_of, children_of, if_some, seek, indexed, IsBelow, HasNoneBelow};
 ghost use Rattle.radix_nodes.specs.Entries.{IsEntryOf, HasNoEntry};
 
-use crate::cell::{Cell, ENTRY, FIRST, FIRST_OF_4, FORM_4, FORM_16, FORM_48, PLACES};
+use crate::cell::{Cell, ENTRY};
+use pm_words::codes::reference::{FORM_4, FORM_16, FORM_48};
+use pm_words::offsets::cell::{FIRST, FIRST_OF_4, PLACES};
 
 /// The child under this branch byte.
 pub fn child(cell: &Cell, byte: u8) -> Option<u64>

@@ -8,12 +8,12 @@ ghost use Rattle.radix_nodes.specs.Changes.{IsGrown, IsPair};
 ghost use Rattle.radix_nodes.specs.Making.{copied, bare_of, in_16, in_48, whole_in_256, grown_of, larger_of, IsLarger};
 ghost use Rattle.radix_nodes.specs.Making.{headed_words, pair_of};
 
-use crate::cell::{
-    Branch, CELL_WORDS, Cell, ENTRY, FIRST, FIRST_OF_4, FORM_4, FORM_16, PLACES, byte_set,
-};
+use crate::cell::{Branch, CELL_WORDS, Cell, ENTRY, byte_set};
 use crate::key::Key;
 use crate::lookup::child_word;
 use cat_key::WORDS;
+use pm_words::codes::reference::{FORM_4, FORM_16};
+use pm_words::offsets::cell::{DEPTH, FIRST, FIRST_OF_4, PLACES, PREFIX};
 
 /// The cell of the next form with the same depth, prefix and children.
 pub fn grown(cell: &Cell) -> Cell
@@ -127,9 +127,9 @@ fn headed(depth: u64, prefix: Key) -> [u64; CELL_WORDS]
     ensures { result ≡ headed_words depth (slice_index prefix) 3 }
 {
     let mut words = no_words();
-    words[0] = depth;
+    words[DEPTH as usize] = depth;
     for at in 0..WORDS {
-        words[1 + at] = prefix[at];
+        words[PREFIX as usize + at] = prefix[at];
     }
     words
 }

@@ -11,9 +11,9 @@ use Rattle.pm_words.specs.declared.action.Action.TheVariants.{Store}
 use Rattle.pm_words.specs.Rows.{IsRow, IsOutsideHeader, acted}
 use Rattle.pm_words.proofs.Apart.{addresses_within, at-set_same, at-set_other}
 use Rattle.pm_words.proofs.Kept.{acted_row, outside_header}
-use Rattle.data_node.specs.Lists.{ListNode, IsChain, IsIn, IsMember, Rise, anchor_in, next_offset}
+use Rattle.data_node.specs.Lists.{ListNode, IsChain, IsIn, IsMember, Rise, anchor_in}
 use Rattle.data_node.proofs.ListLemmas.{all_member, members_few, not_behind, rise_at}
-use Rattle.pm_words.specs.Offsets.{prev_offset, stamp_offset, status_offset}
+use Rattle.pm_words.specs.Offsets.{next_offset, status_offset, prev_offset, stamp_offset, permutation_version_offset}
 use Rattle.index_law.specs.Facts.{list_in, spot_in}
 use Rattle.index_law.proofs.Rows.{spot_in-alike}
 use Rattle.index_core.specs.index_opening_law.specs.Openings.{LeadBack, TellsList}
@@ -62,7 +62,7 @@ tell_row l words node prev row here small =
     let outside : (o : ℕ) → o < 16 → IsOutsideHeader l (address_of l (Volatile node o)) = λ o low. outside_header l (Volatile node o) (marked o low) (λ k lt. (λ e. cc, λ e. cc)) in
     acted_row l (acted l words (Store (address_of l (Volatile node status_offset)) live_status)) (Store (address_of l (Volatile node prev_offset)) prev)
     (acted_row l words (Store (address_of l (Volatile node status_offset)) live_status) row ((addresses_within l (Volatile node status_offset) (marked 0 (omega arith)), outside 0 (omega arith)), omega arith))
-    ((addresses_within l (Volatile node prev_offset) (marked 1 (omega arith)), outside 1 (omega arith)), small)
+    ((addresses_within l (Volatile node prev_offset) (marked prev_offset (omega arith)), outside prev_offset (omega arith)), small)
 
 -- Of this list of the nodes behind node 0, those up to this node are told, and these are left behind it.
 pub record IsToldTo (l : Layout) (list : List ListNode) (words now : List ℕ) (here : ℕ) (left : List ListNode) : Type 0 where
@@ -110,7 +110,7 @@ module _ (l : Layout) (words : List ℕ) (untold : IsUntold l words) where
           (cases_eq n 0);
       bare = λ n here left. ⊎_elim
           (λ (e : n ≡ 0). subst (λ k. at l (told_words l words 0 0) (Volatile k prev_offset) ≡ 0) (sym e) (tell_prev l words 0 0 row.whole untold.some))
-          (λ (other : n ≢ 0). tell_else l words 0 0 row.whole untold.some n 1 other here (omega arith) ∙ untold.zero (Volatile n prev_offset) (here, omega arith) (omega arith) refl)
+          (λ (other : n ≢ 0). tell_else l words 0 0 row.whole untold.some n prev_offset other here (omega arith) ∙ untold.zero (Volatile n prev_offset) (here, omega arith) (omega arith) refl)
           (cases_eq n 0);
       back = λ prev same leads. leads;
     };
@@ -164,10 +164,10 @@ module _ (l : Layout) (words : List ℕ) (untold : IsUntold l words) where
                     (cases_eq n next);
                 bare = λ n here_n left. ⊎_elim
                     (λ (e : n ≡ next). absurd (apart (subst (IsMember behind) e (left (told.inside n (inl (e ∙ sym same)))))))
-                    (λ (other : n ≢ next). tell_else l now next here told.row.whole within n 1 other here_n (omega arith) ∙ told.bare n here_n (λ listed. inr (left listed)))
+                    (λ (other : n ≢ next). tell_else l now next here told.row.whole within n prev_offset other here_n (omega arith) ∙ told.bare n here_n (λ listed. inr (left listed)))
                     (cases_eq n next);
                 back = λ prev alike leads_back. told.back prev
-                    (λ n here_n none. alike n here_n (λ among. none (inr among)) ∙ tell_else l now next here told.row.whole within n 1 (λ e. none (inl (e ∙ sym same))) here_n (omega arith))
+                    (λ n here_n none. alike n here_n (λ among. none (inr among)) ∙ tell_else l now next here told.row.whole within n prev_offset (λ e. none (inl (e ∙ sym same))) here_n (omega arith))
                     (ap prev same ∙ alike next within apart ∙ tell_prev l now next here told.row.whole within, subst (λ k. LeadBack prev k behind) (sym same) leads_back);
               };
               size = omega arith;
@@ -180,7 +180,7 @@ module _ (l : Layout) (words : List ℕ) (untold : IsUntold l words) where
     free = λ n here_n unlisted. told.dark n here_n (λ listed. absurd (unlisted listed));
     back = told.back (λ n. at l now (Volatile n prev_offset)) (λ n here_n none. refl) (subst (LeadBack (λ n. at l now (Volatile n prev_offset)) here) (sym none) tt);
     none = λ n here_n unlisted. told.bare n here_n (λ listed. absurd (unlisted listed));
-    stamps = λ n here_n. told.beside (Volatile n stamp_offset) (here_n, omega arith) (other_word 2 refl) ∙ untold.zero (Volatile n stamp_offset) (here_n, omega arith) (omega arith) refl;
+    stamps = λ n here_n. told.beside (Volatile n stamp_offset) (here_n, omega arith) (other_word stamp_offset refl) ∙ untold.zero (Volatile n stamp_offset) (here_n, omega arith) (omega arith) refl;
     clock = told.beside Clock tt (λ mark. mark) ∙ untold.zero Clock tt (omega arith) refl;
     updater = told.beside Updater tt (λ mark. mark) ∙ untold.zero Updater tt (omega arith) refl;
   }
@@ -188,7 +188,7 @@ module _ (l : Layout) (words : List ℕ) (untold : IsUntold l words) where
       no_member : (n : ℕ) → IsMember left n → ⊥
       no_member n among = subst (λ (ms : List ListNode). IsMember ms n) none among
 
-      other_word : (o : ℕ) → o ≡ 2 → (o < 2) ⊎ (o ≡ 3) → ⊥
+      other_word : (o : ℕ) → o ≡ stamp_offset → (o < 2) ⊎ (o ≡ permutation_version_offset) → ⊥
       other_word o two (inl low) = omega arith
       other_word o two (inr three) = omega arith
 

@@ -12,12 +12,12 @@ use Rattle.pm_words.specs.declared.layout.Layout.{Layout}
 use Rattle.pm_words.specs.Images.{Row}
 use Rattle.pm_words.specs.Locations.{Word, Location, Clock, Updater, Volatile, Mark, Cached, Durable, HasWord, at}
 use Rattle.pm_words.specs.Rows.{IsRow, durable_row}
+use Rattle.pm_words.specs.Offsets.{state_offset}
 use Rattle.version_lock.specs.Versions.{IsGeneration}
 use Rattle.data_node.specs.Lists.{ListNode, MakeList, Rise, range_in}
 use Rattle.data_node.specs.Spots.{Spot}
 use Rattle.data_node.specs.Weights.{node_weight, total}
 use Rattle.data_node.proofs.ListLemmas.{chain_is, members_few}
-use Rattle.data_node.specs.Lines.{state_offset}
 use Rattle.image_rules.specs.Nodes.{image_spot, image_list}
 use Rattle.image_rules.specs.Sound as image
 use Rattle.image_rules.specs.Sound.{image_map, IsMapOf as IsImageMap}

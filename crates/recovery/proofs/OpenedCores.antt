@@ -9,12 +9,12 @@ use Rattle.pm_words.specs.Images.{Row, fresh_words}
 use Rattle.pm_words.specs.Layouts.{IsLayout}
 use Rattle.pm_words.specs.Locations.{Header, Node}
 use Rattle.pm_words.specs.declared.layout.Layout.{Layout}
+use Rattle.pm_words.specs.Offsets.{next_offset, generation_offset}
 use Rattle.pm_words.proofs.Made.{fresh_at}
 use Rattle.version_lock.specs.Versions.{IsGeneration}
-use Rattle.data_node.specs.Lists.{next_offset}
 use Rattle.data_node.proofs.ListLemmas.{chain_is}
 use Rattle.image_rules.specs.Nodes.{image_list, image_spot}
-use Rattle.image_rules.specs.Rules.{header_generation, generation_offset}
+use Rattle.image_rules.specs.Rules.{header_generation}
 use Rattle.image_rules.proofs.FreshLemmas.{fresh_is_sound}
 use Rattle.image_rules.proofs.MapLemmas.{has_one_map}
 use Rattle.image_rules.proofs.WordLemmas.{image_spot-here}

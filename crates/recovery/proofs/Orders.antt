@@ -51,7 +51,7 @@ goes_ordering l words now count within is =
     number_of _ = 0
 
 -- a word before the version of a permutation is another one
-no_order : (o : ℕ) → o < 3 → o ≡ 3 → ⊥
+no_order : (o : ℕ) → o < 3 → o ≡ permutation_version_offset → ⊥
 no_order o low same = omega arith
 
 -- what leads back still does
@@ -59,17 +59,17 @@ leads_still : (l : Layout) (words after : List ℕ) (here : ℕ) (list : List Li
     → LeadBack (λ n. at l words (Volatile n prev_offset)) here list → LeadBack (λ n. at l after (Volatile n prev_offset)) here list
 leads_still l words after here [] keeps within leads = tt
 leads_still l words after here (m ∷ behind) keeps within leads =
-    (keeps (Volatile m.node prev_offset) (within.0, omega arith) (no_order 1 (omega arith)) ∙ leads.0, leads_still l words after m.node behind keeps within.1 leads.1)
+    (keeps (Volatile m.node prev_offset) (within.0, omega arith) (no_order prev_offset (omega arith)) ∙ leads.0, leads_still l words after m.node behind keeps within.1 leads.1)
 
 -- The list is told still.
 pub tells_still : (l : Layout) (words after : List ℕ) (list : List ListNode) → 0 < l.nodes → AllByRecursion (λ (m : ListNode). m.node < l.nodes) list → KeepsButOrders l words after
     → TellsList l list words → TellsList l list after
 tells_still l words after list some within keeps tells = record {
-  live = λ n listed. keeps (Volatile n status_offset) (listed_here n listed, omega arith) (no_order 0 (omega arith)) ∙ tells.live n listed;
-  free = λ n here unlisted. keeps (Volatile n status_offset) (here, omega arith) (no_order 0 (omega arith)) ∙ tells.free n here unlisted;
+  live = λ n listed. keeps (Volatile n status_offset) (listed_here n listed, omega arith) (no_order status_offset (omega arith)) ∙ tells.live n listed;
+  free = λ n here unlisted. keeps (Volatile n status_offset) (here, omega arith) (no_order status_offset (omega arith)) ∙ tells.free n here unlisted;
   back = leads_still l words after 0 list keeps within tells.back;
-  none = λ n here unlisted. keeps (Volatile n prev_offset) (here, omega arith) (no_order 1 (omega arith)) ∙ tells.none n here unlisted;
-  stamps = λ n here. keeps (Volatile n stamp_offset) (here, omega arith) (no_order 2 (omega arith)) ∙ tells.stamps n here;
+  none = λ n here unlisted. keeps (Volatile n prev_offset) (here, omega arith) (no_order prev_offset (omega arith)) ∙ tells.none n here unlisted;
+  stamps = λ n here. keeps (Volatile n stamp_offset) (here, omega arith) (no_order stamp_offset (omega arith)) ∙ tells.stamps n here;
   clock = keeps Clock tt (λ order. order) ∙ tells.clock;
   updater = keeps Updater tt (λ order. order) ∙ tells.updater;
 }

@@ -2,7 +2,7 @@
 
 ghost use Rattle.std.specs.Prelude.{◌≡◌, ◌<◌};
 ghost use Rattle.pm_words.specs.Rows.{IsRow};
-ghost use Rattle.data_node.specs.Lists.{next_offset};
+ghost use Rattle.pm_words.specs.Offsets.{next_offset};
 ghost use Rattle.index_law.specs.Facts.{list_in, spot_in};
 ghost use Rattle.index_core.specs.index_opening_law.specs.Openings.{HaveNoOrders, TellsList};
 ghost use Rattle.recovery.specs.Tellings.{IsUntold, KeepsBeside, KeepsButOrders, told_node};

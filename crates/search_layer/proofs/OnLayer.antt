@@ -8,6 +8,7 @@ use Rattle.pm_words.specs.declared.fence.FenceAt.TheVariants as fence_at
 use Rattle.pm_words.specs.Fences.{fence_at_asks}
 use Rattle.pm_words.specs.Locations.{Word, Root, Leaf, Cell, Location, Mark, Cached, HasWord, HasLocation, kind_words}
 use Rattle.pm_words.specs.Locations.{address_of}
+use Rattle.pm_words.specs.Offsets.{reference_offset, depth_offset}
 use Rattle.radix_nodes.specs.declared.filling.Filling.{Filling}
 use Rattle.radix_nodes.specs.declared.filling.Filling.TheVariants as filling
 use Rattle.radix_nodes.specs.declared.fill_leaf.FillLeaf.{FillLeaf}
@@ -52,7 +53,7 @@ IsBody (Cell kind k o) = Unit {0}
 IsBody _ = ⊥
 
 abbrev pub IsOfTree : Word → Type 0
-IsOfTree (Root o) = o ≡ 0
+IsOfTree (Root o) = o ≡ reference_offset
 IsOfTree (Leaf k o) = Unit {0}
 IsOfTree (Cell kind k o) = Unit {0}
 IsOfTree _ = ⊥
@@ -80,7 +81,7 @@ module _ (P : ℕ → ℕ → Type 0) where
   line_fence l (target.Cell cell offset) word place has holds = body_fence l (line_image (target.Cell cell offset) word) place has tt refl
 
   target_store : (l : Layout) (p : Target) (y : ℕ) → HasWord l (target_image p) → ActsIn l P (Store (address_of l (Cached (target_image p))) y)
-  target_store l target.Root y has = stores (Root 0) has refl refl
+  target_store l target.Root y has = stores (Root reference_offset) has refl refl
   target_store l (target.Leaf leaf offset) y has = stores (Leaf leaf offset) has tt refl
   target_store l (target.Cell cell offset) y has = stores (Cell (kind_of cell) (number_of cell) offset) has tt refl
 
@@ -128,7 +129,7 @@ module _ (P : ℕ → ℕ → Type 0) where
   part_in l key word (at.ReadingCell read spot byte leaf) here holds = subst (λ k. ActsIn k P (Load (layer_address read.layout (read_word read)))) here.1 (word_in read.layout (read_word read) (read_has read here.0))
   part_in l key word (at.TakingCell take new) here holds = subst (λ k. ActsIn k P (take_asks take)) here.1 (take_in take here.0)
   part_in l key word (at.FillingCell fill spot free) here holds = subst (λ k. ActsIn k P (fill_cell_asks fill)) here.1 (cell_in fill here.0)
-  part_in l key word (at.ReadingDepth leaf outer inner) here holds = word_in l (cell_word inner.cell 0) (head_has l inner.cell 0 here.0 (omega arith))
+  part_in l key word (at.ReadingDepth leaf outer inner) here holds = word_in l (cell_word inner.cell depth_offset) (head_has l inner.cell depth_offset here.0 (omega arith))
   part_in l key word (at.Counting look leaf outer inner) here holds = subst (λ k. ActsIn k P (Load (layer_address look.layout (count_word look)))) here.1 (word_in look.layout (count_word look) (count_has look here.0))
   part_in l key word (at.ReadingIndex cell byte leaf) here holds =
       let small = here.2 in

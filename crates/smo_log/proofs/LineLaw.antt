@@ -15,8 +15,6 @@ use Rattle.pm_words.specs.declared.machine.Turn.{Turn}
 use Rattle.pm_words.specs.declared.machine.Turn.TheVariants.{Go, Done}
 use Rattle.call_stages.specs.data_node.specs.Spots.{Spot, updated}
 use Rattle.call_stages.specs.data_node.proofs.SpotLemmas.{updated-same, updated-other}
-use Rattle.call_stages.specs.data_node.specs.Lines.{state_offset, kind_offset, line_node_offset, left_offset}
-use Rattle.call_stages.specs.data_node.specs.Lists.{anchor_offset}
 use Rattle.call_stages.specs.data_node.proofs.LineLemmas.{entry_alike}
 use Rattle.call_stages.specs.Stages.{IsAmong, Tells}
 use Rattle.call_stages.specs.Kinds.{Soils}
@@ -38,6 +36,7 @@ use Rattle.smo_log.specs.declared.state.ReadyAt.{ReadyAt}
 use Rattle.smo_log.specs.declared.state.ReadyAt.TheVariants as ready_at
 use Rattle.pm_words.specs.Fences.{IsFence, fence_start, fence_next, fence_asks}
 use Rattle.pm_words.specs.Codes.{merge_kind, open_state, ready_state, split_kind, empty_state}
+use Rattle.pm_words.specs.Offsets.{anchor_offset, state_offset, kind_offset, line_node_offset, left_offset}
 use Rattle.smo_log.specs.LogLines.{caller_of, index_of, numbered_address, field_of, IsEntryOf, fields, settled, fenced}
 use Rattle.smo_log.specs.Takes.{take_line, take_at_asks, saw_state, take_fenced, take_at_turned, IsTakeAt, IsTake}
 use Rattle.smo_log.specs.Takes.{take_at_held, TakeNotes}

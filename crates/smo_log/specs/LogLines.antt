@@ -9,8 +9,7 @@ use Rattle.smo_log.specs.declared.line.Entry.{Entry}
 use Rattle.pm_words.specs.declared.fence.Fence.{Fence}
 use Rattle.pm_words.specs.Fences.{hand_of}
 use Rattle.pm_words.specs.Codes.{merge_kind, split_kind, empty_state, open_state}
-use Rattle.call_stages.specs.data_node.specs.Lists.{anchor_offset}
-use Rattle.call_stages.specs.data_node.specs.Lines.{state_offset, kind_offset, line_node_offset, left_offset}
+use Rattle.pm_words.specs.Offsets.{anchor_offset, state_offset, kind_offset, line_node_offset, left_offset}
 
 -- The caller of a line, and which of the caller's lines it is.
 abbrev pub caller_of : ℕ → ℕ

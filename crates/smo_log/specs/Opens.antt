@@ -17,12 +17,12 @@ use Rattle.smo_log.specs.declared.open.OpenAt.{OpenAt}
 use Rattle.smo_log.specs.declared.open.OpenAt.TheVariants as at
 use Rattle.pm_words.specs.Fences.{fence_start, IsFence, fence_asks, fence_next, fence_left}
 use Rattle.pm_words.specs.Codes.{open_state, empty_state}
-use Rattle.call_stages.specs.data_node.specs.Lines.{state_offset}
+use Rattle.pm_words.specs.Offsets.{state_offset, kind_offset}
 use Rattle.smo_log.specs.LogLines.{caller_of, index_of, numbered_address, field_of, IsEntryOf, fields, settled, fenced}
 use Rattle.smo_log.specs.LogLines.{open_line}
 
 abbrev pub open_from : Layout → ℕ → Entry → Open
-open_from layout line entry = record { layout = layout; line = line; entry = entry; at = at.Field 1 }
+open_from layout line entry = record { layout = layout; line = line; entry = entry; at = at.Field kind_offset }
 
 abbrev pub open_at_asks : Layout → ℕ → Entry → OpenAt → Action
 open_at_asks l line entry (at.Field offset) = Store (numbered_address l line offset) (field_of entry offset)

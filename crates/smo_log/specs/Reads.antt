@@ -7,8 +7,8 @@ use Rattle.pm_words.specs.declared.action.Action.TheVariants.{Load}
 use Rattle.pm_words.specs.declared.machine.Turn.{Turn}
 use Rattle.pm_words.specs.declared.machine.Turn.TheVariants.{Go, Done}
 use Rattle.pm_words.specs.Layouts.{IsLayout}
+use Rattle.pm_words.specs.Offsets.{state_offset, kind_offset, line_node_offset, left_offset}
 use Rattle.call_stages.specs.data_node.specs.Lists.{anchor_words}
-use Rattle.call_stages.specs.data_node.specs.Lines.{state_offset, kind_offset, line_node_offset, left_offset}
 use Rattle.call_stages.specs.Lines.{Notes}
 use Rattle.smo_log.specs.declared.read.LineSeen.{LineSeen}
 use Rattle.smo_log.specs.declared.read.ReadLine.{ReadLine}

@@ -15,7 +15,7 @@ use Rattle.smo_log.specs.declared.state.ReadyAt.TheVariants as at
 use Rattle.smo_log.specs.declared.state.Clear.{Clear}
 use Rattle.pm_words.specs.Fences.{fence_start, IsFence, fence_asks, fence_next, fence_left}
 use Rattle.pm_words.specs.Codes.{empty_state, ready_state}
-use Rattle.call_stages.specs.data_node.specs.Lines.{state_offset}
+use Rattle.pm_words.specs.Offsets.{state_offset}
 use Rattle.smo_log.specs.LogLines.{numbered_address, fields, fenced, open_line, ready_line}
 
 abbrev pub ready_from : Layout → ℕ → Ready

@@ -17,7 +17,7 @@ use Rattle.smo_log.specs.declared.take.TakeAt.{TakeAt}
 use Rattle.smo_log.specs.declared.take.TakeAt.TheVariants as at
 use Rattle.pm_words.specs.Fences.{fence_start, IsFence, fence_asks, fence_next, fence_left}
 use Rattle.pm_words.specs.Codes.{empty_state}
-use Rattle.call_stages.specs.data_node.specs.Lines.{state_offset}
+use Rattle.pm_words.specs.Offsets.{state_offset}
 use Rattle.smo_log.specs.LogLines.{caller_of, numbered_address, fenced, empty_line}
 
 abbrev pub take_from : Layout → ℕ → Take

@@ -2,6 +2,7 @@ ghost use Rattle.std.specs.Prelude.{◌≡◌, ◌<◌};
 
 use crate::line::line_address;
 use pm_words::codes::state::EMPTY;
+use pm_words::offsets::line::STATE;
 use pm_words::{Action, Fence, LOG_LINES, Layout, Machine, Turn};
 
 /// How the look for a line ended.
@@ -49,7 +50,7 @@ impl Machine for Take {
     fn action(&self) -> Action {
         let line = self.line();
         match self.at {
-            TakeAt::State => Action::Load(line_address(&self.layout, line, 0)),
+            TakeAt::State => Action::Load(line_address(&self.layout, line, STATE)),
             TakeAt::Fence { fence } => {
                 fence.action(line_address(&self.layout, line, fence.word))
             }

@@ -4,12 +4,12 @@ use Rattle.std.specs.Int.{bit_at}
 use Rattle.std.proofs.lemmas.Bool.{cases_eq, lt-ltb, le-ltb, ltb-true, ltb-false, and_parts, and_from, eq-eqb, eqb-true}
 use Rattle.std.proofs.lemmas.Nat.Bits.{bit_at-zero}
 use Rattle.cat_history.specs.Maps.{Map}
+use Rattle.pm_words.specs.Offsets.{bitmap_offset, next_offset, slot_offset}
 use Rattle.data_node.specs.Bits.{without_live}
 use Rattle.data_node.specs.Slots.{IsLive, IsClear, prints_of}
-use Rattle.data_node.specs.Spots.{Spot, Means, updated, bitmap_offset, slot_offset}
+use Rattle.data_node.specs.Spots.{Spot, Means, updated}
 use Rattle.data_node.proofs.BitLemmas.{without_live-same, without_live-other, without_live_below}
 use Rattle.data_node.proofs.SpotLemmas.{updated-same, updated-other, name_words-updated, means_kept}
-use Rattle.data_node.specs.Lists.{next_offset}
 use Rattle.call_stages.specs.Stages.{Tells, AreCopies}
 use Rattle.split_merge.specs.declared.uniting.Union.{Union}
 use Rattle.split_merge.specs.declared.pairing.Pairs.{Pairs}
@@ -89,21 +89,21 @@ module _ (union : Union) (sound : IsUnion union) where
   few = sound.layout.slots.1
 
   -- a slot of the first half that has a source gets a name
-  pub gets_name : (slot : ℕ) → slot < half_of union → from_in union slot < 64 → does union.own (head_word union 1) union.layout.slots slot
+  pub gets_name : (slot : ℕ) → slot < half_of union → from_in union slot < 64 → does union.own (head_word union bitmap_offset) union.layout.slots slot
   gets_name slot within from =
-      source_tells union.own (head_word union 1) union.layout.slots slot
-      (subst (λ n. n < 64) (ap (λ (p : Pairs). slice_index p.from slot) sound.pairs ∙ from_is union.own (head_word union 1) union.layout.slots few slot within) from)
+      source_tells union.own (head_word union bitmap_offset) union.layout.slots slot
+      (subst (λ n. n < 64) (ap (λ (p : Pairs). slice_index p.from slot) sound.pairs ∙ from_is union.own (head_word union bitmap_offset) union.layout.slots few slot within) from)
 
   pub is_target : (slot : ℕ) → slot < half_of union → from_in union slot < 64 → IsLive union.pairs.targets slot
   is_target slot within from =
       subst (λ (p : Pairs). IsLive p.targets slot) (sym sound.pairs)
-      (are_targets union.own (head_word union 1) union.layout.slots (half_of union) (let f = few in omega arith) slot within (gets_name slot within from))
+      (are_targets union.own (head_word union bitmap_offset) union.layout.slots (half_of union) (let f = few in omega arith) slot within (gets_name slot within from))
 
   pub targets_small : union.pairs.targets < 2 ^ 64
-  targets_small = subst (λ (p : Pairs). p.targets < 2 ^ 64) (sym sound.pairs) (targets_fit union.own (head_word union 1) union.layout.slots (half_of union) (let f = few in omega arith))
+  targets_small = subst (λ (p : Pairs). p.targets < 2 ^ 64) (sym sound.pairs) (targets_fit union.own (head_word union bitmap_offset) union.layout.slots (half_of union) (let f = few in omega arith))
 
   pub grown_small : union.pairs.grown < 2 ^ 64
-  grown_small = subst (λ (p : Pairs). p.grown < 2 ^ 64) (sym sound.pairs) (grown_fits union.own (head_word union 1) union.layout.slots sound.own (half_of union) (let f = few in omega arith))
+  grown_small = subst (λ (p : Pairs). p.grown < 2 ^ 64) (sym sound.pairs) (grown_fits union.own (head_word union bitmap_offset) union.layout.slots sound.own (half_of union) (let f = few in omega arith))
 
   pub start_copied : slots_copied union union.pairs.targets (half_of union) ≡ []
   start_copied = none_copied union union.pairs.targets (half_of union) (λ slot within got.
@@ -130,10 +130,10 @@ module _ (union : Union) (sound : IsUnion union) where
       far = elim (ltb (from_in union slot) 64) as (λ b. ltb (from_in union slot) 64 ≡ b → 64 ≤ from_in union slot) [
         | true ↦ λ is. elim (ltb slot (half_of union)) as (λ b. ltb slot (half_of union) ≡ b → 64 ≤ from_in union slot) [
           | true ↦ λ within.
-              let clear = (gets_parts union.own (head_word union 1) union.layout.slots slot (gets_name slot (ltb-true _ _ within) (ltb-true _ _ is))).0 in
+              let clear = (gets_parts union.own (head_word union bitmap_offset) union.layout.slots slot (gets_name slot (ltb-true _ _ within) (ltb-true _ _ is))).0 in
               absurd (omega arith)
           | false ↦ λ beyond.
-              let none = ap (λ (p : Pairs). slice_index p.from slot) sound.pairs ∙ from_beyond union.own (head_word union 1) union.layout.slots slot (ltb-false _ _ beyond) small in
+              let none = ap (λ (p : Pairs). slice_index p.from slot) sound.pairs ∙ from_beyond union.own (head_word union bitmap_offset) union.layout.slots slot (ltb-false _ _ beyond) small in
               omega arith
         ] refl
         | false ↦ λ is. ltb-false _ _ is

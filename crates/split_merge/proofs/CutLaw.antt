@@ -10,9 +10,10 @@ use Rattle.std.proofs.Math.Pow.{pow-lt}
 use Rattle.cat_key.specs.Names.{IsName, AreNameWords, words_of, bytes_of, fingerprint_of}
 use Rattle.cat_key.proofs.Packing.{bytes_of-words_of}
 use Rattle.cat_history.specs.Maps.{Map, at}
+use Rattle.pm_words.specs.Offsets.{bitmap_offset, next_offset, print_offset, slot_offset}
 use Rattle.data_node.specs.Slots.{AreAllLive, IsLive, prints_of}
-use Rattle.data_node.specs.Spots.{Spot, Means, Finds, updated, bitmap_offset, slot_offset, print_offset, IsLiveIn, name_words, value_in, print_in_spot}
-use Rattle.data_node.specs.Lists.{key_of, anchor_in, three_words, next_offset, StaysIn, anchor_words}
+use Rattle.data_node.specs.Spots.{Spot, Means, Finds, updated, IsLiveIn, name_words, value_in, print_in_spot}
+use Rattle.data_node.specs.Lists.{key_of, anchor_in, three_words, StaysIn, anchor_words}
 use Rattle.data_node.specs.Weights.{has_name_in, names_in}
 use Rattle.data_node.specs.Orders.{comes_before}
 use Rattle.data_node.proofs.SpotLemmas.{at_found, updated-same, updated-other}

@@ -1,9 +1,9 @@
 -- A split knows that its node is full until that leads to the fresh one.
 use Rattle.std.proofs.Common.{ℕ, ◌≤◌, ◌*◌, ◌+◌, true, false, cond, List, ◌∷◌}
 use Rattle.version_lock.specs.Versions.{is_free_word, is_worn_word}
+use Rattle.pm_words.specs.Offsets.{bitmap_offset, next_offset}
 use Rattle.data_node.specs.Slots.{AreAllLive}
-use Rattle.data_node.specs.Spots.{Spot, bitmap_offset}
-use Rattle.data_node.specs.Lists.{next_offset}
+use Rattle.data_node.specs.Spots.{Spot}
 use Rattle.call_stages.specs.Stages.{Held, Tells, Holds, Eyes}
 use Rattle.pm_alloc.specs.declared.claim.ClaimAt.{ClaimAt}
 use Rattle.pm_alloc.specs.declared.claim.ClaimAt.TheVariants as claim_at

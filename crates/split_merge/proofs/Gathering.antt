@@ -5,7 +5,8 @@ use Rattle.std.specs.Int.{bit_at}
 use Rattle.std.proofs.lemmas.Bool.{cases_eq}
 use Rattle.cat_key.specs.Names.{IsName, AreNameWords, words_of, bytes_of, fingerprint_of}
 use Rattle.cat_history.specs.Maps.{Map, at}
-use Rattle.data_node.specs.Spots.{Spot, Means, Finds, IsTidy, bitmap_offset, IsLiveIn, name_words, value_in, print_in_spot}
+use Rattle.pm_words.specs.Offsets.{bitmap_offset}
+use Rattle.data_node.specs.Spots.{Spot, Means, Finds, IsTidy, IsLiveIn, name_words, value_in, print_in_spot}
 use Rattle.data_node.specs.Lists.{StaysIn}
 use Rattle.data_node.specs.Weights.{names_in}
 use Rattle.data_node.proofs.NameCounts.{same_names}

@@ -9,9 +9,10 @@ use Rattle.std.proofs.lemmas.Bool.{cases_eq}
 use Rattle.std.proofs.lemmas.Cmp.{ranked}
 use Rattle.std.proofs.lemmas.List.FromFn.{get_or-map-range_with_len}
 use Rattle.std.proofs.lemmas.Nat.Bits.{bit_at-zero}
+use Rattle.pm_words.specs.Offsets.{slot_offset}
 use Rattle.data_node.specs.Slots.{IsLive}
 use Rattle.data_node.specs.Bits.{with_live}
-use Rattle.data_node.specs.Spots.{slot_offset, name_words}
+use Rattle.data_node.specs.Spots.{name_words}
 use Rattle.data_node.specs.Lists.{three_words}
 use Rattle.data_node.specs.Orders.{words_in, comes_before}
 use Rattle.data_node.proofs.BitLemmas.{with_live-same, with_live-other, with_live_below}

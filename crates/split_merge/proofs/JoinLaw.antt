@@ -15,10 +15,11 @@ use Rattle.pm_words.specs.declared.fence.FenceAt.{FenceAt}
 use Rattle.pm_words.specs.declared.fence.FenceAt.TheVariants as fence_at
 use Rattle.pm_words.specs.Fences.{IsFence, IsFenceAt, fence_start, fence_asks, fence_at_asks, fence_next, fence_at_next}
 use Rattle.pm_words.specs.Codes.{open_state}
+use Rattle.pm_words.specs.Offsets.{bitmap_offset, next_offset, anchor_offset, slot_offset}
 use Rattle.data_node.specs.Bits.{without_live}
 use Rattle.data_node.specs.Slots.{IsClear}
-use Rattle.data_node.specs.Spots.{Spot, updated, bitmap_offset, slot_offset}
-use Rattle.data_node.specs.Lists.{three_words, next_offset, anchor_in}
+use Rattle.data_node.specs.Spots.{Spot, updated}
+use Rattle.data_node.specs.Lists.{three_words, anchor_in}
 use Rattle.data_node.proofs.SpotLemmas.{updated-same}
 use Rattle.data_node.proofs.StoreLemmas.{means_slot_store}
 use Rattle.call_stages.specs.declared.once.Once.{Once}
@@ -217,7 +218,7 @@ module _ (join : Join) (sound : IsJoin join) (g : ℕ) (h : Held) (answer : Once
       let near = all_past (λ (w : ℕ × ℕ). IsAmong (copy_dirty union left word) w.0 ⊎ (s w.0 ≡ w.1)) (prints_now union 0) 8 (own_prints union) (near_seen union.own union.right) durable in
       let own : s bitmap_offset ≡ union.own = ⊎_elim (λ among. absurd (low_clean left word bitmap_offset (omega arith) among)) (λ is. is) near.0 in
       means_slot_store l.slots range s m (lowest left) word value slots.1 small
-      (subst (λ b. IsClear b (lowest left)) (sym own) (gets_parts union.own (head_word union 1) l.slots (lowest left) first.target.does).0) means))
+      (subst (λ b. IsClear b (lowest left)) (sym own) (gets_parts union.own (head_word union bitmap_offset) l.slots (lowest left) first.target.does).0) means))
 
   within_slots : (left word : ℕ) → IsLeft union left → word < 4 → IsAmong (slots_dirty union) (slot_offset (lowest left) word)
   within_slots left word is small = let within = (first_left union left sound.union is).target.within in inl (omega arith, omega arith)
@@ -294,7 +295,7 @@ module _ (join : Join) (sound : IsJoin join) (g : ℕ) (h : Held) (answer : Once
       (λ range s m durable means.
       let P : ℕ × ℕ → Type 0 = λ w. IsAmong ((8, word) ∷ slots_dirty union) w.0 ⊎ (s w.0 ≡ w.1) in
       let near = all_past P (prints_now union word) 8 (own_prints union) (near_seen union.own union.right) durable in
-      let own : s bitmap_offset ≡ union.own = ⊎_elim (λ among. absurd (clear among 1 (omega arith) (λ is within. let a = within.0 in omega arith) refl)) (λ is. is) near.0 in
+      let own : s bitmap_offset ≡ union.own = ⊎_elim (λ among. absurd (clear among bitmap_offset (omega arith) (λ is within. let a = within.0 in omega arith) refl)) (λ is. is) near.0 in
       let print : s (8 + word) ≡ prints_now union word (8 + word) =
       ⊎_elim (λ among. absurd (clear among (8 + word) (omega arith) (λ is within. let b = within.1 in omega arith) refl)) (λ is. is) (all_at P (prints_now union word) 8 (own_prints union) (near_seen union.own union.right) durable word inside) in
       print_means union sound.union range s m word (omega arith) own (print ∙ print_before union sound.union word) means))
@@ -467,7 +468,7 @@ module _ (join : Join) (sound : IsJoin join) (g : ℕ) (h : Held) (answer : Once
       let first = word 2 (omega arith) in
       let second = word 3 (omega arith) in
       let third = word 4 (omega arith) in
-      let same = anchor_same (head_word union 3) (head_word union 4) (head_word union 5) (subst (λ (words : List ℕ). AreNameWords words) (λ k. first k ∷ second k ∷ third k ∷ []) named) in
+      let same = anchor_same (head_word union anchor_offset) (head_word union (anchor_offset + 1)) (head_word union (anchor_offset + 2)) (subst (λ (words : List ℕ). AreNameWords words) (λ k. first k ∷ second k ∷ third k ∷ []) named) in
       λ k. three_words ((line.1.1.1.1.0 ∙ (λ i. slice_index (same i) 0) ∙ sym first) k) ((line.1.1.1.0 ∙ (λ i. slice_index (same i) 1) ∙ sym second) k)
       ((line.1.1.0 ∙ (λ i. slice_index (same i) 2) ∙ sym third) k)
 

@@ -2,6 +2,7 @@
 use Rattle.std.proofs.Common.{◌≡◌, ℕ, ◌<◌, ◌≤◌, subst, ap, ◌∙◌, slice_index, true, arith}
 use Rattle.std.proofs.lemmas.Nat.Bits.{bit_at-trailing_zeros}
 use Rattle.std.specs.Int.{w64}
+use Rattle.pm_words.specs.Offsets.{bitmap_offset}
 use Rattle.data_node.specs.Slots.{IsLive, IsClear}
 use Rattle.split_merge.specs.declared.uniting.Union.{Union}
 use Rattle.split_merge.specs.declared.pairing.Pairs.{Pairs}
@@ -13,16 +14,16 @@ use Rattle.split_merge.proofs.PairLemmas.{target_is, low}
 -- a slot that gets a name: one of the first half, and whose it is
 pub record IsTarget (union : Union) (slot : ℕ) : Type 0 where
   pub within : slot < half_of union
-  pub does : gets_at union.own (head_word union 1) union.layout.slots slot ≡ true
-  pub from : from_in union slot ≡ low union.own (head_word union 1) union.layout.slots slot
+  pub does : gets_at union.own (head_word union bitmap_offset) union.layout.slots slot ≡ true
+  pub from : from_in union slot ≡ low union.own (head_word union bitmap_offset) union.layout.slots slot
   pub source : from_in union slot < union.layout.slots
 
 pub target : (union : Union) → IsUnion union → (slot : ℕ) → IsLive union.pairs.targets slot → IsTarget union slot
 target union sound slot live =
     let few : union.layout.slots ≤ 64 = sound.layout.slots.1 in
     let made = sound.pairs in
-    let is = target_is union.own (head_word union 1) union.layout.slots few slot (subst (λ (p : Pairs). IsLive p.targets slot) made live) in
-    let from : from_in union slot ≡ low union.own (head_word union 1) union.layout.slots slot = ap (λ (p : Pairs). slice_index p.from slot) made ∙ is.2 in
+    let is = target_is union.own (head_word union bitmap_offset) union.layout.slots few slot (subst (λ (p : Pairs). IsLive p.targets slot) made live) in
+    let from : from_in union slot ≡ low union.own (head_word union bitmap_offset) union.layout.slots slot = ap (λ (p : Pairs). slice_index p.from slot) made ∙ is.2 in
     record { within = is.0; does = is.1; from = from; source = (let small = is.3 in omega arith) }
 
 pub record IsFirst (union : Union) (left : ℕ) : Type 0 where

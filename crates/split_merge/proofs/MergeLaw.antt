@@ -7,10 +7,10 @@ use Rattle.pm_words.specs.declared.action.Action.{Action}
 use Rattle.pm_words.specs.declared.action.Action.TheVariants.{Load}
 use Rattle.pm_words.specs.declared.machine.Turn.{Turn}
 use Rattle.pm_words.specs.declared.machine.Turn.TheVariants.{Go, Done}
+use Rattle.pm_words.specs.Offsets.{bitmap_offset, next_offset}
 use Rattle.version_lock.specs.Versions.{generation_of, is_free_word, is_worn_word}
 use Rattle.version_lock.proofs.WordTests.{free_word, fresh_word}
-use Rattle.data_node.specs.Spots.{Spot, bitmap_offset}
-use Rattle.data_node.specs.Lists.{next_offset}
+use Rattle.data_node.specs.Spots.{Spot}
 use Rattle.call_stages.specs.declared.once.Once.{Once}
 use Rattle.call_stages.specs.declared.once.Placed.{Placed}
 use Rattle.call_stages.specs.Stages.{Tells, Held, Gathered, Joined, Stage, Idle, Holds, Eyes, Splits, Meets, Joins, Filling}
@@ -84,7 +84,7 @@ module _ (merge : Merge) (sound : IsMerge merge) (h : Held) (may : MayJoin h) (a
   at_bitmap : (x : ℕ) → Leads (footing at.Bitmap) (merge_at_asks merge at.Bitmap) x (merges_on merge (at.Next x))
   at_bitmap x =
       subst (λ (k : Held). Steps (Holds n w h) (Load (word_address l n bitmap_offset)) x (Holds n w k)) same
-      (on_nodes tt (inl refl) (looks (learns (has_word 1 (omega arith)) (omega arith) may.still.ready (λ s tidy knows is. record { seen = (is, tt); left = tt })))
+      (on_nodes tt (inl refl) (looks (learns (has_word bitmap_offset (omega arith)) (omega arith) may.still.ready (λ s tidy knows is. record { seen = (is, tt); left = tt })))
       (held_far n w h (Holds n w (record h { known = record { seen = (bitmap_offset, x) ∷ []; left = None } }))))
     where
       same : record h { known = record { seen = (bitmap_offset, x) ∷ []; left = None } } ≡ knowing ((bitmap_offset, x) ∷ []) [] None h
@@ -101,7 +101,7 @@ module _ (merge : Merge) (sound : IsMerge merge) (h : Held) (may : MayJoin h) (a
       near = record { own = own; right = x }
 
       step : Steps (Holds n w (knowing ((bitmap_offset, own) ∷ []) [] None h)) (Load (word_address l n next_offset)) x (Holds n w (knows_near near h))
-      step = on_nodes tt (inl refl) (looks (learns (has_word 2 (omega arith)) (omega arith) may.still.ready (λ s tidy knows is. record { seen = (knows.seen.0, (is, tt)); left = tt })))
+      step = on_nodes tt (inl refl) (looks (learns (has_word next_offset (omega arith)) (omega arith) may.still.ready (λ s tidy knows is. record { seen = (knows.seen.0, (is, tt)); left = tt })))
           (held_far n w (knowing ((bitmap_offset, own) ∷ []) [] None h) (Holds n w (knows_near near h)))
 
   still : (near : Near) → IsStill (knows_near near h)

@@ -5,6 +5,7 @@ use Rattle.std.proofs.lemmas.List.{length-replicate, get_or-set_same, get_or-set
 use Rattle.pm_words.specs.declared.layout.Layout.{Layout}
 use Rattle.pm_words.specs.declared.machine.Turn.{Turn}
 use Rattle.pm_words.specs.declared.machine.Turn.TheVariants.{Go, Done}
+use Rattle.pm_words.specs.Offsets.{next_offset}
 use Rattle.version_lock.specs.Versions.{generation_of, is_free_word, is_worn_word}
 use Rattle.version_lock.proofs.WordTests.{free_word, fresh_word}
 use Rattle.index_law.proofs.Versions.{own_lock, lock_fits}
@@ -61,7 +62,7 @@ module _ (merge : Merge) (sound : IsMerge merge) where
   first_head near = record {
     words = fresh_words 16;
     few = λ more. absurd (omega arith);
-    behind = (let none = no_words 16 2 in let some = sound.view.layout.nodes.0 in omega arith);
+    behind = (let none = no_words 16 next_offset in let some = sound.view.layout.nodes.0 in omega arith);
   }
 
   pub found_here : (near : Near) (version locked : ℕ) → IsNear view near → near.right ≢ 0 → Locks view.generation version locked → IsBeside view near locked

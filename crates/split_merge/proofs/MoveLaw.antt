@@ -8,10 +8,9 @@ use Rattle.pm_words.specs.declared.layout.Layout.{Layout}
 use Rattle.pm_words.specs.declared.action.Action.{Action}
 use Rattle.pm_words.specs.declared.machine.Turn.{Turn}
 use Rattle.pm_words.specs.declared.machine.Turn.TheVariants.{Go, Done}
-use Rattle.data_node.specs.Spots.{Spot, updated, bitmap_offset}
-use Rattle.data_node.specs.Lists.{three_words, next_offset, anchor_in, anchor_offset, anchor_words}
+use Rattle.data_node.specs.Spots.{Spot, updated}
+use Rattle.data_node.specs.Lists.{three_words, anchor_in, anchor_words}
 use Rattle.data_node.proofs.SpotLemmas.{updated-same, updated-other}
-use Rattle.data_node.specs.Lines.{state_offset, kind_offset}
 use Rattle.call_stages.specs.Stages.{Tells, Grip, Phase, Filling, Linked, Parted, Stage, Idle, Splits, Leaves, Joins, Gathered, Joined, Gone}
 use Rattle.call_stages.specs.Kinds.{HasWordAt, Soils, Cleans, word_address, Step, splits, publishes, leaves, fills as fills_word, lights, switches, glances_left, glances_fresh, drains_left, drains_fresh, trims}
 use Rattle.call_stages.specs.Lines.{HeldLine, Notes}
@@ -31,6 +30,7 @@ use Rattle.smo_log.specs.declared.line.Entry.{Entry}
 use Rattle.smo_log.specs.declared.state.Ready.{Ready}
 use Rattle.pm_words.specs.Fences.{IsFence, IsFenceAt, fence_start, fence_asks, fence_at_asks, fence_next, fence_at_next}
 use Rattle.pm_words.specs.Codes.{open_state, split_kind, merge_kind}
+use Rattle.pm_words.specs.Offsets.{bitmap_offset, next_offset, anchor_offset, state_offset, kind_offset}
 use Rattle.smo_log.specs.LogLines.{caller_of, index_of, fields, open_line, ready_line}
 use Rattle.smo_log.specs.Opens.{IsOpen, open_asks, open_turned, open_at_held, open_held, OpenNotes}
 use Rattle.smo_log.specs.States.{IsReady, ready_asks, ready_turned, ready_at_held, ready_held, ReadyNotes}
@@ -242,9 +242,9 @@ module _ (move : Move) (sound : IsMove move) (g : ℕ) (known : Known) (cuts : C
   apart_prints : (offset : ℕ) → offset < 8 → Apart offset (prints_seen plan (print_count plan))
   apart_prints offset small = apart_onto (plan_word plan) offset 8 (print_count plan) (slots_seen plan (slot_count plan)) (λ k low. λ z. omega arith) (apart_onto (plan_word plan) offset 16 (slot_count plan) [] (λ k low. λ z. omega arith) tt)
 
-  at_bitmap : (x : ℕ) → Leads_to (footing at.Bitmap) (fills plan 1) x (moves_on move (at.Anchor 0))
-  at_bitmap x = on (footing at.Bitmap) (fills plan 1) x (at.Anchor 0)
-      (on_nodes tt (inl refl) (fill bitmap_offset x (prints_seen plan (print_count plan)) (anchor_seen plan 0) ((0, filled_end plan) ∷ []) ((0, filled_end plan) ∷ []) (omega arith) (omega arith) (soils_more 1 (omega arith))
+  at_bitmap : (x : ℕ) → Leads_to (footing at.Bitmap) (fills plan bitmap_offset) x (moves_on move (at.Anchor 0))
+  at_bitmap x = on (footing at.Bitmap) (fills plan bitmap_offset) x (at.Anchor 0)
+      (on_nodes tt (inl refl) (fill bitmap_offset x (prints_seen plan (print_count plan)) (anchor_seen plan 0) ((0, filled_end plan) ∷ []) ((0, filled_end plan) ∷ []) (omega arith) (omega arith) (soils_more bitmap_offset (omega arith))
       (λ t told. (updated-same t bitmap_offset (plan_word plan bitmap_offset), tells_apart bitmap_offset (plan_word plan bitmap_offset) (prints_seen plan (print_count plan)) t (apart_prints bitmap_offset (omega arith)) told)))
       (deals_filling (prints_seen plan (print_count plan)) (anchor_seen plan 0) ((0, filled_end plan) ∷ []) ((0, filled_end plan) ∷ []))) (omega arith)
 
@@ -275,11 +275,11 @@ module _ (move : Move) (sound : IsMove move) (g : ℕ) (known : Known) (cuts : C
   next_told t told = (
     updated-same t next_offset (plan_word plan next_offset),
     tells_apart next_offset (plan_word plan next_offset) (anchor_seen plan 3) t
-        (apart_onto (plan_word plan) next_offset anchor_offset 3 ((bitmap_offset, plan_word plan bitmap_offset) ∷ prints_seen plan (print_count plan)) (λ k low. λ z. omega arith) (λ z. omega arith, apart_prints 2 (omega arith))) told,
+        (apart_onto (plan_word plan) next_offset anchor_offset 3 ((bitmap_offset, plan_word plan bitmap_offset) ∷ prints_seen plan (print_count plan)) (λ k low. λ z. omega arith) (λ z. omega arith, apart_prints next_offset (omega arith))) told,
   )
 
-  at_next : (x : ℕ) → Leads_to (footing at.Next) (fills plan 2) x (moves_on move (at.FenceFresh 0 fence_start))
-  at_next x = on (footing at.Next) (fills plan 2) x (at.FenceFresh 0 fence_start)
+  at_next : (x : ℕ) → Leads_to (footing at.Next) (fills plan next_offset) x (moves_on move (at.FenceFresh 0 fence_start))
+  at_next x = on (footing at.Next) (fills plan next_offset) x (at.FenceFresh 0 fence_start)
       (on_nodes tt (inl refl) (fill next_offset x (anchor_seen plan 3) (fresh_seen plan) ((0, filled_end plan) ∷ []) ((0, filled_end plan - 0) ∷ []) (omega arith) (omega arith)
       (record {
         stored = inl (omega arith, omega arith);

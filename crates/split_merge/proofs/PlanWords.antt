@@ -10,9 +10,10 @@ use Rattle.std.proofs.Math.Pow.{pow-lt}
 use Rattle.cat_key.specs.Names.{IsName, IsNameByte, AreNameWords, words_of}
 use Rattle.cat_key.specs.Names as names
 use Rattle.std.proofs.lemmas.List.Elements.{All-nil, All-cons}
+use Rattle.pm_words.specs.Offsets.{bitmap_offset, next_offset, slot_offset}
 use Rattle.data_node.specs.Slots.{prints_of}
-use Rattle.data_node.specs.Spots.{slot_offset, print_in_spot, bitmap_offset}
-use Rattle.data_node.specs.Lists.{next_offset, anchor_words}
+use Rattle.data_node.specs.Spots.{print_in_spot}
+use Rattle.data_node.specs.Lists.{anchor_words}
 use Rattle.data_list.specs.Keys.{IsNameOf, name_kept}
 use Rattle.data_list.proofs.KeyLemmas.{name_kept_so}
 use Rattle.split_merge.specs.declared.planning.Plan.{Plan}

@@ -9,10 +9,10 @@ use Rattle.pm_words.specs.declared.again.Again.{Again}
 use Rattle.pm_words.specs.declared.again.Again.TheVariants as again
 use Rattle.pm_words.specs.declared.machine.Turn.{Turn}
 use Rattle.pm_words.specs.declared.machine.Turn.TheVariants.{Go, Done}
+use Rattle.pm_words.specs.Offsets.{next_offset}
 use Rattle.version_lock.specs.Versions.{is_free_word, is_worn_word}
 use Rattle.data_node.specs.Slots.{AreAllLive}
 use Rattle.data_node.specs.Spots.{Spot}
-use Rattle.data_node.specs.Lists.{next_offset}
 use Rattle.call_stages.specs.declared.once.Once.{Once}
 use Rattle.call_stages.specs.declared.once.Once.TheVariants as once
 use Rattle.call_stages.specs.declared.once.Placed.{Placed}
@@ -191,7 +191,7 @@ module _ (split : Split) (sound : IsSplit split) (h : Held) (may : MayBegin spli
   at_next : (x : ℕ) → Leads (footing at.Next) (split_at_asks split at.Next) x (split_at_turned split at.Next x)
   at_next x =
       on_nodes tt (inl refl)
-      (looks (learns (has_word 2 (omega arith)) (omega arith) may.claim.still.ready (λ s tidy knows is. record { seen = (is, knows.seen); left = knows.left })))
+      (looks (learns (has_word next_offset (omega arith)) (omega arith) may.claim.still.ready (λ s tidy knows is. record { seen = (is, knows.seen); left = knows.left })))
       (deals_far (Holds n w h) (Holds n w (led x h)) (holds_far n w h))
 
   at_take : (next : ℕ) (take : Take) (x : ℕ) → IsTake take → take.layout ≡ l → take.caller ≡ c → x < 2 ^ 64
@@ -285,9 +285,9 @@ module _ (split : Split) (sound : IsSplit split) (h : Held) (may : MayBegin spli
       tells s told is =
           let rest = told_past (spot_of full) 8 count ((next_offset, spot_of full next_offset) ∷ h.known.seen) s told in (
             is (omega arith) ∙ sym value,
-            tells_row (spot_of (slice_set full (8 + count) x)) 8 count ((next_offset, spot_of (slice_set full (8 + count) x) 2) ∷ h.known.seen) s
+            tells_row (spot_of (slice_set full (8 + count) x)) 8 count ((next_offset, spot_of (slice_set full (8 + count) x) next_offset) ∷ h.known.seen) s
                 (λ k within. told_at (spot_of full) 8 count ((next_offset, spot_of full next_offset) ∷ h.known.seen) s told k within ∙ sym (others (8 + k) (λ e. omega arith)))
-                (rest.0 ∙ sym (others 2 (λ e. omega arith)), rest.1),
+                (rest.0 ∙ sym (others next_offset (λ e. omega arith)), rest.1),
           )
 
       step : Steps (footing (at.Read share full count)) (split_at_asks split (at.Read share full count)) x (footing (at.Read share (slice_set full (8 + count) x) (suc count))) None

@@ -10,9 +10,9 @@ use Rattle.pm_words.specs.declared.again.Again.TheVariants.{Locked, Moved}
 use Rattle.pm_words.specs.declared.machine.Turn.{Turn}
 use Rattle.pm_words.specs.declared.machine.Turn.TheVariants.{Go, Done}
 use Rattle.pm_words.specs.Layouts.{IsLayout}
+use Rattle.pm_words.specs.Offsets.{next_offset, slot_offset}
 use Rattle.version_lock.specs.declared.TheConstants.{GENERATION_LIMIT}
 use Rattle.version_lock.specs.Versions.{is_free_word, is_worn_word}
-use Rattle.data_node.specs.Spots.{slot_offset}
 use Rattle.call_stages.specs.Kinds.{IsRefusal, Told}
 use Rattle.index_law.proofs.Versions.{own_lock, lock_fits}
 use Rattle.pm_alloc.specs.declared.claim.Claim.{Claim}
@@ -62,7 +62,7 @@ zeros (suc n) zero = omega arith
 zeros (suc n) (suc k) = zeros n k
 
 pub first_words : (next : ℕ) → next < 2 ^ 64 → AreWords (full_from next)
-first_words next fits = read_words (replicate 272 0) 2 next (record { size = length-replicate {A = ℕ} 272 0; fits = zeros 272 }) (omega arith) fits
+first_words next fits = read_words (replicate 272 0) next_offset next (record { size = length-replicate {A = ℕ} 272 0; fits = zeros 272 }) (omega arith) fits
 
 pub first_next : (next : ℕ) → slice_index (full_from next) 2 ≡ next
 first_next next = let size = length-replicate {A = ℕ} 272 0 in get_or-set_same (replicate 272 0) 2 next 0 (omega arith)

@@ -6,9 +6,10 @@ use Rattle.std.proofs.lemmas.Bool.{cases_eq, lt-ltb, ltb-true, ltb-false}
 use Rattle.std.proofs.lemmas.Nat.{le_bytes_8}
 use Rattle.cat_key.specs.Names.{bytes_of, fingerprint_of}
 use Rattle.cat_history.specs.Maps.{Map}
+use Rattle.pm_words.specs.Offsets.{bitmap_offset, slot_offset}
 use Rattle.data_node.specs.Bits.{live_count}
 use Rattle.data_node.specs.Slots.{IsLive, prints_of}
-use Rattle.data_node.specs.Spots.{Spot, Means, updated, bitmap_offset, slot_offset, IsLiveIn, print_in_spot}
+use Rattle.data_node.specs.Spots.{Spot, Means, updated, IsLiveIn, print_in_spot}
 use Rattle.data_node.specs.Lists.{StaysIn}
 use Rattle.data_node.specs.Weights.{names_in, has_name_in}
 use Rattle.data_node.proofs.SpotLemmas.{updated-same, updated-other}
@@ -36,7 +37,7 @@ names_live (suc n) s =
 -- What the party knows of the words s of the left node and t of the right one as it stores the bitmap.
 pub record AreGathered (union : Union) (s t : Spot) : Type 0 where
   pub own : s bitmap_offset ≡ union.own
-  pub right : t bitmap_offset ≡ head_word union 1
+  pub right : t bitmap_offset ≡ head_word union bitmap_offset
   pub head : (offset : ℕ) → 8 ≤ offset → offset < 16 → t offset ≡ head_word union offset
   pub prints : (slot : ℕ) → slot < half_of union → from_in union slot < 64 → s (8 + slot / 8) ≡ joined_prints union (slot / 8)
   pub copied : (slot k : ℕ) → slot < half_of union → from_in union slot < 64 → k < 4 → s (slot_offset slot k) ≡ t (slot_offset (from_in union slot) k)
@@ -49,7 +50,7 @@ module _ (union : Union) (sound : IsUnion union) where
   own = union.own
 
   abbrev right : ℕ
-  right = head_word union 1
+  right = head_word union bitmap_offset
 
   few : slots ≤ 64
   few = sound.layout.slots.1
@@ -144,7 +145,7 @@ module _ (union : Union) (sound : IsUnion union) where
 
     module _ (range other : List ℕ → Bool) (m : Map) (means : Means slots range s m) (means_right : Means slots other t m) where
       right_fits : right < 2 ^ 64
-      right_fits = sound.head 1
+      right_fits = sound.head bitmap_offset
 
       live_right : (slot : ℕ) → does own right slots slot → IsLiveIn t (low own right slots slot)
       live_right slot is =

@@ -4,8 +4,7 @@ use Rattle.std.specs.Prelude.{Option, Some, None}
 use Rattle.std.specs.Prelude.{slice_index}
 use Rattle.std.specs.Int.{bit_at}
 use Rattle.pm_words.specs.Fences.{hand_of}
-use Rattle.data_node.specs.Spots.{slot_offset, bitmap_offset}
-use Rattle.data_node.specs.Lists.{next_offset}
+use Rattle.pm_words.specs.Offsets.{bitmap_offset, next_offset, slot_offset}
 use Rattle.call_stages.specs.Stages.{Held, Grip, Pace, Gathered, Joined, Gone, Stage, Holds, Meets, Joins, left_grip}
 use Rattle.call_stages.specs.Stages.{merged_held}
 use Rattle.call_stages.specs.Lines.{HeldLine}

@@ -9,10 +9,9 @@ use Rattle.pm_words.specs.declared.machine.Turn.{Turn}
 use Rattle.pm_words.specs.declared.machine.Turn.TheVariants.{Go, Done}
 use Rattle.pm_words.specs.declared.fence.Fence.{Fence}
 use Rattle.pm_words.specs.Fences.{fence_start, IsFence, fence_asks, fence_next, fence_left}
+use Rattle.pm_words.specs.Offsets.{bitmap_offset, next_offset, slot_offset}
 use Rattle.data_node.specs.Bits.{without_live, live_count}
 use Rattle.data_node.specs.Slots.{IsLive}
-use Rattle.data_node.specs.Spots.{slot_offset, bitmap_offset}
-use Rattle.data_node.specs.Lists.{next_offset}
 use Rattle.call_stages.specs.Kinds.{word_address, version_address, status_address, prev_address}
 use Rattle.smo_log.specs.declared.open.Open.{Open}
 use Rattle.smo_log.specs.declared.state.Ready.{Ready}

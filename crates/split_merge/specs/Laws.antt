@@ -4,9 +4,10 @@ use Rattle.pm_words.specs.declared.action.Action.{Action}
 use Rattle.pm_words.specs.declared.again.Again.TheVariants as again
 use Rattle.pm_words.specs.declared.machine.Turn.{Turn}
 use Rattle.pm_words.specs.declared.machine.Turn.TheVariants.{Go, Done}
+use Rattle.pm_words.specs.Offsets.{bitmap_offset, next_offset}
 use Rattle.cat_history.specs.Maps.{Map}
-use Rattle.data_node.specs.Spots.{Spot, Means, updated, bitmap_offset}
-use Rattle.data_node.specs.Lists.{next_offset, StaysIn}
+use Rattle.data_node.specs.Spots.{Spot, Means, updated}
+use Rattle.data_node.specs.Lists.{StaysIn}
 use Rattle.call_stages.specs.declared.once.Once.TheVariants as once
 use Rattle.call_stages.specs.Stages.{Tells, Idle}
 use Rattle.call_stages.specs.Kinds.{below_key, IsCut}

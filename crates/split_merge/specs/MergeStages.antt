@@ -1,6 +1,6 @@
 -- What a party relies on that merges the right neighbour of its node into that.
 use Rattle.std.specs.Prelude.{ℕ, ◌-◌, false, List, [], ◌∷◌, slice_index, Some, None}
-use Rattle.data_node.specs.Spots.{bitmap_offset}
+use Rattle.pm_words.specs.Offsets.{bitmap_offset}
 use Rattle.call_stages.specs.Stages.{Held, Grip, Stage, Holds, Eyes, Meets}
 use Rattle.call_stages.specs.Prevs.{no_debt}
 use Rattle.call_stages.specs.Footings.{Footing}

@@ -5,10 +5,9 @@ use Rattle.pm_words.specs.declared.action.Action.{Action}
 use Rattle.pm_words.specs.declared.action.Action.TheVariants.{Load, Store, Exchange}
 use Rattle.pm_words.specs.declared.machine.Turn.{Turn}
 use Rattle.pm_words.specs.declared.machine.Turn.TheVariants.{Go, Done}
+use Rattle.pm_words.specs.Offsets.{bitmap_offset, next_offset}
 use Rattle.version_lock.specs.Versions.{IsLockWord, is_free_word, is_worn_word}
 use Rattle.data_node.specs.Bits.{live_count}
-use Rattle.data_node.specs.Spots.{bitmap_offset}
-use Rattle.data_node.specs.Lists.{next_offset}
 use Rattle.call_stages.specs.declared.view.View.{View}
 use Rattle.call_stages.specs.Views.{IsView}
 use Rattle.call_stages.specs.Kinds.{word_address, version_address, Told}

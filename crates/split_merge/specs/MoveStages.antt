@@ -1,12 +1,12 @@
 -- What a party relies on that moves the upper half of a full node.
 use Rattle.std.specs.Prelude.{ℕ, zero, suc, ◌+◌, ◌-◌, Bool, true, false, List, [], ◌∷◌}
 use Rattle.std.specs.Prelude.{Option, Some, None}
-use Rattle.data_node.specs.Lists.{next_offset, anchor_offset, number_of, anchor_words}
-use Rattle.data_node.specs.Spots.{bitmap_offset}
+use Rattle.data_node.specs.Lists.{number_of, anchor_words}
 use Rattle.call_stages.specs.Stages.{Grip, Phase, Filling, Linked, Parted, Stage, Splits, Leaves}
 use Rattle.call_stages.specs.Lines.{HeldLine}
 use Rattle.call_stages.specs.Prevs.{Debt, no_debt}
 use Rattle.pm_words.specs.Fences.{hand_of}
+use Rattle.pm_words.specs.Offsets.{bitmap_offset, next_offset, anchor_offset}
 use Rattle.smo_log.specs.LogLines.{empty_line, open_line, ready_line}
 use Rattle.smo_log.specs.Opens.{open_held}
 use Rattle.smo_log.specs.States.{ready_held}

@@ -11,8 +11,7 @@ use Rattle.pm_words.specs.declared.fence.Fence.{Fence}
 use Rattle.smo_log.specs.declared.open.Open.{Open}
 use Rattle.smo_log.specs.declared.state.Ready.{Ready}
 use Rattle.pm_words.specs.Fences.{fence_start, IsFence, fence_asks, fence_next, fence_left}
-use Rattle.data_node.specs.Spots.{bitmap_offset}
-use Rattle.data_node.specs.Lists.{next_offset}
+use Rattle.pm_words.specs.Offsets.{bitmap_offset, next_offset}
 use Rattle.smo_log.specs.Opens.{IsOpen, open_from, open_asks, open_turned, open_left}
 use Rattle.smo_log.specs.States.{IsReady, ready_from, ready_asks, ready_turned, ready_left}
 use Rattle.split_merge.specs.declared.planning.Plan.{Plan}
@@ -67,9 +66,9 @@ after_trim plan None = at.Ready (ready_from plan.layout plan.line)
 abbrev pub move_at_asks : Plan → MoveAt → Action
 move_at_asks plan (at.Slot word) = fills plan (16 + word)
 move_at_asks plan (at.Print word) = fills plan (8 + word)
-move_at_asks plan at.Bitmap = fills plan 1
+move_at_asks plan at.Bitmap = fills plan bitmap_offset
 move_at_asks plan (at.Anchor word) = fills plan (3 + word)
-move_at_asks plan at.Next = fills plan 2
+move_at_asks plan at.Next = fills plan next_offset
 move_at_asks plan (at.FenceFresh first fence) =
     fence_asks (word_address plan.layout plan.fresh (first + fence.word)) fence
 move_at_asks plan (at.Open machine) = open_asks machine

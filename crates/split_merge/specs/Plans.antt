@@ -5,11 +5,12 @@ use Rattle.std.specs.Int.{w64, from_le_bytes}
 use Rattle.std.specs.List.{range_with_len}
 use Rattle.pm_words.specs.Layouts.{IsLayout}
 use Rattle.pm_words.specs.Codes.{split_kind}
+use Rattle.pm_words.specs.Offsets.{next_offset, slot_offset}
 use Rattle.version_lock.specs.Versions.{IsLockWord}
 use Rattle.data_node.specs.Bits.{with_live}
-use Rattle.data_node.specs.Spots.{Spot, slot_offset, print_in_spot, name_words}
+use Rattle.data_node.specs.Spots.{Spot, print_in_spot, name_words}
 use Rattle.data_node.specs.Orders.{comes_before}
-use Rattle.data_node.specs.Lists.{next_offset, anchor_words}
+use Rattle.data_node.specs.Lists.{anchor_words}
 use Rattle.data_list.specs.Keys.{name_kept}
 use Rattle.smo_log.specs.declared.line.Entry.{Entry}
 use Rattle.smo_log.specs.LogLines.{IsEntryOf}

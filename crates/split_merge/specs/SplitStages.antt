@@ -1,7 +1,6 @@
 -- What a party relies on that splits a full node.
 use Rattle.std.specs.Prelude.{ℕ, zero, suc, ◌+◌, ◌*◌, ◌==◌, false, if◌then◌else◌, List, [], ◌∷◌, Option, Some, None}
-use Rattle.data_node.specs.Spots.{bitmap_offset}
-use Rattle.data_node.specs.Lists.{next_offset}
+use Rattle.pm_words.specs.Offsets.{bitmap_offset, next_offset}
 use Rattle.call_stages.specs.Stages.{Held, Grip, Idle, Holds, Splits, Filling, fresh_grip}
 use Rattle.call_stages.specs.Prevs.{no_debt}
 use Rattle.pm_alloc.specs.ClaimStages.{claim_stage}

@@ -6,7 +6,7 @@ use Rattle.pm_words.specs.declared.action.Action.TheVariants.{Load, Store}
 use Rattle.pm_words.specs.declared.again.Again.TheVariants as again
 use Rattle.pm_words.specs.declared.machine.Turn.{Turn}
 use Rattle.pm_words.specs.declared.machine.Turn.TheVariants.{Go, Done}
-use Rattle.data_node.specs.Lists.{next_offset}
+use Rattle.pm_words.specs.Offsets.{next_offset}
 use Rattle.call_stages.specs.Kinds.{word_address, version_address, IsRefusal, Told}
 use Rattle.pm_alloc.specs.declared.claim.Claim.{Claim}
 use Rattle.pm_alloc.specs.declared.claim.Claimed.{Claimed}

@@ -4,6 +4,7 @@ use Rattle.std.specs.Prelude.{length, slice_index}
 use Rattle.std.specs.Int.{w64, from_le_bytes}
 use Rattle.pm_words.specs.Layouts.{IsLayout}
 use Rattle.pm_words.specs.Codes.{merge_kind}
+use Rattle.pm_words.specs.Offsets.{bitmap_offset, next_offset, anchor_offset}
 use Rattle.version_lock.specs.Versions.{IsLockWord}
 use Rattle.data_node.specs.Bits.{live_count}
 use Rattle.data_node.specs.Slots.{prints_of}
@@ -50,14 +51,14 @@ joined_prints union word = from_le_bytes w64 (eight_joined union (8 * word))
 
 -- The node behind the right one; 0 is none.
 abbrev pub behind_in : Union → ℕ
-behind_in union = head_word union 2
+behind_in union = head_word union next_offset
 
 -- What the line is to say.
 abbrev pub entry_in : Union → Entry
 entry_in union = record {
   kind = merge_kind;
   node = union.right;
-  anchor = anchor_of (head_word union 3 ∷ head_word union 4 ∷ head_word union 5 ∷ []);
+  anchor = anchor_of (head_word union anchor_offset ∷ head_word union (anchor_offset + 1) ∷ head_word union (anchor_offset + 2) ∷ []);
   left = union.node;
 }
 
@@ -80,5 +81,5 @@ pub record IsUnion (union : Union) : Type 0 where
   pub head : (offset : ℕ) → head_word union offset < 2 ^ 64
   pub behind : behind_in union < union.layout.nodes
   pub entry : IsEntryOf union.layout (entry_in union)
-  pub few : AreFew union.layout.slots union.own (head_word union 1)
-  pub pairs : union.pairs ≡ pairs_of union.own (head_word union 1) union.layout.slots
+  pub few : AreFew union.layout.slots union.own (head_word union bitmap_offset)
+  pub pairs : union.pairs ≡ pairs_of union.own (head_word union bitmap_offset) union.layout.slots

@@ -1,6 +1,7 @@
 //! What a split is to do, made of the words of the full node.
 
 ghost use Rattle.std.specs.Prelude.{◌≡◌, ◌*◌, ◌<◌, ◌≤◌, [], ◌∷◌};
+ghost use Rattle.pm_words.specs.Offsets.{slot_offset};
 ghost use Rattle.data_node.specs.Orders.{listed};
 ghost use Rattle.data_node.specs.Spots.{name_words};
 ghost use Rattle.split_merge.specs.Plans.{spot_of, entries_of, order_of, moved_of, anchor_of};
@@ -41,7 +42,6 @@ pub struct Plan {
 impl Plan {
     ghost use Rattle.std.specs.Prelude.{◌≡◌, ◌+◌, ◌*◌, ◌/◌, ◌%◌, ◌<◌, ◌≤◌, slice_index};
     ghost use Rattle.std.specs.Int.{w64, from_le_bytes};
-    ghost use Rattle.data_node.specs.Spots.{slot_offset};
     ghost use Rattle.split_merge.specs.Plans.{IsPlan, source_in, eight_prints, plan_print, plan_word, next_in};
     ghost use Rattle.split_merge.specs.Plans.{entry_in};
 

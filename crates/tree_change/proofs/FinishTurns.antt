@@ -10,6 +10,7 @@ use Rattle.pm_words.specs.declared.fence.FenceAt.{FenceAt}
 use Rattle.pm_words.specs.declared.fence.FenceAt.TheVariants as fence_at
 use Rattle.pm_words.specs.Fences.{fence_at_asks, FenceTurn}
 use Rattle.pm_words.specs.Fences as fences
+use Rattle.pm_words.specs.Offsets.{reference_offset}
 use Rattle.pm_words.proofs.Fencing.{fence_turns}
 use Rattle.tree_law.specs.Words.{RootWord}
 use Rattle.tree_change.specs.declared.finish.Target.{Target}
@@ -33,11 +34,11 @@ store_effect l (target.Cell cell offset) y = refl
 
 fence_has : (l : Layout) (p : Target) (word : ℕ) (part : FenceAt) (got : ℕ) → word < 8 → HasEffect l (fence_at_asks (cached_at l (line_image p word)) part) (fence_effect p word part got)
 fence_has l target.Root word fence_at.Load got small = elim (word == 0) as (λ a. (word == 0) ≡ a → HasEffect l (fence_at_asks (cached_at l (line_image target.Root word)) fence_at.Load) (loads (cond a (Some RootWord) None) got)) [
-  | true ↦ λ e. subst (λ k. fence_at_asks (cached_at l (line_image target.Root k)) fence_at.Load ≡ fence_at_asks (cached_at l (line_image target.Root 0)) fence_at.Load) (sym (eqb-true _ _ e)) refl
+  | true ↦ λ e. subst (λ k. fence_at_asks (cached_at l (line_image target.Root k)) fence_at.Load ≡ fence_at_asks (cached_at l (line_image target.Root reference_offset)) fence_at.Load) (sym (eqb-true _ _ e)) refl
   | false ↦ λ e. let some_word = eqb-false _ _ e in glance (omega (arith, some_word)) small
 ] refl
 fence_has l target.Root word (fence_at.Drain y) got small = elim (word == 0) as (λ a. (word == 0) ≡ a → HasEffect l (fence_at_asks (cached_at l (line_image target.Root word)) (fence_at.Drain y)) (drains (cond a (Some RootWord) None) y)) [
-  | true ↦ λ e. subst (λ k. fence_at_asks (cached_at l (line_image target.Root k)) (fence_at.Drain y) ≡ fence_at_asks (cached_at l (line_image target.Root 0)) (fence_at.Drain y)) (sym (eqb-true _ _ e)) refl
+  | true ↦ λ e. subst (λ k. fence_at_asks (cached_at l (line_image target.Root k)) (fence_at.Drain y) ≡ fence_at_asks (cached_at l (line_image target.Root reference_offset)) (fence_at.Drain y)) (sym (eqb-true _ _ e)) refl
   | false ↦ λ e. let some_word = eqb-false _ _ e in drain (omega (arith, some_word)) small
 ] refl
 fence_has l (target.Leaf leaf offset) word fence_at.Load got small = refl

@@ -7,6 +7,7 @@ use Rattle.pm_words.specs.declared.machine.Turn.{Turn}
 use Rattle.pm_words.specs.declared.machine.Turn.TheVariants.{Go, Done}
 use Rattle.pm_words.specs.Turns.{GoesBelow}
 use Rattle.pm_words.specs.Locations.{leaf_count}
+use Rattle.pm_words.specs.Codes.{leaf_kind}
 use Rattle.tree_law.specs.Trees.{Nothing, Leaf, Cell, IsReached}
 use Rattle.tree_law.specs.Words.{kind_of, number_of, reference_of, tree_of, LeafPart, CellPart, part_reference}
 use Rattle.tree_law.specs.Stages.{Marks}
@@ -161,11 +162,11 @@ take_sets m m' kind number mark least most fits here others =
 part_is : (r : ℕ) → 1 ≤ kind_of r → part_reference (part_of (kind_of r) (number_of r)) ≡ reference_of r
 part_is r least =
     let some_reference : r ≢ 0 = λ e. omega arith in
-    elim (kind_of r == 1) as (λ a. part_reference (cond a (LeafPart (number_of r)) (CellPart (kind_of r * 2 ^ 16 + number_of r))) ≡ cond a (Leaf (number_of r)) (Cell r)) [
+    elim (kind_of r == leaf_kind) as (λ a. part_reference (cond a (LeafPart (number_of r)) (CellPart (kind_of r * 2 ^ 16 + number_of r))) ≡ cond a (Leaf (number_of r)) (Cell r)) [
       | true ↦ refl
       | false ↦ ap Cell (let is : kind_of r * 2 ^ 16 + number_of r ≡ r = omega arith in is)
     ]
-    ∙ sym (ap (λ a. cond a Nothing (cond (kind_of r == 1) (Leaf (number_of r)) (Cell r))) (ne_eqb r 0 some_reference))
+    ∙ sym (ap (λ a. cond a Nothing (cond (kind_of r == leaf_kind) (Leaf (number_of r)) (Cell r))) (ne_eqb r 0 some_reference))
 
 pub free_sets : FreeSets
 free_sets m m' reference mark least most here others =

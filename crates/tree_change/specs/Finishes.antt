@@ -9,6 +9,7 @@ use Rattle.pm_words.specs.declared.fence.Fence.{Fence}
 use Rattle.pm_words.specs.Fences.{IsFence, line_of, fence_start, fence_asks, fence_next, fence_left}
 use Rattle.pm_words.specs.Layouts.{IsLayout}
 use Rattle.pm_words.specs.Locations.{Word, Root, Leaf, Cell, Cached, Mark, address_of, leaf_count, kind_words}
+use Rattle.pm_words.specs.Offsets.{reference_offset}
 use Rattle.tree_law.specs.Words.{kind_of, number_of}
 use Rattle.tree_floor.specs.Floors.{IsCellOf}
 use Rattle.tree_change.specs.declared.finish.Target.{Target}
@@ -20,7 +21,7 @@ use Rattle.tree_change.specs.declared.finish.FinishAt.TheVariants as at
 
 -- a word of the image
 abbrev pub target_image : Target → Word
-target_image target.Root = Root 0
+target_image target.Root = Root reference_offset
 target_image (target.Leaf leaf offset) = Leaf leaf offset
 target_image (target.Cell cell offset) = Cell (kind_of cell) (number_of cell) offset
 

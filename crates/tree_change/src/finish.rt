@@ -7,6 +7,7 @@ ghost use Rattle.pm_words.specs.Fences.{IsFence};
 ghost use Rattle.tree_change.specs.Finishes.{IsTarget, target_image, line_image, store_asks, drain_asks};
 
 use pm_words::codes::reference::KIND;
+use pm_words::offsets::root;
 use pm_words::{Action, Fence, Layout, Machine, Turn, line_of};
 use tree_floor::{ROOT, word_of};
 
@@ -200,7 +201,7 @@ fn word_at(layout: Layout, target: Target) -> u64
     ensures within { result < image_words layout }
 {
     match target {
-        Target::Root => root_word(layout, 0),
+        Target::Root => root_word(layout, root::REFERENCE),
         Target::Leaf { leaf, offset } => layout.leaf_word(leaf, offset),
         Target::Cell { cell, offset } => word_of(layout, cell, offset),
     }

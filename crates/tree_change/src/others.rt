@@ -5,7 +5,9 @@ ghost use Rattle.tree_change.specs.Others.{slot_count, slot_offset, slot_value, 
 ghost use Rattle.tree_change.specs.Others.{others_starts, others_offset, others_turned, IsOthers};
 
 use pm_words::Turn;
-use radix_nodes::byte_in;
+use pm_words::codes::reference::{FORM_4, FORM_16, FORM_48};
+use pm_words::offsets::cell::FIRST;
+use radix_nodes::{ENTRY, PLACE_COUNT, byte_in};
 use tree_floor::{BYTES, entry_count, first_entry};
 
 /// Looks in a cell for children beside the one under a byte, a word at a time.
@@ -27,19 +29,6 @@ pub enum Counted {
     One { reference: u64 },
     Absent,
 }
-
-/// The kinds of cells with entries, and the one with an index.
-const FORM_4: u64 = 2;
-
-const FORM_16: u64 = 3;
-
-const FORM_48: u64 = 4;
-
-/// How many places form 48 has.
-const PLACES: u64 = 48;
-
-/// In an entry the branch byte stands above the reference.
-const ENTRY: u64 = 1 << 32;
 
 impl Others {
     /// One that has yet to begin.
@@ -89,7 +78,7 @@ fn slot_offset(kind: u64, slot: u64) -> u64
     ensures { result ≡ slot_offset kind slot }
 {
     if kind == FORM_48 {
-        return 8 + slot / 8;
+        return FIRST + slot / 8;
     }
     first_entry(kind) + slot
 }
@@ -152,7 +141,7 @@ fn slots_end(kind: u64, one: u64) -> Turn<Others, Counted>
     if kind != FORM_48 {
         return Turn::Done(Counted::One { reference: one });
     }
-    if PLACES < one {
+    if PLACE_COUNT < one {
         return Turn::Done(Counted::Absent);
     }
     Turn::Go(Others::Reference { place: one })

@@ -4,7 +4,7 @@ ghost use Rattle.std.specs.Prelude.{◌≡◌, ◌<◌, ◌≤◌};
 ghost use Rattle.pm_words.specs.Locations.{kind_words};
 
 use pm_words::codes::reference::KIND;
-use pm_words::{Action, Layout, Machine, Turn};
+use pm_words::{Action, Layout, Machine, Turn, kind_words};
 use radix_nodes::{CELL_WORDS, Cell};
 use tree_floor::word_of;
 
@@ -80,26 +80,12 @@ impl ReadCell {
         requires { read_takes self.old got }
         ensures { AdvancesTo (read_turned self.old got) self.new result }
     {
-        let all = words_of_kind(self.reference / KIND);
+        let all = kind_words(self.reference / KIND);
         self.cell.words[self.offset as usize] = got;
         if self.offset + 1 < all {
             self.offset += 1;
             return None;
         }
         Some(self.cell)
-    }
-}
-
-/// How many words a cell of this kind has.
-fn words_of_kind(kind: u64) -> u64
-    requires { (2 ≤ kind) × (kind ≤ 5) }
-    ensures words { result ≡ kind_words kind }
-    ensures bound { result ≤ 264 }
-{
-    match kind {
-        2 => 8,
-        3 => 24,
-        4 => 88,
-        _ => 264,
     }
 }

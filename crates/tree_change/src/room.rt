@@ -6,7 +6,9 @@ ghost use Rattle.tree_change.specs.Rooms.{has_byte, places_start, places_offset,
 ghost use Rattle.tree_change.specs.Rooms.{index_turned, IsPlaces};
 
 use pm_words::Turn;
-use radix_nodes::byte_in;
+use pm_words::codes::reference::FORM_48;
+use pm_words::offsets::cell::FIRST;
+use radix_nodes::{INDEX_WORDS, PLACE_COUNT, byte_in};
 use tree_floor::{entry_count, first_entry};
 
 /// Looks in a cell of form 4, 16 or 48 for a place that is free, a word at a time. Form 256 has one for each byte.
@@ -30,14 +32,6 @@ pub enum Room {
     Full,
 }
 
-/// The kind of cells with an index.
-const FORM_48: u64 = 4;
-
-/// How many places form 48 has, and words of its index.
-const PLACES: u64 = 48;
-
-const INDEX_WORDS: u64 = 32;
-
 impl Places {
     /// A look into a cell of this kind.
     pub(crate) fn of(kind: u64) -> Places
@@ -57,8 +51,8 @@ impl Places {
     {
         match self {
             Places::Entry { entry } => first_entry(kind) + entry,
-            Places::Index { word, .. } => 8 + word,
-            Places::Own { .. } => 8 + byte / 8,
+            Places::Index { word, .. } => FIRST + word,
+            Places::Own { .. } => FIRST + byte / 8,
         }
     }
 
@@ -97,7 +91,7 @@ fn index_turned(place: u64, word: u64, got: u64) -> Turn<Places, Room>
 {
     let place_next = place + 1;
     if has_byte(got, place_next, 8) {
-        if place_next < PLACES {
+        if place_next < PLACE_COUNT {
             return Turn::Go(Places::Index {
                 place: place_next,
                 word: 0,

@@ -11,6 +11,7 @@ use Rattle.pm_words.specs.declared.machine.Turn.{Turn}
 use Rattle.pm_words.specs.declared.machine.Turn.TheVariants.{Go, Done}
 use Rattle.pm_words.specs.Layouts.{IsLayout}
 use Rattle.pm_words.specs.Locations.{leaf_count}
+use Rattle.pm_words.specs.Codes.{leaf_kind}
 use Rattle.tree_row.specs.layer_map.specs.Layers.{IsFloorOf}
 use Rattle.tree_row.specs.tree_law.specs.Trees.{Reference, Nothing, Leaf, Cell, Tree, Reaches, here, below, IsReached}
 use Rattle.tree_row.specs.tree_law.specs.Trees.{Room, IsLeaf, IsCell, IsSound, IsSoundFrom, span, first_bytes}
@@ -49,14 +50,14 @@ use Rattle.tree_floor.proofs.FloorStays.{floor_stays}
 -- what a reference is
 pub data IsReference (x : ℕ) : Type 0 where
   is_none : x ≡ 0 → reference_of x ≡ Nothing → IsReference x
-  is_leaf : x ≢ 0 → kind_of x ≡ 1 → reference_of x ≡ Leaf (number_of x) → IsReference x
-  is_cell : x ≢ 0 → kind_of x ≢ 1 → reference_of x ≡ Cell x → IsReference x
+  is_leaf : x ≢ 0 → kind_of x ≡ leaf_kind → reference_of x ≡ Leaf (number_of x) → IsReference x
+  is_cell : x ≢ 0 → kind_of x ≢ leaf_kind → reference_of x ≡ Cell x → IsReference x
 
 pub reference : (x : ℕ) → IsReference x
 reference x = elim (cases_eq x 0) [
-  | inl none ↦ is_none none (ap (λ a. cond a Nothing (cond (kind_of x == 1) (Leaf (number_of x)) (Cell x))) (eq-eqb x 0 none))
+  | inl none ↦ is_none none (ap (λ a. cond a Nothing (cond (kind_of x == leaf_kind) (Leaf (number_of x)) (Cell x))) (eq-eqb x 0 none))
   | inr some_reference ↦
-      let skip : reference_of x ≡ cond (kind_of x == 1) (Leaf (number_of x)) (Cell x) = ap (λ a. cond a Nothing (cond (kind_of x == 1) (Leaf (number_of x)) (Cell x))) (ne_eqb x 0 some_reference) in
+      let skip : reference_of x ≡ cond (kind_of x == leaf_kind) (Leaf (number_of x)) (Cell x) = ap (λ a. cond a Nothing (cond (kind_of x == leaf_kind) (Leaf (number_of x)) (Cell x))) (ne_eqb x 0 some_reference) in
       elim (cases_eq (kind_of x) 1) [
         | inl one ↦ is_leaf some_reference one (skip ∙ ap (λ a. cond a (Leaf (number_of x)) (Cell x)) (eq-eqb (kind_of x) 1 one))
         | inr other ↦ is_cell some_reference other (skip ∙ ap (λ a. cond a (Leaf (number_of x)) (Cell x)) (ne_eqb (kind_of x) 1 other))
@@ -169,9 +170,9 @@ module _ (l : Layout) (ks : List ℕ) (w : LayerWords) (layout : IsLayout l) (is
   lands_ends : (x other other_least least : ℕ) (last : Bool) (part : FloorAt) → ByLast last (reference_of x) other least other_least → IsReached t (reference_of x) → Ends (lands (floor other other_least least last part) x)
   lands_ends x other other_least least last part knows reached = go (reference x)
     where
-      within_tests : number_of x < leaf_count l → Ends (cond (kind_of x == 1) (goes_to (floor other other_least least last part) (cond last (at.Node (number_of x)) (at.Key (number_of x) no_words 0)))
+      within_tests : number_of x < leaf_count l → Ends (cond (kind_of x == leaf_kind) (goes_to (floor other other_least least last part) (cond last (at.Node (number_of x)) (at.Key (number_of x) no_words 0)))
           (cond (leb 2 (kind_of x) && leb (kind_of x) 5) (goes_to (floor other other_least least last part) (at.Depth x)) (Done 0))) → Ends (lands (floor other other_least least last part) x)
-      within_tests within known = subst (λ a. Ends (cond (not a) (Done 0) (cond (kind_of x == 1) (goes_to (floor other other_least least last part) (cond last (at.Node (number_of x)) (at.Key (number_of x) no_words 0)))
+      within_tests within known = subst (λ a. Ends (cond (not a) (Done 0) (cond (kind_of x == leaf_kind) (goes_to (floor other other_least least last part) (cond last (at.Node (number_of x)) (at.Key (number_of x) no_words 0)))
           (cond (leb 2 (kind_of x) && leb (kind_of x) 5) (goes_to (floor other other_least least last part) (at.Depth x)) (Done 0))))) (sym (lt-ltb (number_of x) (leaf_count l) within)) known
 
       leaf : (last' : Bool) → ByLast last' (Leaf (number_of x)) other least other_least → IsReached t (Leaf (number_of x)) → Ends (goes_to (floor other other_least least last' part) (cond last' (at.Node (number_of x)) (at.Key (number_of x) no_words 0)))

@@ -8,6 +8,7 @@ use Rattle.pm_words.specs.declared.machine.Turn.TheVariants.{Go, Done}
 use Rattle.pm_words.specs.Layouts.{IsLayout}
 use Rattle.pm_words.specs.Locations.{leaf_count}
 use Rattle.pm_words.specs.Turns.{GoesBelow}
+use Rattle.pm_words.specs.Codes.{leaf_kind}
 use Rattle.cat_key.specs.declared.TheConstants.{WORDS}
 use Rattle.radix_nodes.specs.Keys.{key_bytes}
 use Rattle.tree_row.specs.tree_law.specs.Trees.{span, first_bytes, byte_at, way_length}
@@ -41,11 +42,11 @@ module _ (l : Layout) (key : List ℕ) (layout : IsLayout l) (is_key : IsKey key
 
   lands_after : (other other_least least : ℕ) (last : Bool) (part : FloorAt) (reference left : ℕ) → behind_left last least + 261 + WORDS < left → FloorAfter l key left (lands (floor other other_least least last part) reference)
   lands_after other other_least least last part reference left enough =
-      elim (ltb (number_of reference) (leaf_count l)) as (λ a. ltb (number_of reference) (leaf_count l) ≡ a → FloorAfter l key left (cond (not a) (Done 0) (cond (kind_of reference == 1) (goes_to (floor other other_least least last part) (cond last (at.Node (number_of reference)) (at.Key (number_of reference) no_words 0)))
+      elim (ltb (number_of reference) (leaf_count l)) as (λ a. ltb (number_of reference) (leaf_count l) ≡ a → FloorAfter l key left (cond (not a) (Done 0) (cond (kind_of reference == leaf_kind) (goes_to (floor other other_least least last part) (cond last (at.Node (number_of reference)) (at.Key (number_of reference) no_words 0)))
       (cond (leb 2 (kind_of reference) && leb (kind_of reference) 5) (goes_to (floor other other_least least last part) (at.Depth reference)) (Done 0))))) [
         | false ↦ λ e. some_node
         | true ↦ λ e. let within = ltb-true _ _ e in
-            elim (kind_of reference == 1) as (λ a. FloorAfter l key left (cond a (goes_to (floor other other_least least last part) (cond last (at.Node (number_of reference)) (at.Key (number_of reference) no_words 0)))
+            elim (kind_of reference == leaf_kind) as (λ a. FloorAfter l key left (cond a (goes_to (floor other other_least least last part) (cond last (at.Node (number_of reference)) (at.Key (number_of reference) no_words 0)))
             (cond (leb 2 (kind_of reference) && leb (kind_of reference) 5) (goes_to (floor other other_least least last part) (at.Depth reference)) (Done 0)))) [
               | true ↦ leaf last within enough
               | false ↦ elim (leb 2 (kind_of reference) && leb (kind_of reference) 5) as (λ a. (leb 2 (kind_of reference) && leb (kind_of reference) 5) ≡ a → FloorAfter l key left (cond a (goes_to (floor other other_least least last part) (at.Depth reference)) (Done 0))) [

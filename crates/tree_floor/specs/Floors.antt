@@ -9,6 +9,8 @@ use Rattle.pm_words.specs.declared.machine.Turn.{Turn}
 use Rattle.pm_words.specs.declared.machine.Turn.TheVariants.{Go, Done}
 use Rattle.pm_words.specs.Layouts.{IsLayout}
 use Rattle.pm_words.specs.Locations.{leaf_count}
+use Rattle.pm_words.specs.Offsets.{depth_offset}
+use Rattle.pm_words.specs.Codes.{leaf_kind}
 use Rattle.cat_key.specs.declared.TheConstants.{WORDS}
 use Rattle.radix_nodes.specs.Keys.{key_bytes}
 use Rattle.tree_row.specs.tree_law.specs.Trees.{span, first_bytes, byte_at, way_length}
@@ -35,7 +37,7 @@ abbrev pub floor_word : FloorAt → LayerWord
 floor_word at.Root = RootWord
 floor_word (at.Key leaf words word) = LeafWord leaf word
 floor_word (at.Node leaf) = LeafWord leaf WORDS
-floor_word (at.Depth cell) = cell_word cell 0
+floor_word (at.Depth cell) = cell_word cell depth_offset
 floor_word (at.Prefix cell depth words word) = cell_word cell (1 + word)
 floor_word (at.Scanning cell depth byte scan) = cell_word cell (scan_offset (kind_of cell) byte scan)
 
@@ -56,7 +58,7 @@ no_words = replicate WORDS 0
 abbrev pub lands : Floor → ℕ → Turn Floor ℕ
 lands floor reference =
     if not (nat_lt (number_of reference) (leaf_count floor.layout)) then Done 0
-    else if kind_of reference == 1
+    else if kind_of reference == leaf_kind
     then goes_to floor (if floor.last then at.Node (number_of reference) else at.Key (number_of reference) no_words 0)
     else if nat_le 2 (kind_of reference) && nat_le (kind_of reference) 5 then goes_to floor (at.Depth reference)
     else Done 0

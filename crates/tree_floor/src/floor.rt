@@ -7,6 +7,8 @@ use crate::scan::{BYTES, Scan, Scanned, better_of, child_of, entry_count, first_
 use crate::words::{KEY_WORDS, ROOT, byte_of, is_at_most, is_prefix, word_of};
 use cat_key::WORDS;
 use pm_words::codes::reference::KIND;
+use pm_words::offsets::cell::DEPTH;
+use pm_words::offsets::leaf;
 use pm_words::{Action, Layout, Machine, Memory, Steps, Turn};
 use radix_nodes::{KEY_BYTES, Key};
 use std::sync::ledger::Ledger;
@@ -84,8 +86,8 @@ impl Machine for Floor {
         let word = match self.at {
             FloorAt::Root => ROOT,
             FloorAt::Key { leaf, word, .. } => layout.leaf_word(leaf, word),
-            FloorAt::Node { leaf } => layout.leaf_word(leaf, KEY_WORDS),
-            FloorAt::Depth { cell } => word_of(layout, cell, 0),
+            FloorAt::Node { leaf } => layout.leaf_word(leaf, leaf::NODE),
+            FloorAt::Depth { cell } => word_of(layout, cell, DEPTH),
             FloorAt::Prefix { cell, word, .. } => word_of(layout, cell, 1 + word),
             FloorAt::Scanning {
                 cell,
@@ -198,11 +200,11 @@ impl Floor {
                 self.enters(reference)
             }
             FloorAt::Key { leaf, word: 0, .. } => {
-                let key = self.loads_key(self.layout.leaf_word(leaf, 0), memory, steps);
+                let key = self.loads_key(self.layout.leaf_word(leaf, leaf::KEY), memory, steps);
                 self.has_key(leaf, key)
             }
             FloorAt::Node { leaf } => {
-                let word = self.layout.leaf_word(leaf, KEY_WORDS);
+                let word = self.layout.leaf_word(leaf, leaf::NODE);
                 let got = memory.act(Action::Load(self.layout.cached(word)), steps);
                 Some(node_told(self.layout.nodes(), got))
             }
@@ -219,7 +221,7 @@ impl Floor {
     {
         match self.at {
             FloorAt::Depth { cell } => {
-                let word = word_of(self.layout, cell, 0);
+                let word = word_of(self.layout, cell, DEPTH);
                 let depth = memory.act(Action::Load(self.layout.cached(word)), steps);
                 self.has_depth(cell, depth)
             }

@@ -5,7 +5,9 @@ ghost use Rattle.tree_floor.specs.Scans.{scan_starts, scan_offset, scan_told, Is
 ghost use Rattle.tree_floor.specs.Scans.{child_entry, better_entry, first_entry, entry_count, entry_told, index_told};
 ghost use Rattle.tree_floor.specs.Scans.{down_told};
 
-use radix_nodes::byte_in;
+use pm_words::codes::reference::{FORM_4, FORM_16, FORM_48};
+use pm_words::offsets::cell::{FIRST, FIRST_OF_4};
+use radix_nodes::{ENTRY, PLACE_COUNT, byte_in};
 
 /// Reads of a cell the child under a byte, and the one under the greatest byte below that, a word at a time.
 #[derive(Clone, Copy)]
@@ -34,18 +36,8 @@ pub enum Scanned {
     Found { child: u64, below: u64 },
 }
 
-/// The kinds of cells with entries, and the one with an index.
-const FORM_4: u64 = 2;
-
-const FORM_16: u64 = 3;
-
-const FORM_48: u64 = 4;
-
 /// How many branch bytes there are. As a byte it is past all of them.
 pub const BYTES: u64 = 256;
-
-/// How many places form 48 has.
-const PLACES: u64 = 48;
 
 /// The reference of no leaf and no cell: what was read is out of order.
 const WRONG: u64 = 1;
@@ -82,9 +74,9 @@ impl Scan {
     {
         match self {
             Scan::Entry { entry, .. } => first_entry(kind) + entry,
-            Scan::Index { word, .. } => 8 + word,
+            Scan::Index { word, .. } => FIRST + word,
             Scan::Child { place, .. } | Scan::Below { place, .. } => 39 + place,
-            Scan::Direct => 8 + byte,
+            Scan::Direct => FIRST + byte,
             Scan::Down { next, .. } => 7 + next,
         }
     }
@@ -141,7 +133,7 @@ fn entry_told(kind: u64, byte: u64, entry: u64, child: u64, below: u64, got: u64
     }
     Scanned::Found {
         child,
-        below: below % (1 << 32),
+        below: below % ENTRY,
     }
 }
 
@@ -185,7 +177,7 @@ fn down_told(next: u64, child: u64, got: u64) -> Scanned
 pub fn first_entry(kind: u64) -> u64
     ensures { result ≡ first_entry kind }
 {
-    if kind == FORM_4 { 4 } else { 8 }
+    if kind == FORM_4 { FIRST_OF_4 } else { FIRST }
 }
 
 /// How many entries a form has.
@@ -199,8 +191,8 @@ pub fn entry_count(kind: u64) -> u64
 pub(crate) fn child_of(byte: u64, child: u64, got: u64) -> u64
     ensures { result ≡ child_entry byte child got }
 {
-    if got != 0 && got >> 32 == byte {
-        got % (1 << 32)
+    if got != 0 && got / ENTRY == byte {
+        got % ENTRY
     } else {
         child
     }
@@ -210,7 +202,7 @@ pub(crate) fn child_of(byte: u64, child: u64, got: u64) -> u64
 pub(crate) fn better_of(byte: u64, below: u64, got: u64) -> u64
     ensures { result ≡ better_entry byte below got }
 {
-    if got != 0 && got >> 32 < byte && (below == 0 || below >> 32 < got >> 32) {
+    if got != 0 && got / ENTRY < byte && (below == 0 || below / ENTRY < got / ENTRY) {
         got
     } else {
         below
@@ -237,7 +229,7 @@ fn top_byte(word: u64, limit: u64) -> u64
 fn places(place: u64, below: u64) -> Scanned
     ensures { result ≡ has_places place below }
 {
-    if place > PLACES || below > PLACES {
+    if place > PLACE_COUNT || below > PLACE_COUNT {
         return Scanned::Found {
             child: WRONG,
             below: WRONG,

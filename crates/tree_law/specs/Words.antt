@@ -1,6 +1,7 @@
 -- The words in which a tree is kept, of one row, and what stores and mixes of them make of its layer.
 use Rattle.std.specs.Prelude.{◌≡◌, ◌≢◌, ℕ, ◌-◌, ◌/◌, ◌%◌, ◌^◌, ◌≤◌, ◌==◌, ◌&&◌, ◌⊎◌}
 use Rattle.std.specs.Prelude.{nat_lt, nat_le, if◌then◌else◌, Option, Some}
+use Rattle.pm_words.specs.Codes.{leaf_kind}
 use Rattle.layer_map.specs.cat_key.specs.declared.TheConstants.{WORDS}
 use Rattle.radix_nodes.specs.Keys.{KeyWords}
 use Rattle.radix_nodes.specs.Cells.{CellWords, prefix_words, children, IsForm}
@@ -34,7 +35,7 @@ abbrev pub number_of : ℕ → ℕ
 number_of x = x % 2 ^ 16
 
 abbrev pub reference_of : ℕ → Reference
-reference_of x = if x == 0 then Nothing else if kind_of x == 1 then Leaf (number_of x) else Cell x
+reference_of x = if x == 0 then Nothing else if kind_of x == leaf_kind then Leaf (number_of x) else Cell x
 
 abbrev pub cell_in : LayerWords → ℕ → CellWords
 cell_in w x = w.cell (kind_of x) (number_of x)

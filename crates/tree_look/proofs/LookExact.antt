@@ -7,6 +7,7 @@ use Rattle.pm_words.specs.declared.machine.Turn.{Turn}
 use Rattle.pm_words.specs.declared.machine.Turn.TheVariants.{Go, Done}
 use Rattle.pm_words.specs.Layouts.{IsLayout}
 use Rattle.pm_words.specs.Locations.{leaf_count}
+use Rattle.pm_words.specs.Codes.{leaf_kind}
 use Rattle.tree_law.specs.Trees.{Nothing, Leaf, Cell, Tree, here, IsReached, Room, IsLeaf, IsCell, IsSound, span, first_bytes, byte_at, depth_of, low}
 use Rattle.cat_key.specs.declared.TheConstants.{WORDS}
 use Rattle.radix_nodes.specs.Keys.{key_bytes}
@@ -104,9 +105,9 @@ module _ (l : Layout) (ks : List ℕ) (w : LayerWords) (layout : IsLayout l) (is
   lands_ends : (r least : ℕ) (outer inner : Spot) (part : LookAt) → KnownAt outer inner r → least ≤ depth_of t (reference_of r) → Ends (lands (look least outer inner part) r)
   lands_ends r least outer inner part known deep = go (reference r)
     where
-      within_tests : number_of r < leaf_count l → Ends (cond (kind_of r == 1) (goes_to (look least outer inner part) (at.Key (number_of r) no_words 0)) (cond (leb 2 (kind_of r) && leb (kind_of r) 5) (goes_to (look least outer inner part) (at.Depth r)) (Done looked.Wrong)))
+      within_tests : number_of r < leaf_count l → Ends (cond (kind_of r == leaf_kind) (goes_to (look least outer inner part) (at.Key (number_of r) no_words 0)) (cond (leb 2 (kind_of r) && leb (kind_of r) 5) (goes_to (look least outer inner part) (at.Depth r)) (Done looked.Wrong)))
           → Ends (lands (look least outer inner part) r)
-      within_tests within known' = subst (λ a. Ends (cond (not a) (Done looked.Wrong) (cond (kind_of r == 1) (goes_to (look least outer inner part) (at.Key (number_of r) no_words 0)) (cond (leb 2 (kind_of r) && leb (kind_of r) 5) (goes_to (look least outer inner part) (at.Depth r)) (Done looked.Wrong))))) (sym (lt-ltb (number_of r) (leaf_count l) within)) known'
+      within_tests within known' = subst (λ a. Ends (cond (not a) (Done looked.Wrong) (cond (kind_of r == leaf_kind) (goes_to (look least outer inner part) (at.Key (number_of r) no_words 0)) (cond (leb 2 (kind_of r) && leb (kind_of r) 5) (goes_to (look least outer inner part) (at.Depth r)) (Done looked.Wrong))))) (sym (lt-ltb (number_of r) (leaf_count l) within)) known'
 
       at_r : IsReached t (reference_of r)
       at_r = reached outer inner r known
@@ -162,7 +163,7 @@ module _ (l : Layout) (ks : List ℕ) (w : LayerWords) (layout : IsLayout l) (is
             )
       ] refl
     where
-      leaf_reference : (r i : ℕ) → r ≢ 0 → kind_of r ≡ 1 → number_of r ≡ i → reference_of r ≡ Leaf i
+      leaf_reference : (r i : ℕ) → r ≢ 0 → kind_of r ≡ leaf_kind → number_of r ≡ i → reference_of r ≡ Leaf i
       leaf_reference r i some_reference kind number = go (reference r)
         where
           go : IsReference r → reference_of r ≡ Leaf i

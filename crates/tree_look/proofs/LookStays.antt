@@ -7,6 +7,7 @@ use Rattle.pm_words.specs.declared.machine.Turn.TheVariants.{Go, Done}
 use Rattle.pm_words.specs.Layouts.{IsLayout}
 use Rattle.pm_words.specs.Locations.{leaf_count}
 use Rattle.pm_words.specs.Turns.{GoesBelow}
+use Rattle.pm_words.specs.Codes.{leaf_kind}
 use Rattle.cat_key.specs.declared.TheConstants.{WORDS}
 use Rattle.radix_nodes.specs.Keys.{key_bytes}
 use Rattle.radix_nodes.specs.Cells.{IsReference}
@@ -51,11 +52,11 @@ module _ (l : Layout) (key : List ℕ) (layout : IsLayout l) (is_key : IsKey key
 
   lands_after : (least : ℕ) (outer inner : Spot) (part : LookAt) (reference left : ℕ) → Spots outer inner → level * (way_length - least) + 18 + WORDS < left → LookAfter l key left (lands (look least outer inner part) reference)
   lands_after least outer inner part reference left spots enough =
-      elim (ltb (number_of reference) (leaf_count l)) as (λ a. ltb (number_of reference) (leaf_count l) ≡ a → LookAfter l key left (cond (not a) (Done looked.Wrong) (cond (kind_of reference == 1) (goes_to (look least outer inner part) (at.Key (number_of reference) no_words 0))
+      elim (ltb (number_of reference) (leaf_count l)) as (λ a. ltb (number_of reference) (leaf_count l) ≡ a → LookAfter l key left (cond (not a) (Done looked.Wrong) (cond (kind_of reference == leaf_kind) (goes_to (look least outer inner part) (at.Key (number_of reference) no_words 0))
       (cond (leb 2 (kind_of reference) && leb (kind_of reference) 5) (goes_to (look least outer inner part) (at.Depth reference)) (Done looked.Wrong))))) [
         | false ↦ λ e. tt
         | true ↦ λ e. let within = ltb-true _ _ e in
-            elim (kind_of reference == 1) as (λ a. LookAfter l key left (cond a (goes_to (look least outer inner part) (at.Key (number_of reference) no_words 0))
+            elim (kind_of reference == leaf_kind) as (λ a. LookAfter l key left (cond a (goes_to (look least outer inner part) (at.Key (number_of reference) no_words 0))
             (cond (leb 2 (kind_of reference) && leb (kind_of reference) 5) (goes_to (look least outer inner part) (at.Depth reference)) (Done looked.Wrong)))) [
               | true ↦ moves least outer inner (at.Key (number_of reference) no_words 0) left spots (within, no_words_key, omega arith) (omega arith)
               | false ↦ elim (leb 2 (kind_of reference) && leb (kind_of reference) 5) as (λ a. (leb 2 (kind_of reference) && leb (kind_of reference) 5) ≡ a → LookAfter l key left (cond a (goes_to (look least outer inner part) (at.Depth reference)) (Done looked.Wrong))) [

@@ -8,6 +8,8 @@ use Rattle.pm_words.specs.declared.machine.Turn.{Turn}
 use Rattle.pm_words.specs.declared.machine.Turn.TheVariants.{Go, Done}
 use Rattle.pm_words.specs.Layouts.{IsLayout}
 use Rattle.pm_words.specs.Locations.{leaf_count, kind_words}
+use Rattle.pm_words.specs.Offsets.{depth_offset}
+use Rattle.pm_words.specs.Codes.{leaf_kind}
 use Rattle.cat_key.specs.declared.TheConstants.{WORDS}
 use Rattle.radix_nodes.specs.Keys.{key_bytes}
 use Rattle.tree_law.specs.Trees.{span, first_bytes, byte_at, way_length}
@@ -30,7 +32,7 @@ use Rattle.tree_look.specs.Depths.{shared_of}
 abbrev pub look_word : LookAt → List ℕ → LayerWord
 look_word at.Root key = RootWord
 look_word (at.Key leaf words word) key = LeafWord leaf word
-look_word (at.Depth cell) key = cell_word cell 0
+look_word (at.Depth cell) key = cell_word cell depth_offset
 look_word (at.Prefix cell depth words word) key = cell_word cell (1 + word)
 look_word (at.Finding cell depth find) key =
     cell_word cell (find_offset (kind_of cell) (byte_at depth (key_number key)) find)
@@ -52,7 +54,7 @@ goes_to look at = Go (record look { at = at })
 abbrev pub lands : Look → ℕ → Turn Look Looked
 lands look reference =
     if not (nat_lt (number_of reference) (leaf_count look.layout)) then Done looked.Wrong
-    else if kind_of reference == 1 then goes_to look (at.Key (number_of reference) no_words 0)
+    else if kind_of reference == leaf_kind then goes_to look (at.Key (number_of reference) no_words 0)
     else if nat_le 2 (kind_of reference) && nat_le (kind_of reference) 5 then goes_to look (at.Depth reference)
     else Done looked.Wrong
 

@@ -4,7 +4,9 @@ ghost use Rattle.std.specs.Prelude.{◌≡◌, ◌<◌};
 ghost use Rattle.tree_floor.specs.Scans.{entry_count};
 ghost use Rattle.tree_look.specs.Finds.{find_starts, find_offset, find_told, entry_told, IsFind, has_place};
 
-use radix_nodes::byte_in;
+use pm_words::codes::reference::{FORM_4, FORM_16, FORM_48};
+use pm_words::offsets::cell::FIRST;
+use radix_nodes::{ENTRY, PLACE_COUNT, byte_in};
 use tree_floor::{entry_count, first_entry};
 
 /// Looks in a cell for the child under a byte, a word at a time.
@@ -32,19 +34,6 @@ pub enum Findings {
     Absent,
 }
 
-/// The kinds of cells with entries, and the one with an index.
-const FORM_4: u64 = 2;
-
-const FORM_16: u64 = 3;
-
-const FORM_48: u64 = 4;
-
-/// How many places form 48 has.
-const PLACES: u64 = 48;
-
-/// In an entry the branch byte stands above the reference.
-const ENTRY: u64 = 1 << 32;
-
 impl Find {
     /// A look into a cell of this kind.
     pub(crate) fn of(kind: u64) -> Find
@@ -68,9 +57,9 @@ impl Find {
     {
         match self {
             Find::Entry { entry } => first_entry(kind) + entry,
-            Find::Index => 8 + byte / 8,
+            Find::Index => FIRST + byte / 8,
             Find::Reference { place } => 39 + place,
-            Find::Direct => 8 + byte,
+            Find::Direct => FIRST + byte,
         }
     }
 
@@ -93,7 +82,7 @@ impl Find {
                     return Findings::Absent;
                 }
                 Findings::Found {
-                    offset: 8 + byte,
+                    offset: FIRST + byte,
                     high: 0,
                     reference: got,
                 }
@@ -125,7 +114,7 @@ fn entry_told(kind: u64, byte: u64, entry: u64, got: u64) -> Findings
 fn has_place(place: u64) -> Findings
     ensures { result ≡ has_place place }
 {
-    if place == 0 || PLACES < place {
+    if place == 0 || PLACE_COUNT < place {
         return Findings::Absent;
     }
     Findings::More(Find::Reference { place })

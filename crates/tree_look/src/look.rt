@@ -8,6 +8,7 @@ ghost use Rattle.tree_look.specs.Looks.{byte_parted};
 use crate::find::{Find, Findings};
 use cat_key::WORDS;
 use pm_words::codes::reference::KIND;
+use pm_words::offsets::cell::DEPTH;
 use pm_words::{Action, Layout, Machine, Turn};
 use radix_nodes::{KEY_BYTES, Key, shared_bytes};
 use tree_floor::{KEY_WORDS, ROOT, byte_of, is_prefix, is_same, word_of};
@@ -109,7 +110,7 @@ impl Machine for Look {
         let word = match self.at {
             LookAt::Root => ROOT,
             LookAt::Key { leaf, word, .. } => layout.leaf_word(leaf, word),
-            LookAt::Depth { cell } => word_of(layout, cell, 0),
+            LookAt::Depth { cell } => word_of(layout, cell, DEPTH),
             LookAt::Prefix { cell, word, .. } => word_of(layout, cell, 1 + word),
             LookAt::Finding { cell, depth, find } => {
                 let byte = byte_of(self.key, depth);

@@ -5,6 +5,7 @@ use Rattle.std.proofs.lemmas.List.{get_or-set_other, get_or-drop, ext_get_or}
 use Rattle.pm_words.specs.declared.layout.Layout.{Layout}
 use Rattle.pm_words.specs.Locations.{Location, Mark, Cached, Durable, HasLocation, leaf_count, row_words, durable_address, address_of, at}
 use Rattle.pm_words.specs.Rows.{durable_row}
+use Rattle.pm_words.specs.Codes.{leaf_kind}
 use Rattle.pm_words.proofs.Apart.{addresses_apart, address_fits}
 use Rattle.radix_nodes.specs.declared.cell.Cell as cells
 use Rattle.radix_nodes.specs.Keys.{key_bytes}
@@ -169,7 +170,7 @@ module _ (l : Layout) (words : List ℕ) (x : ℕ) where
   ]
 
 -- what a reference of these kinds leads to
-pub to_leaf : (x : ℕ) → kind_of x ≡ 1 → reference_of x ≡ Leaf (number_of x)
+pub to_leaf : (x : ℕ) → kind_of x ≡ leaf_kind → reference_of x ≡ Leaf (number_of x)
 to_leaf x one = go (reference x)
   where
     go : IsReference x → reference_of x ≡ Leaf (number_of x)
@@ -177,7 +178,7 @@ to_leaf x one = go (reference x)
     go (is_leaf some_reference kind is) = is
     go (is_cell some_reference other is) = absurd (other one)
 
-pub to_cell : (l : Layout) (x : ℕ) → kind_of x ≢ 1 → (row_room l).is_cell x ≡ true → reference_of x ≡ Cell x
+pub to_cell : (l : Layout) (x : ℕ) → kind_of x ≢ leaf_kind → (row_room l).is_cell x ≡ true → reference_of x ≡ Cell x
 to_cell l x other cell = go (reference x)
   where
     go : IsReference x → reference_of x ≡ Cell x
@@ -187,13 +188,13 @@ to_cell l x other cell = go (reference x)
 
 module _ (l : Layout) (words : List ℕ) (x : ℕ) where
   -- where something is sound there is such a leaf, or such a cell, and the cell is as deep as it has to be
-  pub no_leaf : kind_of x ≡ 1 → leaf_count l ≤ number_of x → IsSoundFrom (row_room l) (row_tree l words) (reference_of x) → ⊥
+  pub no_leaf : kind_of x ≡ leaf_kind → leaf_count l ≤ number_of x → IsSoundFrom (row_room l) (row_tree l words) (reference_of x) → ⊥
   no_leaf one past sound =
       let leaf : IsLeaf (row_room l) (row_tree l words) (number_of x) = subst (IsSoundFrom (row_room l) (row_tree l words)) (to_leaf x one) sound (Leaf (number_of x)) here in
       let within : number_of x < leaf_count l = leaf.number in
       omega arith
 
-  pub no_cell : kind_of x ≢ 1 → (row_room l).is_cell x ≡ false → IsSoundFrom (row_room l) (row_tree l words) (reference_of x) → ⊥
+  pub no_cell : kind_of x ≢ leaf_kind → (row_room l).is_cell x ≡ false → IsSoundFrom (row_room l) (row_tree l words) (reference_of x) → ⊥
   no_cell other none sound = go (reference x)
     where
       go : IsReference x → ⊥
@@ -203,7 +204,7 @@ module _ (l : Layout) (words : List ℕ) (x : ℕ) where
           let cell : IsCell (row_room l) (row_tree l words) x = subst (IsSoundFrom (row_room l) (row_tree l words)) is sound (Cell x) here in
           false≢true (sym none ∙ cell.number)
 
-  pub not_deep : (depth least : ℕ) → kind_of x ≢ 1 → (row_room l).is_cell x ≡ true → depth ≡ (row_tree l words).depth x → (depth < least) ⊎ (key_bytes ≤ depth) → least ≤ depth_of (row_tree l words) (reference_of x)
+  pub not_deep : (depth least : ℕ) → kind_of x ≢ leaf_kind → (row_room l).is_cell x ≡ true → depth ≡ (row_tree l words).depth x → (depth < least) ⊎ (key_bytes ≤ depth) → least ≤ depth_of (row_tree l words) (reference_of x)
       → IsSoundFrom (row_room l) (row_tree l words) (reference_of x) → ⊥
   not_deep depth least other is_cell_here depth_is wrong enough sound =
       let t = row_tree l words in
@@ -214,10 +215,10 @@ module _ (l : Layout) (words : List ℕ) (x : ℕ) where
       elim wrong [ inl less ↦ omega arith | inr past ↦ omega arith ]
 
   -- the leaf's mark is set
-  pub leaf_set : length words ≡ row_words l → kind_of x ≡ 1 → number_of x < leaf_count l → MarksFrom l words (reference_of x) (slice_set words (address_of l (Mark 1 (number_of x))) 1)
+  pub leaf_set : length words ≡ row_words l → kind_of x ≡ leaf_kind → number_of x < leaf_count l → MarksFrom l words (reference_of x) (slice_set words (address_of l (Mark 1 (number_of x))) 1)
   leaf_set whole one within = one_set l words 1 (number_of x) (reference_of x) whole (omega arith, omega arith, within) (ap (λ k. part_with k (number_of x)) (sym one) ∙ part_is x)
 
-  pub leaf_marked : length words ≡ row_words l → kind_of x ≡ 1 → number_of x < leaf_count l → AreMarked l words (reference_of x) (slice_set words (address_of l (Mark 1 (number_of x))) 1)
+  pub leaf_marked : length words ≡ row_words l → kind_of x ≡ leaf_kind → number_of x < leaf_count l → AreMarked l words (reference_of x) (slice_set words (address_of l (Mark 1 (number_of x))) 1)
   leaf_marked whole one within q way =
       let after = slice_set words (address_of l (Mark 1 (number_of x))) 1 in
       let is = leaf_only (row_tree l words) (number_of x) (reference_of x) q (to_leaf x one) way in

@@ -5,6 +5,7 @@ use Rattle.std.proofs.Math.Seq.{drop-append_seam}
 use Rattle.pm_words.specs.declared.layout.Layout.{Layout}
 use Rattle.pm_words.specs.Locations.{Cached, Durable, leaf_count, image_words, volatile_words, durable_address, address_of}
 use Rattle.pm_words.specs.Rows.{durable_row, row_of}
+use Rattle.pm_words.specs.Codes.{leaf_kind}
 use Rattle.tree_law.specs.Trees.{Reference, Nothing, Leaf, Cell, Tree, Reaches, IsReached, IsTree}
 use Rattle.tree_law.specs.Words.{IsLawful, word_in, kind_of, number_of, reference_of, tree_of}
 use Rattle.tree_law.specs.Marking.{MayHaveMark, kind_in, number_in}
@@ -27,7 +28,7 @@ leaf_part i small = go (reference (1 * 2 ^ 16 + i))
     go : IsReference (1 * 2 ^ 16 + i) → reference_of (1 * 2 ^ 16 + i) ≡ Leaf i
     go (is_none none is) = absurd (omega arith)
     go (is_leaf some_reference one is) = is ∙ ap Leaf (let same : number_of (1 * 2 ^ 16 + i) ≡ i = omega arith in same)
-    go (is_cell some_reference other is) = absurd (other (let one : kind_of (1 * 2 ^ 16 + i) ≡ 1 = omega arith in one))
+    go (is_cell some_reference other is) = absurd (other (let one : kind_of (1 * 2 ^ 16 + i) ≡ leaf_kind = omega arith in one))
 
 cell_part : (x : ℕ) → 2 ≤ kind_of x → part_with (kind_of x) (number_of x) ≡ Cell x
 cell_part x low = part_is x ∙ go (reference x)

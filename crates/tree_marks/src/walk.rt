@@ -11,6 +11,7 @@ ghost use Rattle.tree_marks.specs.Marked.{row_room, row_tree, MarksFrom, AreMark
 use crate::words::{cell_word, is_cell, leaf_count, read_cell, root_of};
 use pm_words::Memory;
 use pm_words::codes::reference::{KIND, LEAF};
+use pm_words::offsets::cell::DEPTH;
 use radix_nodes::{Cell, KEY_BYTES, child};
 
 /// How many branch bytes there are.
@@ -49,7 +50,7 @@ fn mark_from(memory: &mut Memory, reference: u64, least: u64)
     if !is_cell(memory, reference) {
         return;
     }
-    let depth = cell_word(memory, reference, 0);
+    let depth = cell_word(memory, reference, DEPTH);
     if depth < least || KEY_BYTES <= depth {
         return;
     }

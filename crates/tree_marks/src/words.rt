@@ -10,14 +10,11 @@ ghost use Rattle.tree_marks.specs.Marked.{row_room};
 
 use pm_words::codes::reference::KIND;
 use pm_words::offsets::root;
-use pm_words::{LINE_WORDS, Memory};
+use pm_words::{LINE_WORDS, Memory, kind_words};
 use radix_nodes::{CELL_WORDS, Cell};
 
 /// The number of the root's word.
 const ROOT_WORD: u64 = LINE_WORDS + root::REFERENCE;
-
-/// How many more leaves than nodes there are.
-const SPARE_LEAVES: u64 = 4;
 
 /// How many leaves there are, and how many cells of each kind.
 pub(crate) fn leaf_count(memory: &Memory) -> u64
@@ -25,20 +22,7 @@ pub(crate) fn leaf_count(memory: &Memory) -> u64
     ensures bound { result ≤ 4100 }
     ensures row { IsRow memory.now.layout memory.now.words }
 {
-    memory.layout().nodes() + SPARE_LEAVES
-}
-
-/// How many words a cell of a kind from 2 to 5 has.
-fn kind_words(kind: u64) -> u64
-    requires { (2 ≤ kind) × (kind ≤ 5) }
-    ensures { result ≡ kind_words kind }
-{
-    match kind {
-        2 => 8,
-        3 => 24,
-        4 => 88,
-        _ => 264,
-    }
+    memory.layout().leaf_count()
 }
 
 /// The root's reference.

@@ -9,6 +9,7 @@ use Rattle.pm_words.specs.Locations.{leaf_count, kind_words, row_words, address_
 use Rattle.pm_words.specs.Images.{IsImage, fresh_words}
 use Rattle.pm_words.specs.Layouts.{IsLayout}
 use Rattle.pm_words.specs.Rows.{acted, evicted, durable_row, row_of}
+use Rattle.pm_words.specs.Offsets.{reference_offset}
 use Rattle.tree_law.specs.layer_map.specs.Layers.{HasFew}
 use Rattle.tree_law.specs.Fresh as tree
 use Rattle.tree_law.specs.Words.{LayerWord, RootWord, LeafWord, CellWord, LayerWords, word_in, layer_of, Keeps}
@@ -16,7 +17,7 @@ use Rattle.tree_law.specs.Words.{Stored, IsMix}
 
 -- the name of a word of the layer in an image, and the address of its cached twin
 abbrev pub image_word : LayerWord → Word
-image_word RootWord = Root 0
+image_word RootWord = Root reference_offset
 image_word (LeafWord i o) = Leaf i o
 image_word (CellWord kind n o) = Cell kind n o
 

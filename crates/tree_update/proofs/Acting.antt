@@ -8,6 +8,7 @@ use Rattle.pm_words.specs.declared.fence.FenceAt.TheVariants as fence_at
 use Rattle.pm_words.specs.Fences.{IsFence, IsFenceAt, fence_asks, fence_at_asks}
 use Rattle.pm_words.specs.Locations.{Word, Header, Leaf, Cell, Location, Mark, Cached, HasWord, HasLocation, kind_words, address_of}
 use Rattle.pm_words.specs.Rows.{CanAct}
+use Rattle.pm_words.specs.Offsets.{depth_offset}
 use Rattle.pm_words.proofs.Apart.{addresses_within}
 use Rattle.pm_words.proofs.Kept.{outside_header, keeps_header, names_cached}
 use Rattle.radix_nodes.specs.declared.filling.Filling.{Filling}
@@ -123,7 +124,7 @@ part_can l key word (at.FindingRoom look spot leaf) words here = subst (λ k. Ca
 part_can l key word (at.ReadingCell read spot byte leaf) words here = subst (λ k. CanAct k words (Load (layer_address read.layout (read_word read)))) here.1 (layer_can read.layout words (read_word read) (read_has read here.0))
 part_can l key word (at.TakingCell take new) words here = take_can l words take.kind take.at take here.0 here.1
 part_can l key word (at.FillingCell fill spot free) words here = subst (λ k. CanAct k words (fill_cell_asks fill)) here.1 (cell_can fill words here.0)
-part_can l key word (at.ReadingDepth leaf outer inner) words here = layer_can l words (cell_word inner.cell 0) (head_has l inner.cell 0 here.0 (omega arith))
+part_can l key word (at.ReadingDepth leaf outer inner) words here = layer_can l words (cell_word inner.cell depth_offset) (head_has l inner.cell depth_offset here.0 (omega arith))
 part_can l key word (at.Counting look leaf outer inner) words here = subst (λ k. CanAct k words (Load (layer_address look.layout (count_word look)))) here.1 (layer_can look.layout words (count_word look) (count_has look here.0))
 part_can l key word (at.ReadingIndex cell byte leaf) words here =
     let small = here.2 in

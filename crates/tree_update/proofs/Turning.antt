@@ -9,6 +9,7 @@ use Rattle.pm_words.specs.declared.machine.Turn.TheVariants.{Go, Done}
 use Rattle.pm_words.specs.Locations.{Cached, Durable, leaf_count, kind_words}
 use Rattle.pm_words.specs.Rows.{IsRow, acted}
 use Rattle.pm_words.specs.Rows as rows
+use Rattle.pm_words.specs.Offsets.{depth_offset}
 use Rattle.cat_key.specs.declared.TheConstants.{WORDS}
 use Rattle.radix_nodes.specs.declared.cell.Cell as cells
 use Rattle.radix_nodes.specs.declared.filling.Filling.{Filling}
@@ -304,9 +305,9 @@ module _ (before : Layer) (c : Change) (words : List ℕ) (is : IsChange c) (row
           (sure.0, leaf, sure.1, as_larger found sure.2.2 right is_cell four here.4 refl refl, take_answers before c is rooted made.kind m)
 
   reading_depth : (leaf : ℕ) (outer inner : Spot) → IsChangeAt lay c.key c.word (at.ReadingDepth leaf outer inner) → SureAt cnt lay.nodes before (aim_of c) (at.ReadingDepth leaf outer inner) w s m
-      → After (reads_depth c leaf outer inner (rows.got lay words (Load (layer_address lay (cell_word inner.cell 0))))) (Load (layer_address lay (cell_word inner.cell 0)))
+      → After (reads_depth c leaf outer inner (rows.got lay words (Load (layer_address lay (cell_word inner.cell depth_offset))))) (Load (layer_address lay (cell_word inner.cell depth_offset)))
   reading_depth leaf outer inner here sure =
-      by_load (cell_word inner.cell 0) (Load (layer_address lay (cell_word inner.cell 0))) (head_has lay inner.cell 0 here.0 (omega arith)) refl (reads_depth c leaf outer inner) (at_place sure.2.1.0 sure.2.1.1)
+      by_load (cell_word inner.cell depth_offset) (Load (layer_address lay (cell_word inner.cell depth_offset))) (head_has lay inner.cell depth_offset here.0 (omega arith)) refl (reads_depth c leaf outer inner) (at_place sure.2.1.0 sure.2.1.1)
     where
       some_inner : inner.cell ≢ 0
       some_inner = inner_some before c is rooted w s m outer inner leaf sure.1 sure.2 sure.0

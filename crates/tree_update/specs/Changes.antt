@@ -8,6 +8,7 @@ use Rattle.pm_words.specs.declared.machine.Turn.{Turn}
 use Rattle.pm_words.specs.declared.machine.Turn.TheVariants.{Go, Done}
 use Rattle.pm_words.specs.Layouts.{IsLayout}
 use Rattle.pm_words.specs.Locations.{leaf_count, kind_words}
+use Rattle.pm_words.specs.Offsets.{depth_offset}
 use Rattle.cat_key.specs.declared.TheConstants.{WORDS}
 use Rattle.radix_nodes.specs.declared.cell.Cell as cells
 use Rattle.radix_nodes.specs.declared.fill_leaf.FillLeaf.{FillLeaf}
@@ -69,7 +70,7 @@ change_at_asks l (at.FindingRoom find spot leaf) = find_room_asks find
 change_at_asks l (at.ReadingCell read spot byte leaf) = read_asks read
 change_at_asks l (at.TakingCell take new) = take_asks take
 change_at_asks l (at.FillingCell fill spot free) = fill_cell_asks fill
-change_at_asks l (at.ReadingDepth leaf outer inner) = Load (layer_address l (cell_word inner.cell 0))
+change_at_asks l (at.ReadingDepth leaf outer inner) = Load (layer_address l (cell_word inner.cell depth_offset))
 change_at_asks l (at.Counting count leaf outer inner) = count_asks count
 change_at_asks l (at.ReadingIndex cell byte leaf) = Load (layer_address l (cell_word cell (8 + byte / 8)))
 change_at_asks l (at.Finishing finish) = finish_asks finish

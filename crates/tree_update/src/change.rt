@@ -2,6 +2,7 @@
 
 ghost use Rattle.std.specs.Prelude.{◌≡◌, ◌<◌, ◌≤◌};
 
+use pm_words::offsets::cell::{DEPTH, FIRST};
 use pm_words::{Action, Layout, Machine, Turn};
 use radix_nodes::{Cell, FillCell, FillLeaf, Key};
 use tree_change::{Count, FindRoom, Finish, ReadCell, Take};
@@ -154,11 +155,11 @@ impl Machine for Change {
             ChangeAt::ReadingCell { read, .. } => read.action(),
             ChangeAt::FillingCell { fill, .. } => fill.action(),
             ChangeAt::ReadingDepth { inner, .. } => {
-                Action::Load(layout.cached(word_of(layout, inner.cell, 0)))
+                Action::Load(layout.cached(word_of(layout, inner.cell, DEPTH)))
             }
             ChangeAt::Counting { count, .. } => count.action(),
             ChangeAt::ReadingIndex { cell, byte, .. } => {
-                Action::Load(layout.cached(word_of(layout, *cell, 8 + *byte / 8)))
+                Action::Load(layout.cached(word_of(layout, *cell, FIRST + *byte / 8)))
             }
             ChangeAt::Finishing { finish } => finish.action(),
         }

@@ -7,23 +7,15 @@ ghost use Rattle.radix_nodes.specs.Making.{pair_of, prefix_word};
 ghost use Rattle.tree_change.specs.Begins.{spot_target};
 
 use crate::change::{Change, ChangeAt, Ended, NewCell, Site};
-use pm_words::codes::reference::KIND;
+use pm_words::codes::reference::{FORM_256, KIND};
+use pm_words::offsets::cell::{FIRST, PLACES};
 use pm_words::{Machine, Turn};
-use radix_nodes::{Branch, Cell, FillCell, FillLeaf, Key, byte_set, larger, paired, prefix_of};
+use radix_nodes::{
+    Branch, Cell, ENTRY, FillCell, FillLeaf, Key, byte_set, larger, paired, prefix_of,
+};
 use tree_change::{FindRoom, Finish, ReadCell, Room, Take, Taken, Target, TargetStore};
 use tree_floor::byte_of;
 use tree_look::Spot;
-
-/// The kind of the largest cells, which have a place for each byte.
-const FORM_256: u64 = 5;
-
-/// The offset of the first child of form 256 and of the first word of form 48's index, and of form 48's first place.
-const FIRST: u64 = 8;
-
-const PLACES: u64 = 40;
-
-/// In an entry the branch byte stands above the reference.
-const ENTRY: u64 = 1 << 32;
 
 impl Change {
     ghost use Rattle.std.specs.Prelude.{◌≡◌, ◌≢◌, ◌≤◌, ◌<◌, ℕ};

@@ -4,20 +4,13 @@ ghost use Rattle.std.specs.Prelude.{◌≡◌, ◌<◌};
 
 use crate::change::{Change, ChangeAt, Ended};
 use crate::setting::spot_target;
-use pm_words::codes::reference::KIND;
+use pm_words::codes::reference::{FORM_48, KIND};
+use pm_words::offsets::cell::FIRST;
 use pm_words::{Machine, Turn};
-use radix_nodes::{KEY_BYTES, byte_set};
+use radix_nodes::{ENTRY, KEY_BYTES, byte_set};
 use tree_change::{Count, Counted, Target};
 use tree_floor::byte_of;
 use tree_look::Spot;
-
-/// The kind of cells with an index, and the offset of its first word.
-const FORM_48: u64 = 4;
-
-const INDEX: u64 = 8;
-
-/// A reference is below this.
-const REFERENCES: u64 = 1 << 32;
 
 impl Change {
     ghost use Rattle.std.specs.Prelude.{◌≡◌, ◌≢◌, ◌≤◌, ◌<◌, ◌^◌, ℕ};
@@ -110,7 +103,7 @@ impl Change {
                 self.finishes(spot_target(inner), 0, KIND + leaf, 0)
             }
             Counted::One { reference } => {
-                if REFERENCES <= reference {
+                if ENTRY <= reference {
                     return Some(Ended::Wrong);
                 }
                 let word = outer.high + reference;
@@ -129,7 +122,7 @@ impl Change {
         requires leaf { leaf < leaf_count self.old.layout }
         ensures { AdvancesTo (reads_index self.old cell byte leaf got) self.new result }
     {
-        let offset = INDEX + byte / 8;
+        let offset = FIRST + byte / 8;
         let word = byte_set(got, byte % 8, 0);
         self.finishes(Target::Cell { cell, offset }, word, KIND + leaf, 0)
     }

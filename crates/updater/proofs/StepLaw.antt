@@ -3,15 +3,15 @@ use Rattle.std.proofs.Common.{◌≡◌, ◌≢◌, ℕ, ◌+◌, ◌*◌, ◌<�
 use Rattle.std.proofs.Common.{List, [], ◌∷◌, inl, inr, refl, sym, subst, ap, ◌∙◌, arith}
 use Rattle.std.specs.Prelude.{slice_set}
 use Rattle.std.proofs.lemmas.Bool.{eqb-true, eqb-false, ltb-true, ltb-false, leb-true, leb-false}
-use Rattle.pm_words.specs.Codes.{gone_status, free_status, ready_state, merge_kind, empty_state}
+use Rattle.pm_words.specs.Codes.{gone_status, free_status, ready_state, merge_kind, empty_state, untaken_lock}
 use Rattle.pm_words.specs.declared.layout.Layout.{Layout}
 use Rattle.pm_words.specs.declared.action.Action.{Action}
 use Rattle.pm_words.specs.declared.action.Action.TheVariants.{Load, Store}
 use Rattle.pm_words.specs.declared.machine.Turn.{Turn}
 use Rattle.pm_words.specs.declared.machine.Turn.TheVariants.{Go, Done}
 use Rattle.pm_words.specs.Locations.{Cached, address_of, row_words}
+use Rattle.pm_words.specs.Offsets.{anchor_offset, state_offset}
 use Rattle.pm_words.proofs.Apart.{addresses_within}
-use Rattle.call_stages.specs.data_node.specs.Lines.{state_offset}
 use Rattle.version_lock.specs.Versions.{is_worn_word, IsFree}
 use Rattle.version_lock.proofs.WordTests.{free_is}
 use Rattle.call_stages.specs.Kinds.{status_address, version_address, Told}
@@ -68,7 +68,7 @@ use Rattle.updater.specs.Steps.{row_terms, line_of, target_of, release_stage, wo
 use Rattle.updater.specs.Steps.{stage_taken, TakingsAreSteps, WorksStart, WorksAreSteps}
 
 pub takings_are_steps : TakingsAreSteps
-takings_are_steps terms x = elim (x == 0) as (λ b. (x == 0) ≡ b → RowStep terms Resting (taking_asks (taking_from terms.layout)) x (stage_taken (Done (cond b took.Taken (took.Held x))))) [
+takings_are_steps terms x = elim (x == untaken_lock) as (λ b. (x == untaken_lock) ≡ b → RowStep terms Resting (taking_asks (taking_from terms.layout)) x (stage_taken (Done (cond b took.Taken (took.Held x))))) [
   | true ↦ λ e. steps.takes_lock (eqb-true x 0 e)
   | false ↦ λ e. steps.finds_held (eqb-false x 0 e)
 ] refl
@@ -113,10 +113,10 @@ module _ (work : Work) where
   to_node : (s : RowStage) (a : Action) (x node : ℕ) → RowStep r s a x (node_done r node) → RowStep r s a x (work_at_stage t (after_node t node))
   to_node s a x node step = subst (λ next. RowStep r s a x next) (node_after node) step
 
-  at_state : (line x : ℕ) → line < line_count l → RowStep r (Between line) (Load (line_at l line 0)) x (work_at_stage t (saw_state t line x))
-  at_state line x here = elim (x == ready_state) as (λ b. (x == ready_state) ≡ b → RowStep r (Between line) (Load (line_at l line 0)) x (work_at_stage t (cond b (at.Reading (reads_fields l line x)) (after_line t line)))) [
+  at_state : (line x : ℕ) → line < line_count l → RowStep r (Between line) (Load (line_at l line state_offset)) x (work_at_stage t (saw_state t line x))
+  at_state line x here = elim (x == ready_state) as (λ b. (x == ready_state) ≡ b → RowStep r (Between line) (Load (line_at l line state_offset)) x (work_at_stage t (cond b (at.Reading (reads_fields l line x)) (after_line t line)))) [
     | true ↦ λ e. steps.sees (0 ∷ 0 ∷ 0 ∷ 0 ∷ 0 ∷ 0 ∷ 0 ∷ []) here (eqb-true x ready_state e) refl
-    | false ↦ λ e. to_line (Between line) (Load (line_at l line 0)) x line (steps.passes here (eqb-false x ready_state e))
+    | false ↦ λ e. to_line (Between line) (Load (line_at l line state_offset)) x line (steps.passes here (eqb-false x ready_state e))
   ] refl
 
   at_reading : (read : ReadLine) (x : ℕ) → IsReading l read → ToldOfLine l (read_asks read) x → RowStep r (Reads read.line read.offset read.words) (read_asks read) x (work_stage (has_read work read.line (read_turned read x)))
@@ -125,7 +125,7 @@ module _ (work : Work) where
       let s : RowStage = Reads read.line read.offset read.words in
       let here : read.line < line_count l = subst (λ (k : Layout). read.line < 8 * k.callers) is.layout is.sound.line in
       let small : read.offset < 7 = is.sound.offset in
-      let named : read.offset ≡ 3 → x ≢ 0 = λ third. told.named read.line here (ap (λ (k : Layout). Load (numbered_address k read.line read.offset)) is.layout ∙ ap (λ o. Load (numbered_address l read.line o)) third) in
+      let named : read.offset ≡ anchor_offset → x ≢ 0 = λ third. told.named read.line here (ap (λ (k : Layout). Load (numbered_address k read.line read.offset)) is.layout ∙ ap (λ o. Load (numbered_address l read.line o)) third) in
       subst (λ (k : Layout). RowStep r s (Load (numbered_address k read.line read.offset)) x (work_stage (has_read work read.line (read_turned read x)))) (sym is.layout)
       (elim (ltb (read.offset + 1) 7) as (λ b. ltb (read.offset + 1) 7 ≡ b → RowStep r s (Load (line_at l read.line read.offset)) x
       (work_stage (has_read work read.line (cond b (Go (record read { offset = read.offset + 1; words = words })) (Done (seen_in words)))))) [
@@ -191,7 +191,7 @@ module _ (work : Work) where
 
   at_clearing : (k : Layout) (line x : ℕ) → k ≡ l → line < line_count l → RowStep r (Clears line) (Store (numbered_address k line state_offset) empty_state) x (work_at_stage t (after_line t line))
   at_clearing k line x same here = subst (λ (k : Layout). RowStep r (Clears line) (Store (numbered_address k line state_offset) empty_state) x (work_at_stage t (after_line t line))) (sym same)
-      (to_line (Clears line) (Store (line_at l line 0) 0) x line (steps.empties here))
+      (to_line (Clears line) (Store (line_at l line state_offset) 0) x line (steps.empties here))
 
   at_status : (node x : ℕ) → node < l.nodes → RowStep r (Sweeps node) (Load (status_address l node)) x (work_at_stage t (saw_status t node x))
   at_status node x here = elim (x == gone_status) as (λ b. (x == gone_status) ≡ b → RowStep r (Sweeps node) (Load (status_address l node)) x (work_at_stage t (cond b (at.Stamp node) (after_node t node)))) [

@@ -4,6 +4,7 @@ use Rattle.pm_words.specs.declared.layout.Layout.{Layout}
 use Rattle.pm_words.specs.declared.action.Action.{Action}
 use Rattle.pm_words.specs.declared.action.Action.TheVariants.{Load}
 use Rattle.pm_words.specs.Locations.{Location, Node, Line, Volatile, Cached, HasLocation, address_of}
+use Rattle.pm_words.specs.Offsets.{version_offset, next_offset, anchor_offset, status_offset, prev_offset}
 use Rattle.call_stages.specs.Kinds.{Told}
 use Rattle.data_list.specs.declared.walk.Walk.{Walk}
 use Rattle.data_list.specs.declared.walk.WalkAt.{WalkAt}
@@ -31,16 +32,16 @@ beside_node : (l : Layout) (n offset : ℕ) → n < l.nodes → offset < 16 → 
 beside_node l n offset here small = record { location = Volatile n offset; has = (here, small); apart = λ c j o is. cc; loads = refl }
 
 place_at : (l : Layout) (g : ℕ) (key : List ℕ) (node : ℕ) (at : WalkAt) → node < l.nodes → IsWalkAt l g key at → LoadsApart l (walk_at_asks l node at)
-place_at l g key node walk_at.Version here is = of_node l node 0 here (omega arith)
-place_at l g key node (walk_at.Status version) here is = beside_node l node 0 here (omega arith)
-place_at l g key node (walk_at.First version) here is = of_node l node 3 here (omega arith)
-place_at l g key node (walk_at.Second version first) here is = of_node l node 4 here (omega arith)
-place_at l g key node (walk_at.Third version first second) here is = of_node l node 5 here (omega arith)
-place_at l g key node (walk_at.Next version low) here is = of_node l node 2 here (omega arith)
-place_at l g key node (walk_at.HighFirst version low next) here is = of_node l next 3 is.2.within (omega arith)
-place_at l g key node (walk_at.HighSecond version low next first) here is = of_node l next 4 is.2.within (omega arith)
-place_at l g key node (walk_at.HighThird version low next first second) here is = of_node l next 5 is.2.within (omega arith)
-place_at l g key node walk_at.Prev here is = beside_node l node 1 here (omega arith)
+place_at l g key node walk_at.Version here is = of_node l node version_offset here (omega arith)
+place_at l g key node (walk_at.Status version) here is = beside_node l node status_offset here (omega arith)
+place_at l g key node (walk_at.First version) here is = of_node l node anchor_offset here (omega arith)
+place_at l g key node (walk_at.Second version first) here is = of_node l node (anchor_offset + 1) here (omega arith)
+place_at l g key node (walk_at.Third version first second) here is = of_node l node (anchor_offset + 2) here (omega arith)
+place_at l g key node (walk_at.Next version low) here is = of_node l node next_offset here (omega arith)
+place_at l g key node (walk_at.HighFirst version low next) here is = of_node l next anchor_offset is.2.within (omega arith)
+place_at l g key node (walk_at.HighSecond version low next first) here is = of_node l next (anchor_offset + 1) is.2.within (omega arith)
+place_at l g key node (walk_at.HighThird version low next first second) here is = of_node l next (anchor_offset + 2) is.2.within (omega arith)
+place_at l g key node walk_at.Prev here is = beside_node l node prev_offset here (omega arith)
 
 pub walk_place : (walk : Walk) → IsWalk walk → LoadsApart walk.layout (walk_asks walk)
 walk_place walk sound = place_at walk.layout walk.generation walk.key walk.node walk.at sound.node sound.here

@@ -8,6 +8,7 @@ use Rattle.pm_words.specs.declared.action.Action.TheVariants.{Load}
 use Rattle.pm_words.specs.declared.machine.Turn.{Turn}
 use Rattle.pm_words.specs.declared.machine.Turn.TheVariants.{Go, Done}
 use Rattle.pm_words.specs.Locations.{Line, Cached, address_of}
+use Rattle.pm_words.specs.Offsets.{anchor_offset, line_node_offset}
 use Rattle.pm_words.proofs.Apart.{addresses_apart}
 use Rattle.call_stages.specs.Kinds.{Told}
 use Rattle.call_stages.specs.Watches.{Watching, Watch, lets_go}
@@ -181,8 +182,8 @@ keys_have_one_number words = refl
 -- what is told of log lines says nothing of a load elsewhere
 pub none_of_line : (l : Layout) (a : Action) (x : ℕ) → LoadsApart l a → ToldOfLine l a x
 none_of_line l a x place = record {
-  node = λ line within is. absurd (elsewhere line 2 within (omega arith) is);
-  named = λ line within is. absurd (elsewhere line 3 within (omega arith) is);
+  node = λ line within is. absurd (elsewhere line line_node_offset within (omega arith) is);
+  named = λ line within is. absurd (elsewhere line anchor_offset within (omega arith) is);
 }
   where
     elsewhere : (line offset : ℕ) → line < line_count l → offset < 8 → a ≡ Load (numbered_address l line offset) → ⊥

@@ -3,7 +3,7 @@ use Rattle.std.proofs.Common.{◌≡◌, ◌≢◌, ℕ, ◌+◌, ◌^◌, ◌<�
 use Rattle.std.proofs.Common.{inl, inr, refl, sym, subst, ap, ◌∙◌, add-one, arith}
 use Rattle.std.specs.Prelude.{slice_set}
 use Rattle.std.proofs.lemmas.Bool.{cases_eq, eqb-true, eqb-false, eq-eqb, ltb-false, and_from}
-use Rattle.pm_words.specs.Codes.{free_status, gone_status, merge_kind}
+use Rattle.pm_words.specs.Codes.{free_status, gone_status, merge_kind, untaken_lock}
 use Rattle.pm_words.specs.declared.layout.Layout.{Layout}
 use Rattle.pm_words.specs.declared.action.Action.TheVariants.{Store}
 use Rattle.pm_words.specs.declared.machine.Turn.{Turn}
@@ -284,7 +284,7 @@ works_heed work h x takes told heard = heeds_at h work takes.0.terms work.at x t
 pub works_leave : WorksLeave
 works_leave work x turned is = leaves_at work.at is
   where
-    leaves_at : (at : WorkAt) → work_at_turned work at x ≡ Done turned → work_at_asks work.terms at ≡ Store (updater_address work.terms.layout) 0
+    leaves_at : (at : WorkAt) → work_at_turned work at x ≡ Done turned → work_at_asks work.terms at ≡ Store (updater_address work.terms.layout) untaken_lock
     leaves_at (at.State line) is = absurd (cc)
     leaves_at (at.Reading read) is = absurd (cc)
     leaves_at (at.Landing line entry floor) is = absurd (cc)

@@ -9,8 +9,7 @@ use Rattle.pm_words.specs.declared.layout.Layout.{Layout}
 use Rattle.pm_words.specs.declared.action.Action.TheVariants.{Load}
 use Rattle.pm_words.specs.declared.machine.Turn.{Turn}
 use Rattle.pm_words.specs.declared.machine.Turn.TheVariants.{Go, Done}
-use Rattle.call_stages.specs.data_node.specs.Lists.{anchor_offset}
-use Rattle.call_stages.specs.data_node.specs.Lines.{line_node_offset}
+use Rattle.pm_words.specs.Offsets.{anchor_offset, line_node_offset, left_offset}
 use Rattle.version_lock.specs.Versions.{is_worn_word}
 use Rattle.call_stages.specs.Kinds.{Told}
 use Rattle.data_list.specs.declared.target.Walked.{Walked}
@@ -177,7 +176,7 @@ module _ (work : Work) (terms : IsTerms work.terms) where
     first_some small = set_has (λ n. n ≢ 0) read.words read.offset x anchor_offset inside
         (λ here. told.named read.line within (asked ∙ ap (λ o. Load (numbered_address l read.line o)) here)) is.named small
 
-    entry_known : read.offset ≡ 6 → IsEntry l (seen_in words).entry
+    entry_known : read.offset ≡ left_offset → IsEntry l (seen_in words).entry
     entry_known last = record {
       node = node_within (omega arith);
       key = record { whole = refl; fits = λ k. three_fit (slice_index words anchor_offset) (slice_index words (anchor_offset + 1)) (slice_index words (anchor_offset + 2)) k (words_fit anchor_offset) (words_fit (anchor_offset + 1)) (words_fit (anchor_offset + 2)) };

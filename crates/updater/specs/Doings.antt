@@ -2,8 +2,8 @@
 use Rattle.std.specs.Prelude.{◌≡◌, ℕ, ◌<◌, true}
 use Rattle.pm_words.specs.declared.action.Action.{Action}
 use Rattle.pm_words.specs.declared.action.Action.TheVariants.{Load, Store}
-use Rattle.pm_words.specs.Codes.{empty_state, merge_kind}
-use Rattle.call_stages.specs.data_node.specs.Lines.{state_offset}
+use Rattle.pm_words.specs.Codes.{empty_state, merge_kind, untaken_lock}
+use Rattle.pm_words.specs.Offsets.{state_offset}
 use Rattle.call_stages.specs.Kinds.{status_address}
 use Rattle.pm_alloc.specs.Gone.{stamp_address}
 use Rattle.updater_row_law.specs.tree_update.specs.declared.change.Change.{Change}
@@ -32,7 +32,7 @@ pub data Does (terms : Terms) (h : Heard) : Action → Type 0 where
       Does terms h (Store (stamp_address terms.layout node) 0)
   frees : {node : ℕ} → node < terms.layout.nodes → is_freed terms h node ≡ true →
       Does terms h (Store (status_address terms.layout node) 0)
-  gives_back : Does terms h (Store (updater_address terms.layout) 0)
+  gives_back : Does terms h (Store (updater_address terms.layout) untaken_lock)
 
 -- So it is of each action of a turn that was told these.
 abbrev pub WorksDo : Type 0

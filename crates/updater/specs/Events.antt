@@ -1,7 +1,7 @@
 -- What a turn of the updater answers, by what it was told.
 use Rattle.std.specs.Prelude.{◌≡◌, ◌≢◌, ℕ, zero, suc, ◌+◌, ◌<◌, ◌==◌, ◌&&◌, ◌↔◌, not, nat_le, Bool, true, false}
 use Rattle.std.specs.Prelude.{if◌then◌else◌}
-use Rattle.pm_words.specs.Codes.{free_status, gone_status, ready_state, merge_kind}
+use Rattle.pm_words.specs.Codes.{free_status, gone_status, ready_state, merge_kind, untaken_lock}
 use Rattle.pm_words.specs.declared.layout.Layout.{Layout}
 use Rattle.pm_words.specs.declared.action.Action.TheVariants.{Store}
 use Rattle.pm_words.specs.declared.machine.Turn.{Turn}
@@ -169,4 +169,4 @@ WorksHeed = (work : Work) (h : Heard) (x : ℕ) → work_takes work x → IsTold
 -- A turn is done with the store that gives back the updater lock.
 abbrev pub WorksLeave : Type 0
 WorksLeave = (work : Work) (x : ℕ) (turned : Turned) → work_turned work x ≡ Done turned →
-    work_asks work ≡ Store (updater_address work.terms.layout) 0
+    work_asks work ≡ Store (updater_address work.terms.layout) untaken_lock

@@ -4,6 +4,7 @@ use Rattle.pm_words.specs.declared.layout.Layout.{Layout}
 use Rattle.pm_words.specs.declared.action.Action.{Action}
 use Rattle.pm_words.specs.declared.machine.Turn.{Turn}
 use Rattle.pm_words.specs.declared.machine.Turn.TheVariants.{Go, Done}
+use Rattle.pm_words.specs.Codes.{untaken_lock}
 use Rattle.call_stages.specs.Watches.{Nothing}
 use Rattle.updater_row_law.specs.RowStages.{Resting}
 use Rattle.updater_row_law.specs.Turnings.{Turning, TurnFoot}
@@ -14,7 +15,7 @@ use Rattle.updater.specs.declared.making.TurnReply.TheVariants as reply
 use Rattle.updater.specs.declared.terms.Terms.{Terms}
 use Rattle.updater.specs.declared.terms.Turned.{Turned}
 use Rattle.updater.specs.declared.work.Work.{Work}
-use Rattle.updater.specs.Takings.{untaken, taking_from, taking_asks}
+use Rattle.updater.specs.Takings.{taking_from, taking_asks}
 use Rattle.updater.specs.Works.{IsTerms, IsWork, work_from, work_asks, work_turned, work_left, work_takes}
 use Rattle.updater.specs.Steps.{row_terms}
 use Rattle.updater.specs.Watches.{turning_at, work_turning}
@@ -35,7 +36,7 @@ making_asks (Working work) = work_asks work
 -- it works if it found this word, that of a lock which no party has
 abbrev pub lock_found : Terms → ℕ → Turn MakeTurn TurnReply
 lock_found terms word =
-    if word == untaken then Go (Working (work_from terms.layout terms.generation terms.stamp terms.release))
+    if word == untaken_lock then Go (Working (work_from terms.layout terms.generation terms.stamp terms.release))
     else Done (reply.Held word)
 
 abbrev pub worked : Turn Work Turned → Turn MakeTurn TurnReply

@@ -1,5 +1,6 @@
 -- The exchange of the updater lock.
 use Rattle.std.specs.Prelude.{◌≡◌, ◌≢◌, ℕ, ◌^◌, ◌<◌, ◌==◌, if◌then◌else◌}
+use Rattle.pm_words.specs.Codes.{untaken_lock, taken_lock}
 use Rattle.pm_words.specs.declared.layout.Layout.{Layout}
 use Rattle.pm_words.specs.declared.action.Action.{Action}
 use Rattle.pm_words.specs.declared.action.Action.TheVariants.{Exchange}
@@ -11,25 +12,19 @@ use Rattle.updater.specs.declared.taking.Took.{Took}
 use Rattle.updater.specs.declared.taking.Took.TheVariants.{Taken, Held}
 use Rattle.updater.specs.declared.taking.TakeTurn.{TakeTurn}
 
--- the address of the updater lock, its word while no party has it, and while one has
+-- the address of the updater lock
 abbrev pub updater_address : Layout → ℕ
 updater_address l = address_of l Updater
-
-abbrev pub untaken : ℕ
-untaken = 0
-
-abbrev pub taken : ℕ
-taken = 1
 
 abbrev pub taking_from : Layout → TakeTurn
 taking_from layout = record { layout = layout }
 
 abbrev pub taking_asks : TakeTurn → Action
-taking_asks take = Exchange (updater_address take.layout) untaken taken
+taking_asks take = Exchange (updater_address take.layout) untaken_lock taken_lock
 
 -- what it answers where it found this word
 abbrev pub took_of : ℕ → Took
-took_of word = if word == untaken then Taken else Held word
+took_of word = if word == untaken_lock then Taken else Held word
 
 abbrev pub taking_turned : TakeTurn → ℕ → Turn TakeTurn Took
 taking_turned take got = Done (took_of got)
@@ -47,8 +42,8 @@ taking_left take = 1
 -- What it answers, by the word that its exchange found: that the lock is taken, exactly where no party had it; else the
 -- word, which is another.
 abbrev pub TellsFound : ℕ → Turn TakeTurn Took → Type 0
-TellsFound found (Done Taken) = found ≡ untaken
-TellsFound found (Done (Held word)) = (word ≡ found) × (found ≢ untaken)
+TellsFound found (Done Taken) = found ≡ untaken_lock
+TellsFound found (Done (Held word)) = (word ≡ found) × (found ≢ untaken_lock)
 TellsFound found _ = ⊥
 
 -- So it is of each attempt, whatever it is told.

@@ -8,8 +8,7 @@ use Rattle.pm_words.specs.declared.action.Action.TheVariants.{Load, Store}
 use Rattle.pm_words.specs.declared.machine.Turn.{Turn}
 use Rattle.pm_words.specs.declared.machine.Turn.TheVariants.{Go, Done}
 use Rattle.pm_words.specs.Layouts.{IsLayout}
-use Rattle.call_stages.specs.data_node.specs.Lists.{anchor_offset}
-use Rattle.call_stages.specs.data_node.specs.Lines.{line_node_offset}
+use Rattle.pm_words.specs.Offsets.{anchor_offset, line_node_offset}
 use Rattle.version_lock.specs.Versions.{is_worn_word}
 use Rattle.call_stages.specs.Kinds.{version_address, status_address, Told}
 use Rattle.data_list.specs.declared.target.Target.{Target}

@@ -41,7 +41,7 @@ not_two : (f : TurnFacts) (j i x : ℕ) → f.line.state j ≡ x → x ≢ 2 →
 not_two f j i x is ne ready same = ne (sym is ∙ ap f.line.state (sym same) ∙ ready)
 
 -- a state that isn't ready or empty yet becomes open or ready
-state_lines : (f : TurnFacts) (j x y : ℕ) → f.line.state j ≡ x → x ≢ 2 → y ≢ 0 → ((y ≡ 2) → f.line.kind j ≡ merge_kind → f.held (f.line.node j) ≡ true)
+state_lines : (f : TurnFacts) (j x y : ℕ) → f.line.state j ≡ x → x ≢ ready_state → y ≢ empty_state → ((y ≡ ready_state) → f.line.kind j ≡ merge_kind → f.held (f.line.node j) ≡ true)
     → KeptLines f (record f { line = record (f.line) { state = set_at f.line.state j y } })
 state_lines f j x y is ne some_state held = record {
   state = λ i ready. other f.line.state j i y (not_two f j i x is ne ready) ∙ ready;

@@ -7,8 +7,7 @@ use Rattle.pm_words.specs.Locations.{Location, Cached, Volatile, Updater, Node, 
 use Rattle.pm_words.specs.Rows.{IsRow, CanAct, IsOutsideHeader}
 use Rattle.pm_words.proofs.Apart.{addresses_within}
 use Rattle.pm_words.proofs.Kept.{outside_header}
-use Rattle.pm_words.specs.Offsets.{stamp_offset, status_offset, version_offset}
-use Rattle.call_stages.specs.data_node.specs.Lines.{state_offset}
+use Rattle.pm_words.specs.Offsets.{version_offset, state_offset, status_offset, stamp_offset}
 use Rattle.search_layer.proofs.StepLaw.{step_can_act}
 use Rattle.updater_row_law.specs.Columns.{RowTerms, Ghosts, line_count, line_word}
 use Rattle.updater_row_law.specs.RowStages.{aim_of, RowStage}
@@ -27,7 +26,7 @@ module _ (l : Layout) (words : List ℕ) where
       let has : HasLocation l (Volatile n o) = (here, small) in
       ((addresses_within l (Volatile n o) has, outside_header l (Volatile n o) has (λ k lt. (λ e. cc, λ e. cc))), fits)
 
-  stores_state : (j : ℕ) → j < line_count l → CanAct l words (Store (line_at l j 0) 0)
+  stores_state : (j : ℕ) → j < line_count l → CanAct l words (Store (line_at l j state_offset) 0)
   stores_state j here =
       let has : HasLocation l (Cached (line_word state_offset j)) = (omega arith, omega arith, omega arith) in
       ((addresses_within l (Cached (line_word state_offset j)) has, outside_header l (Cached (line_word state_offset j)) has (λ k lt. (λ e. cc, λ e. cc))), omega arith)
@@ -49,7 +48,7 @@ can r ghosts words row stamp is (loses {target = target} moved) = loads r.layout
 can r ghosts words row stamp is (decides {target = target} same) = loads r.layout words (Cached (Node target.node version_offset)) (is.sure.1.within, omega arith)
 can r ghosts words row stamp is (changes {e = e} {word = word} {x = x} {s = s} {t = t} {a = a} step) = step_can_act r.layout (aim_of e word) words s a x t step
 can r ghosts words row stamp is (has_changed {e = e} {word = word} {x = x} {s = s} {a = a} step) = step_can_act r.layout (aim_of e word) words s a x _ step
-can r ghosts words row stamp is (stamps {e = e} here) = stores_volatile r.layout words e.node 2 r.stamp here (omega arith) stamp
+can r ghosts words row stamp is (stamps {e = e} here) = stores_volatile r.layout words e.node stamp_offset r.stamp here (omega arith) stamp
 can r ghosts words row stamp is (empties {j = j} here) = stores_state r.layout words j here
 can r ghosts words row stamp is (passes_node {n = n} here other_status) = loads r.layout words (Volatile n status_offset) (here, omega arith)
 can r ghosts words row stamp is (sees_gone {n = n} here gone) = loads r.layout words (Volatile n status_offset) (here, omega arith)
@@ -57,7 +56,7 @@ can r ghosts words row stamp is (passes_stamp {n = n} here why) = loads r.layout
 can r ghosts words row stamp is (sees_stamp {n = n} here some_stamp at_most) = loads r.layout words (Volatile n stamp_offset) (here, omega arith)
 can r ghosts words row stamp is (passes_worn {n = n} here worn) = loads r.layout words (Cached (Node n version_offset)) (here, omega arith)
 can r ghosts words row stamp is (sees_unworn {n = n} here unworn) = loads r.layout words (Cached (Node n version_offset)) (here, omega arith)
-can r ghosts words row stamp is (unstamps {n = n} here) = stores_volatile r.layout words n 2 0 here (omega arith) (omega arith)
+can r ghosts words row stamp is (unstamps {n = n} here) = stores_volatile r.layout words n stamp_offset 0 here (omega arith) (omega arith)
 can r ghosts words row stamp is (frees {n = n} here) = stores_volatile r.layout words n 0 0 here (omega arith) (omega arith)
 can r ghosts words row stamp is (counts {n = n} here) = loads r.layout words (Volatile n status_offset) (here, omega arith)
 can r ghosts words row stamp is (leaves_lock done) = ((addresses_within r.layout Updater tt, lock_outside r.layout), omega arith)

@@ -6,7 +6,7 @@ use Rattle.pm_words.specs.declared.layout.Layout.{Layout}
 use Rattle.pm_words.specs.Locations.{Word, Location, Node, Cached, Durable, Volatile, HasWord, word_number, address_of, row_words, image_words, cached_address, durable_address, at}
 use Rattle.pm_words.specs.Rows.{evicted}
 use Rattle.pm_words.proofs.Apart.{words_within}
-use Rattle.pm_words.specs.Offsets.{version_offset}
+use Rattle.pm_words.specs.Offsets.{version_offset, anchor_offset}
 use Rattle.version_lock.specs.Versions.{is_free_word, is_worn_word}
 use Rattle.layer_map.specs.Layers.{Layer, AreSame}
 use Rattle.layer_map.specs.Keys.{key_of, key_number}
@@ -29,7 +29,6 @@ use Rattle.updater_row_law.specs.Columns.{RowTerms, Ghosts, line_count, line_wor
 use Rattle.updater_row_law.specs.RowStages.{RowLine, RowTarget, aim_of, RowStage, Resting, Between, Reads, Lands, HasTarget, Changes, Stamps, Clears, Sweeps, Gone, HasStamp, IsUnworn, Frees, Counts, reading_stage, turn_stage}
 use Rattle.updater_row_law.specs.RowLaw.{LayerRests, HasLoaded, IsTargetFor, SureRow, RowLawful, EvictionKeepsTurn}
 use Rattle.updater_row_law.proofs.RowColumns.{column-here, column-alike, column-same, column_fits}
-use Rattle.call_stages.specs.data_node.specs.Lists.{anchor_offset}
 use Rattle.updater_row_law.proofs.RowChanges.{mix_but}
 
 module _ (l : Layout) (words : List ℕ) (word : ℕ) (whole : length words ≡ row_words l) (within : word < image_words l) where
@@ -99,8 +98,8 @@ module _ (r : RowTerms) (ghosts : Ghosts) (words : List ℕ) (word : ℕ) (whole
         (line_field l words Durable anchor_offset j) (line_field l words Durable (anchor_offset + 1) j) (line_field l words Durable (anchor_offset + 2) j)
         (line_field l words Cached anchor_offset j) (line_field l words Cached (anchor_offset + 1) j) (line_field l words Cached (anchor_offset + 2) j)
         (fit (λ w. Durable w) 4) (fit (λ w. Durable w) 5) (fit (λ w. Cached w) 4) (fit (λ w. Cached w) 5) same in
-        ap₂ (λ a b. key_of a b (line_field l after Durable (anchor_offset + 2) j)) (anchor_either 3 j (omega arith) told.first) (anchor_either 4 j (omega arith) told.second)
-        ∙ ap (λ c. key_of (line_field l words Cached anchor_offset j) (line_field l words Cached (anchor_offset + 1) j) c) (anchor_either 5 j (omega arith) told.third);
+        ap₂ (λ a b. key_of a b (line_field l after Durable (anchor_offset + 2) j)) (anchor_either anchor_offset j (omega arith) told.first) (anchor_either (anchor_offset + 1) j (omega arith) told.second)
+        ∙ ap (λ c. key_of (line_field l words Cached anchor_offset j) (line_field l words Cached (anchor_offset + 1) j) c) (anchor_either (anchor_offset + 2) j (omega arith) told.third);
   }
 
   anchor_path : (facts_in r ghosts after).anchor ≡ f.anchor

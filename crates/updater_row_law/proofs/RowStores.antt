@@ -1,11 +1,11 @@
 -- What the stores of a turn make of the facts.
-use Rattle.std.proofs.Common.{◌≡◌, ◌≢◌, ℕ, ◌/◌, ◌%◌, ◌<◌, not, List, length, slice_set, refl, ap, ◌∙◌, arith}
+use Rattle.std.proofs.Common.{◌≡◌, ◌≢◌, ℕ, ◌+◌, ◌/◌, ◌%◌, ◌<◌, not, List, length, slice_set, refl, ap, ◌∙◌, arith}
 use Rattle.pm_words.specs.declared.layout.Layout.{Layout}
 use Rattle.pm_words.specs.Locations.{Location, Node, Line, Cached, Durable, Volatile, Updater, HasLocation, address_of, row_words}
 use Rattle.pm_words.proofs.Apart.{at-set_other}
-use Rattle.pm_words.specs.Offsets.{stamp_offset, status_offset}
+use Rattle.pm_words.specs.Offsets.{version_offset, anchor_offset, state_offset, kind_offset, line_node_offset}
+use Rattle.pm_words.specs.Offsets.{status_offset, stamp_offset}
 use Rattle.pm_words.specs.Codes.{empty_state}
-use Rattle.call_stages.specs.data_node.specs.Lines.{state_offset}
 use Rattle.version_lock.specs.Versions.{is_free_word, is_worn_word}
 use Rattle.layer_map.specs.Keys.{key_of}
 use Rattle.search_layer.specs.Rows.{layer_words, KeepsOthers, HasSameLayer}
@@ -34,21 +34,21 @@ pub facts_path : (r : RowTerms) (ghosts : Ghosts) (words words' : List ℕ) (sta
       safe_layer = kept r.layout (layer_words r.layout words' Durable);
     }
 facts_path r ghosts words words' status stamp state rest is_status is_stamp is_state =
-    let n0 = rest.node 0 (omega arith) in
-    let n3 = rest.node 3 (omega arith) in
-    let n4 = rest.node 4 (omega arith) in
-    let n5 = rest.node 5 (omega arith) in
-    let l1 = rest.line 1 (omega arith) (omega arith) in
-    let l2 = rest.line 2 (omega arith) (omega arith) in
-    let l3 = rest.line 3 (omega arith) (omega arith) in
-    let l4 = rest.line 4 (omega arith) (omega arith) in
-    let l5 = rest.line 5 (omega arith) (omega arith) in
-    let s0 = rest.safe 0 (omega arith) in
-    let s1 = rest.safe 1 (omega arith) in
-    let s2 = rest.safe 2 (omega arith) in
-    let s3 = rest.safe 3 (omega arith) in
-    let s4 = rest.safe 4 (omega arith) in
-    let s5 = rest.safe 5 (omega arith) in
+    let n0 = rest.node version_offset (omega arith) in
+    let n3 = rest.node anchor_offset (omega arith) in
+    let n4 = rest.node (anchor_offset + 1) (omega arith) in
+    let n5 = rest.node (anchor_offset + 2) (omega arith) in
+    let l1 = rest.line kind_offset (omega arith) (omega arith) in
+    let l2 = rest.line line_node_offset (omega arith) (omega arith) in
+    let l3 = rest.line anchor_offset (omega arith) (omega arith) in
+    let l4 = rest.line (anchor_offset + 1) (omega arith) (omega arith) in
+    let l5 = rest.line (anchor_offset + 2) (omega arith) (omega arith) in
+    let s0 = rest.safe state_offset (omega arith) in
+    let s1 = rest.safe kind_offset (omega arith) in
+    let s2 = rest.safe line_node_offset (omega arith) in
+    let s3 = rest.safe anchor_offset (omega arith) in
+    let s4 = rest.safe (anchor_offset + 1) (omega arith) in
+    let s5 = rest.safe (anchor_offset + 2) (omega arith) in
     λ i. record {
       listed = ghosts.listed;
       anchor = λ n. key_of (n3 i n) (n4 i n) (n5 i n);
@@ -88,7 +88,7 @@ pub layer_facts : (r : RowTerms) (ghosts : Ghosts) (words words' : List ℕ) →
 layer_facts r ghosts words words' same =
     let l : Layout = r.layout in
     facts_path r ghosts words words' (volatile_field l words status_offset) (volatile_field l words stamp_offset) (line_field l words Cached state_offset) (rest_stays l words words' same)
-    (volatile_stays l words words' same 0 (omega arith)) (volatile_stays l words words' same 2 (omega arith)) (line_stays l words words' same 0 (omega arith))
+    (volatile_stays l words words' same status_offset (omega arith)) (volatile_stays l words words' same stamp_offset (omega arith)) (line_stays l words words' same state_offset (omega arith))
 
 -- the node and the offset that a location of a volatile word names
 abbrev node_at : Location → ℕ
@@ -162,7 +162,7 @@ module _ (r : RowTerms) (ghosts : Ghosts) (words : List ℕ) where
   lock_stored y = beside r ghosts words (stored Updater y) f.status f.stamp f.line.state
       (layer_words_stay l words Updater y tt refl)
       (rest_kept l words Updater y tt (λ n o e. cc) (λ j o some e. cc) (λ j o e. cc))
-      (volatile_kept l words Updater y tt 0 (omega arith) (λ n e. cc)) (volatile_kept l words Updater y tt 2 (omega arith) (λ n e. cc)) (state_kept l words Updater y tt (λ j e. cc))
+      (volatile_kept l words Updater y tt status_offset (omega arith) (λ n e. cc)) (volatile_kept l words Updater y tt stamp_offset (omega arith) (λ n e. cc)) (state_kept l words Updater y tt (λ j e. cc))
 
   pub stamp_stored : (n y : ℕ) → length words ≡ row_words l → n < l.nodes → Beside r ghosts words (stored (Volatile n stamp_offset) y) (record f { stamp = set_at f.stamp n y })
   stamp_stored n y whole lt =
@@ -171,7 +171,7 @@ module _ (r : RowTerms) (ghosts : Ghosts) (words : List ℕ) where
       beside r ghosts words (stored p y) f.status (set_at f.stamp n y) f.line.state
       (layer_words_stay l words p y has refl)
       (rest_kept l words p y has (λ m o e. cc) (λ j o some e. cc) (λ j o e. cc))
-      (volatile_kept l words p y has 0 (omega arith) (λ m e. let no_way = ap volatile_at e in omega arith))
+      (volatile_kept l words p y has status_offset (omega arith) (λ m e. let no_way = ap volatile_at e in omega arith))
       (column-set l words p y has l.nodes (λ m. Volatile m stamp_offset) n whole lt refl (λ m lt. (lt, omega arith)) (λ m lt e. ap node_at e))
       (state_kept l words p y has (λ j e. cc))
 
@@ -183,7 +183,7 @@ module _ (r : RowTerms) (ghosts : Ghosts) (words : List ℕ) where
       (layer_words_stay l words p y has refl)
       (rest_kept l words p y has (λ m o e. cc) (λ j o some e. cc) (λ j o e. cc))
       (column-set l words p y has l.nodes (λ m. Volatile m status_offset) n whole lt refl (λ m lt. (lt, omega arith)) (λ m lt e. ap node_at e))
-      (volatile_kept l words p y has 2 (omega arith) (λ m e. let no_way = ap volatile_at e in omega arith))
+      (volatile_kept l words p y has stamp_offset (omega arith) (λ m e. let no_way = ap volatile_at e in omega arith))
       (state_kept l words p y has (λ j e. cc))
 
   pub line_emptied : (j : ℕ) → length words ≡ row_words l → j < line_count l → Beside r ghosts words (stored (Cached (line_word state_offset j)) 0) (emptied f j)
@@ -193,6 +193,6 @@ module _ (r : RowTerms) (ghosts : Ghosts) (words : List ℕ) where
       beside r ghosts words (stored p 0) f.status f.stamp (set_at f.line.state j empty_state)
       (layer_words_stay l words p 0 has refl)
       (rest_kept l words p 0 has (λ m o e. cc) (λ i o some e. let same : o ≡ 0 = ap offset_at e in omega arith) (λ i o e. cc))
-      (volatile_kept l words p 0 has 0 (omega arith) (λ m e. cc)) (volatile_kept l words p 0 has 2 (omega arith) (λ m e. cc))
+      (volatile_kept l words p 0 has status_offset (omega arith) (λ m e. cc)) (volatile_kept l words p 0 has stamp_offset (omega arith) (λ m e. cc))
       (column-set l words p 0 has (line_count l) (λ i. Cached (line_word state_offset i)) j whole lt refl (λ i lt'. (omega arith, omega arith, omega arith))
       (λ i lt' e. let a : i / 8 ≡ j / 8 = ap caller_at e in let b : i % 8 ≡ j % 8 = ap index_at e in omega arith))

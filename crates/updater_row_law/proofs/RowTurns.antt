@@ -4,15 +4,14 @@ use Rattle.std.specs.Prelude.{nat_lt}
 use Rattle.std.proofs.Math.ListN.{length-set}
 use Rattle.std.proofs.lemmas.Bool.{cases_eq, eq-eqb, ne_eqb, eqb-true, eqb-false, ltb-false, and_right}
 use Rattle.std.proofs.lemmas.List.{set-get_or, get_or-set_same, get_or-set_other}
-use Rattle.pm_words.specs.Codes.{merge_kind, free_status}
+use Rattle.pm_words.specs.Codes.{merge_kind, free_status, taken_lock, untaken_lock}
 use Rattle.pm_words.specs.declared.layout.Layout.{Layout}
 use Rattle.pm_words.specs.declared.action.Action.{Action}
 use Rattle.pm_words.specs.declared.action.Action.TheVariants.{Load}
 use Rattle.pm_words.specs.Locations.{Location, Node, Cached, Durable, Volatile, Updater, address_of}
 use Rattle.pm_words.specs.Rows.{IsRow, acted, got}
-use Rattle.pm_words.specs.Offsets.{stamp_offset, status_offset, version_offset}
-use Rattle.call_stages.specs.data_node.specs.Lists.{anchor_offset}
-use Rattle.call_stages.specs.data_node.specs.Lines.{left_offset, state_offset, kind_offset, line_node_offset}
+use Rattle.pm_words.specs.Offsets.{version_offset, anchor_offset, state_offset, kind_offset, line_node_offset}
+use Rattle.pm_words.specs.Offsets.{left_offset, status_offset, stamp_offset}
 use Rattle.version_lock.specs.Versions.{is_free_word, is_worn_word}
 use Rattle.layer_map.specs.Layers.{Layer, AreSame, node_of}
 use Rattle.layer_map.specs.Keys.{IsKey, key_of, key_number}
@@ -91,15 +90,15 @@ loaded_at r words j offset x seen is told k lt = elim (cases_eq k offset) [
 ]
 
 -- the first word of the anchor isn't 0, once it is read
-name_stays : (r : RowTerms) (words : List ℕ) (j offset x : ℕ) (seen : List ℕ) → HasLoaded r words j offset seen → 3 < suc offset → (offset ≡ 3 → x ≢ 0) → slice_index (slice_set seen offset x) anchor_offset ≢ 0
-name_stays r words j offset x seen is past named = elim (cases_eq offset 3) [
+name_stays : (r : RowTerms) (words : List ℕ) (j offset x : ℕ) (seen : List ℕ) → HasLoaded r words j offset seen → 3 < suc offset → (offset ≡ anchor_offset → x ≢ 0) → slice_index (slice_set seen offset x) anchor_offset ≢ 0
+name_stays r words j offset x seen is past named = elim (cases_eq offset anchor_offset) [
   | inl third ↦ λ none.
       let fits : offset < length seen = (let most = is.most in let size = is.size in omega arith) in
       named third (sym (get_or-set_same seen offset x 0 fits) ∙ ap (slice_index (slice_set seen offset x)) third ∙ none)
-  | inr other ↦ λ none. is.named (omega (arith, other)) (sym (get_or-set_other seen offset 3 x 0 (λ e. other (sym e))) ∙ none)
+  | inr other ↦ λ none. is.named (omega (arith, other)) (sym (get_or-set_other seen offset anchor_offset x 0 (λ e. other (sym e))) ∙ none)
 ]
 
-loaded_more : (r : RowTerms) (words : List ℕ) (j offset x : ℕ) (seen : List ℕ) → HasLoaded r words j offset seen → offset < 6 → line_field r.layout words Cached offset j ≡ x → (offset ≡ 3 → x ≢ 0) → HasLoaded r words j (suc offset) (slice_set seen offset x)
+loaded_more : (r : RowTerms) (words : List ℕ) (j offset x : ℕ) (seen : List ℕ) → HasLoaded r words j offset seen → offset < 6 → line_field r.layout words Cached offset j ≡ x → (offset ≡ anchor_offset → x ≢ 0) → HasLoaded r words j (suc offset) (slice_set seen offset x)
 loaded_more r words j offset x seen is small told named = record {
   size = length-set seen offset x ∙ is.size;
   most = omega arith;
@@ -175,18 +174,18 @@ key_read r words j seen row same = record { whole = refl; fits = fits }
     fits (suc (suc (suc k))) = omega arith
 
 -- one word more of a line that is read
-read_more : (r : RowTerms) (ghosts : Ghosts) (words : List ℕ) (j offset x : ℕ) (seen : List ℕ) → 1 ≤ offset → offset < 6 → line_field r.layout words Cached offset j ≡ x → (offset ≡ 3 → x ≢ 0)
+read_more : (r : RowTerms) (ghosts : Ghosts) (words : List ℕ) (j offset x : ℕ) (seen : List ℕ) → 1 ≤ offset → offset < 6 → line_field r.layout words Cached offset j ≡ x → (offset ≡ anchor_offset → x ≢ 0)
     → RowLawful r ghosts words (Reads j offset seen) → RowLawful r ghosts words (Reads j (suc offset) (slice_set seen offset x))
 read_more r ghosts words j zero x seen some small told named is = absurd (omega arith)
 read_more r ghosts words j (suc zero) x seen some small told named is =
-    let more = loaded_more r words j 1 x seen is.sure.0 small told named in
-    look r ghosts words (Reads j 1 seen) (Reads j 2 (slice_set seen 1 x)) is (more, is.sure.1)
+    let more = loaded_more r words j kind_offset x seen is.sure.0 small told named in
+    look r ghosts words (Reads j kind_offset seen) (Reads j line_node_offset (slice_set seen kind_offset x)) is (more, is.sure.1)
     (subst (λ k. TurnStep (terms_of r) (facts_in r ghosts words) (turns.Sees j) (facts_in r ghosts words) (turns.SeesKind j k)) (more.same kind_offset (omega arith)) (steps.sees_kind j))
 read_more r ghosts words j (suc (suc zero)) x seen some small told named is =
-    let more = loaded_more r words j 2 x seen is.sure.0 small told named in
-    let kind : slice_index seen kind_offset ≡ slice_index (slice_set seen 2 x) kind_offset = sym (is.sure.0.same kind_offset (omega arith)) ∙ more.same kind_offset (omega arith) in
-    look r ghosts words (Reads j 2 seen) (Reads j 3 (slice_set seen 2 x)) is (more, is.sure.1)
-    (subst (λ k. TurnStep (terms_of r) (facts_in r ghosts words) (turns.SeesKind j (slice_index seen kind_offset)) (facts_in r ghosts words) (turns.SeesNode j k (slice_index (slice_set seen 2 x) line_node_offset))) kind
+    let more = loaded_more r words j line_node_offset x seen is.sure.0 small told named in
+    let kind : slice_index seen kind_offset ≡ slice_index (slice_set seen line_node_offset x) kind_offset = sym (is.sure.0.same kind_offset (omega arith)) ∙ more.same kind_offset (omega arith) in
+    look r ghosts words (Reads j line_node_offset seen) (Reads j anchor_offset (slice_set seen line_node_offset x)) is (more, is.sure.1)
+    (subst (λ k. TurnStep (terms_of r) (facts_in r ghosts words) (turns.SeesKind j (slice_index seen kind_offset)) (facts_in r ghosts words) (turns.SeesNode j k (slice_index (slice_set seen line_node_offset x) line_node_offset))) kind
     (subst (λ k. TurnStep (terms_of r) (facts_in r ghosts words) (turns.SeesKind j (slice_index seen kind_offset)) (facts_in r ghosts words) (turns.SeesNode j (slice_index seen kind_offset) k)) (more.same line_node_offset (omega arith))
     (steps.sees_node j (slice_index seen kind_offset))))
 read_more r ghosts words j (suc (suc (suc k))) x seen some small told named is =
@@ -202,10 +201,10 @@ first_zero a b d none = omega arith
 
 -- the line is read
 all_read : (r : RowTerms) (ghosts : Ghosts) (words : List ℕ) (row : IsRow r.layout words) (j x : ℕ) (seen : List ℕ) → line_field r.layout words Cached left_offset j ≡ x
-    → RowLawful r ghosts words (Reads j 6 seen) → RowLawful r ghosts words (Lands (line_read j (slice_set seen 6 x)))
+    → RowLawful r ghosts words (Reads j left_offset seen) → RowLawful r ghosts words (Lands (line_read j (slice_set seen left_offset x)))
 all_read r ghosts words row j x seen told is =
-    let after : List ℕ = slice_set seen 6 x in
-    let same : (k : ℕ) → k < 7 → line_field r.layout words Cached k j ≡ slice_index after k = λ k lt. loaded_at r words j 6 x seen is.sure.0 told k lt in
+    let after : List ℕ = slice_set seen left_offset x in
+    let same : (k : ℕ) → k < 7 → line_field r.layout words Cached k j ≡ slice_index after k = λ k lt. loaded_at r words j left_offset x seen is.sure.0 told k lt in
     let f : TurnFacts = facts_in r ghosts words in
     let kind : slice_index seen kind_offset ≡ slice_index after kind_offset = sym (is.sure.0.same kind_offset (omega arith)) ∙ same kind_offset (omega arith) in
     let node : slice_index seen line_node_offset ≡ slice_index after line_node_offset = sym (is.sure.0.same line_node_offset (omega arith)) ∙ same line_node_offset (omega arith) in
@@ -213,11 +212,11 @@ all_read r ghosts words row j x seen told is =
     ap (λ a. key_of a (line_field r.layout words Cached (anchor_offset + 1) j) (line_field r.layout words Cached (anchor_offset + 2) j)) (same anchor_offset (omega arith))
     ∙ ap (λ a. key_of (slice_index after anchor_offset) a (line_field r.layout words Cached (anchor_offset + 2) j)) (same (anchor_offset + 1) (omega arith))
     ∙ ap (λ a. key_of (slice_index after anchor_offset) (slice_index after (anchor_offset + 1)) a) (same (anchor_offset + 2) (omega arith)) in
-    let named : slice_index after anchor_offset ≢ 0 = name_stays r words j 6 x seen is.sure.0 (omega arith) (λ e. absurd (omega arith)) in
+    let named : slice_index after anchor_offset ≢ 0 = name_stays r words j left_offset x seen is.sure.0 (omega arith) (λ e. absurd (omega arith)) in
     let anchor_some : key_number (line_read j after).anchor ≢ 0 = λ none. named (first_zero (slice_index after anchor_offset) (slice_index after (anchor_offset + 1)) (slice_index after (anchor_offset + 2)) none) in
     let stage : turns.Lands (record { line = j; kind = slice_index seen kind_offset; node = slice_index seen line_node_offset; anchor = f.line.anchor j }) ≡ turns.Lands (entry_of (line_read j after)) =
     λ i. turns.Lands (record { line = j; kind = kind i; node = node i; anchor = anchor i }) in
-    look r ghosts words (Reads j 6 seen) (Lands (line_read j after)) is (record { key = key_read r words j after row same; some = anchor_some }, is.sure.1)
+    look r ghosts words (Reads j left_offset seen) (Lands (line_read j after)) is (record { key = key_read r words j after row same; some = anchor_some }, is.sure.1)
     (subst (λ (s : TurnStage). TurnStep (terms_of r) f (turns.SeesNode j (slice_index seen kind_offset) (slice_index seen line_node_offset)) f s) stage (steps.sees_anchor j (slice_index seen kind_offset) (slice_index seen line_node_offset)))
 
 -- at the second load of the version, what the list has at the anchor is known
@@ -365,23 +364,23 @@ module _ (r : RowTerms) (ghosts : Ghosts) (words : List ℕ) (row : IsRow r.layo
 kind_keeps : (r : RowTerms) (ghosts : Ghosts) (words : List ℕ) (row : IsRow r.layout words) {s : RowStage} {a : Action} {x : ℕ} {t : RowStage} → RowStep r s a x t → x ≡ got r.layout words a → RowLawful r ghosts words s
     → ((e : RowLine) (target : RowTarget) → t ≡ HasTarget e target → IsTargetFor r ghosts words e.anchor target) → RowLawful r ghosts (acted r.layout words a) t
 kind_keeps r ghosts words row (takes_lock free) told is walked =
-    lock_keeps r ghosts words row (cond (slice_index words (lock_at r.layout) == 0) 1 (slice_index words (lock_at r.layout))) Resting (Between 0) is is.sure (λ even. even)
+    lock_keeps r ghosts words row (cond (slice_index words (lock_at r.layout) == untaken_lock) taken_lock (slice_index words (lock_at r.layout))) Resting (Between 0) is is.sure (λ even. even)
     (turn_keeps (terms_of r) (facts_in r ghosts words) (facts_in r ghosts words) turns.Resting (turns.Between 0) is.law steps.takes_lock)
 kind_keeps r ghosts words row (finds_held taken) told is walked =
-    lock_keeps r ghosts words row (cond (slice_index words (lock_at r.layout) == 0) 1 (slice_index words (lock_at r.layout))) Resting Resting is is.sure (λ even. even) is.law
+    lock_keeps r ghosts words row (cond (slice_index words (lock_at r.layout) == untaken_lock) taken_lock (slice_index words (lock_at r.layout))) Resting Resting is is.sure (λ even. even) is.law
 kind_keeps r ghosts words row (passes {j = j} {x = x} here other_state) told is walked =
-    by_load r ghosts words (line_at r.layout j 0) (after_line r j) (line_done r ghosts words j
-    (look r ghosts words (Between j) (Between (suc j)) is is.sure (steps.passes j (λ ready. other_state (sym (line_told r ghosts words j 0 x here told) ∙ ready)))))
+    by_load r ghosts words (line_at r.layout j state_offset) (after_line r j) (line_done r ghosts words j
+    (look r ghosts words (Between j) (Between (suc j)) is is.sure (steps.passes j (λ ready. other_state (sym (line_told r ghosts words j state_offset x here told) ∙ ready)))))
 kind_keeps r ghosts words row (sees {j = j} {x = x} seen here ready size) told is walked =
-    let state = line_told r ghosts words j 0 x here told in
-    by_load r ghosts words (line_at r.layout j 0) (Reads j 1 (slice_set seen 0 x))
-    (look r ghosts words (Between j) (Reads j 1 (slice_set seen 0 x)) is (
+    let state = line_told r ghosts words j state_offset x here told in
+    by_load r ghosts words (line_at r.layout j state_offset) (Reads j kind_offset (slice_set seen state_offset x))
+    (look r ghosts words (Between j) (Reads j kind_offset (slice_set seen state_offset x)) is (
       record {
-        size = length-set seen 0 x ∙ size;
+        size = length-set seen state_offset x ∙ size;
         most = omega arith;
         named = λ past. absurd (let no : 3 < 1 = past in omega arith);
         same = λ k lt. let zero_k : k ≡ 0 = omega arith in
-            subst (λ o. line_field r.layout words Cached o j ≡ slice_index (slice_set seen 0 x) o) (sym zero_k) (state ∙ sym (get_or-set_same seen 0 x 0 (omega arith)));
+            subst (λ o. line_field r.layout words Cached o j ≡ slice_index (slice_set seen state_offset x) o) (sym zero_k) (state ∙ sym (get_or-set_same seen state_offset x 0 (omega arith)));
       },
       is.sure,
     ) (steps.sees j (state ∙ ready)))
@@ -389,7 +388,7 @@ kind_keeps r ghosts words row (reads {j = j} {offset = offset} {x = x} {seen = s
     by_load r ghosts words (line_at r.layout j offset) (Reads j (offset + 1) (slice_set seen offset x))
     (subst (λ k. RowLawful r ghosts words (Reads j k (slice_set seen offset x))) (omega arith) (read_more r ghosts words j offset x seen some small (line_told r ghosts words j offset x here told) named is))
 kind_keeps r ghosts words row (has_read {j = j} {x = x} {seen = seen} here) told is walked =
-    by_load r ghosts words (line_at r.layout j 6) (Lands (line_read j (slice_set seen 6 x))) (all_read r ghosts words row j x seen (line_told r ghosts words j 6 x here told) is)
+    by_load r ghosts words (line_at r.layout j left_offset) (Lands (line_read j (slice_set seen left_offset x))) (all_read r ghosts words row j x seen (line_told r ghosts words j left_offset x here told) is)
 kind_keeps r ghosts words row (walks {e = e} {address = address} here) told is walked = by_load r ghosts words address (Lands e) is
 kind_keeps r ghosts words row (is_turned_back {e = e} {address = address} here) told is walked =
     by_load r ghosts words address (after_line r e.line) (line_done r ghosts words e.line (look r ghosts words (Lands e) (Between (suc e.line)) is is.sure.1 (steps.leaves_line (entry_of e))))
@@ -408,19 +407,19 @@ kind_keeps r ghosts words row (has_changed {e = e} {word = word} {x = x} {s = s}
     change_done r ghosts words row e word s a is (subst (λ y. ChangeStep r.layout (aim_of e word) s a y Changed) told step)
 kind_keeps r ghosts words row (stamps {e = e} here) told is walked = stamp_keeps r ghosts words row e here is
 kind_keeps r ghosts words row (empties {j = j} here) told is walked =
-    line_done r ghosts (slice_set words (line_at r.layout j 0) 0) j (empty_keeps r ghosts words row j here is)
+    line_done r ghosts (slice_set words (line_at r.layout j state_offset) 0) j (empty_keeps r ghosts words row j here is)
 kind_keeps r ghosts words row (passes_node {n = n} {x = x} here other_status) told is walked =
     by_load r ghosts words (volatile_at r.layout n status_offset) (after_node r n) (node_done r ghosts words n
-    (look r ghosts words (Sweeps n) (Sweeps (suc n)) is is.sure (steps.passes_node n (λ gone. other_status (sym (volatile_told r ghosts words n 0 x here told) ∙ gone)))))
+    (look r ghosts words (Sweeps n) (Sweeps (suc n)) is is.sure (steps.passes_node n (λ gone. other_status (sym (volatile_told r ghosts words n status_offset x here told) ∙ gone)))))
 kind_keeps r ghosts words row (sees_gone {n = n} {x = x} here gone) told is walked =
     by_load r ghosts words (volatile_at r.layout n status_offset) (Gone n)
-    (look r ghosts words (Sweeps n) (Gone n) is is.sure (steps.sees_gone n (volatile_told r ghosts words n 0 x here told ∙ gone)))
+    (look r ghosts words (Sweeps n) (Gone n) is is.sure (steps.sees_gone n (volatile_told r ghosts words n status_offset x here told ∙ gone)))
 kind_keeps r ghosts words row (passes_stamp {n = n} {x = x} here why) told is walked =
-    let stamp = volatile_told r ghosts words n 2 x here told in
+    let stamp = volatile_told r ghosts words n stamp_offset x here told in
     by_load r ghosts words (volatile_at r.layout n stamp_offset) (after_node r n) (node_done r ghosts words n
     (look r ghosts words (Gone n) (Sweeps (suc n)) is is.sure (steps.passes_stamp n (elim why [ inl none ↦ inl (stamp ∙ none) | inr past ↦ inr (subst (λ y. r.release < y) (sym stamp) past) ]))))
 kind_keeps r ghosts words row (sees_stamp {n = n} {x = x} here some_stamp at_most) told is walked =
-    let stamp = volatile_told r ghosts words n 2 x here told in
+    let stamp = volatile_told r ghosts words n stamp_offset x here told in
     by_load r ghosts words (volatile_at r.layout n stamp_offset) (HasStamp n)
     (look r ghosts words (Gone n) (HasStamp n) is is.sure (steps.sees_stamp n (λ none. some_stamp (sym stamp ∙ none)) (subst (λ y. y ≤ r.release) (sym stamp) at_most)))
 kind_keeps r ghosts words row (passes_worn {n = n} {x = x} here worn) told is walked =
@@ -434,7 +433,7 @@ kind_keeps r ghosts words row (frees {n = n} here) told is walked =
     node_done r ghosts (slice_set words (volatile_at r.layout n status_offset) 0) n (free_keeps r ghosts words row n here is)
 kind_keeps r ghosts words row (counts {n = n} {x = x} {none = none} here) told is walked =
     by_load r ghosts words (volatile_at r.layout n status_offset) (Counts (n + 1) (none && not (x == 0)))
-    (subst (λ m. RowLawful r ghosts words (Counts m (none && not (x == 0)))) (omega arith) (counted r ghosts words n none x (volatile_told r ghosts words n 0 x here told) is))
+    (subst (λ m. RowLawful r ghosts words (Counts m (none && not (x == 0)))) (omega arith) (counted r ghosts words n none x (volatile_told r ghosts words n status_offset x here told) is))
 kind_keeps r ghosts words row (leaves_lock {n = n} {none = none} done) told is walked =
     lock_keeps r ghosts words row 0 (Counts n none) Resting is is.sure (λ even. even)
     (turn_keeps (terms_of r) (facts_in r ghosts words) (facts_in r ghosts words) (turns.Counts n none) turns.Resting is.law (steps.leaves_lock n none done))

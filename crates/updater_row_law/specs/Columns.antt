@@ -2,9 +2,8 @@
 use Rattle.std.specs.Prelude.{ℕ, ◌+◌, ◌*◌, ◌/◌, ◌%◌, not, nat_lt, Bool, if◌then◌else◌, List}
 use Rattle.pm_words.specs.declared.layout.Layout.{Layout}
 use Rattle.pm_words.specs.Locations.{Word, Location, Node, Line, Cached, Durable, Volatile, at}
-use Rattle.pm_words.specs.Offsets.{stamp_offset, status_offset, version_offset}
-use Rattle.call_stages.specs.data_node.specs.Lists.{anchor_offset}
-use Rattle.call_stages.specs.data_node.specs.Lines.{kind_offset, line_node_offset, state_offset}
+use Rattle.pm_words.specs.Offsets.{version_offset, anchor_offset, state_offset, kind_offset, line_node_offset}
+use Rattle.pm_words.specs.Offsets.{status_offset, stamp_offset}
 use Rattle.version_lock.specs.Versions.{is_free_word, is_worn_word}
 use Rattle.layer_map.specs.Keys.{key_of}
 use Rattle.search_layer.specs.Rows.{layer_words}

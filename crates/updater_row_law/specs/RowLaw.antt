@@ -3,8 +3,7 @@ use Rattle.std.specs.Prelude.{◌≡◌, ◌≢◌, ℕ, ◌+◌, ◌^◌, ◌<�
 use Rattle.pm_words.specs.declared.action.Action.{Action}
 use Rattle.pm_words.specs.Locations.{Cached, Durable, image_words}
 use Rattle.pm_words.specs.Rows.{IsRow, CanAct, acted, got, evicted}
-use Rattle.pm_words.specs.Offsets.{version_offset}
-use Rattle.call_stages.specs.data_node.specs.Lists.{anchor_offset}
+use Rattle.pm_words.specs.Offsets.{version_offset, anchor_offset}
 use Rattle.version_lock.specs.Versions.{is_free_word}
 use Rattle.layer_map.specs.Layers.{Layer, HasFew}
 use Rattle.layer_map.specs.Keys.{IsKey, key_number}

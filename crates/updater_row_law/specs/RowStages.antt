@@ -2,8 +2,8 @@
 use Rattle.std.specs.Prelude.{ℕ, zero, suc, ◌+◌, ◌==◌, ◌&&◌, nat_lt, Bool, true, if◌then◌else◌, List}
 use Rattle.std.specs.Prelude.{slice_index}
 use Rattle.pm_words.specs.Codes.{merge_kind}
+use Rattle.pm_words.specs.Offsets.{kind_offset, line_node_offset}
 use Rattle.call_stages.specs.data_node.specs.Lists.{anchor_words}
-use Rattle.call_stages.specs.data_node.specs.Lines.{kind_offset, line_node_offset}
 use Rattle.layer_map.specs.Keys.{key_number}
 use Rattle.layer_map.specs.Layers.{node_of}
 use Rattle.search_layer.specs.tree_update.specs.Stages.{Aim}

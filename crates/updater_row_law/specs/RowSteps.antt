@@ -1,12 +1,13 @@
 -- The kinds of step of a turn by the action that it makes: from a stage, by an action that gives a number, to the next.
 use Rattle.std.specs.Prelude.{◌≡◌, ◌≢◌, ℕ, ◌+◌, ◌==◌, ◌<◌, ◌≤◌, ◌&&◌, not, ◌⊎◌, Bool, true, false, List}
 use Rattle.std.specs.Prelude.{slice_set, length}
-use Rattle.pm_words.specs.Codes.{free_status, gone_status, empty_state, ready_state}
+use Rattle.pm_words.specs.Codes.{free_status, gone_status, empty_state, ready_state, untaken_lock, taken_lock}
 use Rattle.pm_words.specs.declared.action.Action.{Action}
 use Rattle.pm_words.specs.declared.action.Action.TheVariants.{Load, Store, Exchange}
 use Rattle.pm_words.specs.declared.layout.Layout.{Layout}
 use Rattle.pm_words.specs.Locations.{Cached, Volatile, Updater, Node, address_of, row_words}
-use Rattle.pm_words.specs.Offsets.{version_offset, stamp_offset, status_offset}
+use Rattle.pm_words.specs.Offsets.{version_offset, anchor_offset, state_offset, kind_offset, left_offset, status_offset}
+use Rattle.pm_words.specs.Offsets.{stamp_offset}
 use Rattle.version_lock.specs.Versions.{is_free_word, is_worn_word}
 use Rattle.search_layer.specs.ChangeStages.{Changing, Changed, ChangeStep}
 use Rattle.search_layer.specs.ChangeStages.{start_stage}
@@ -32,20 +33,20 @@ version_at l n = address_of l (Cached (Node n version_offset))
 
 pub data RowStep (r : RowTerms) : RowStage → Action → ℕ → RowStage → Type 0 where
   -- it takes the updater lock, or finds it taken
-  takes_lock : {x : ℕ} → x ≡ 0 → RowStep r Resting (Exchange (lock_at r.layout) 0 1) x (Between 0)
-  finds_held : {x : ℕ} → x ≢ 0 → RowStep r Resting (Exchange (lock_at r.layout) 0 1) x Resting
+  takes_lock : {x : ℕ} → x ≡ untaken_lock → RowStep r Resting (Exchange (lock_at r.layout) untaken_lock taken_lock) x (Between 0)
+  finds_held : {x : ℕ} → x ≢ untaken_lock → RowStep r Resting (Exchange (lock_at r.layout) untaken_lock taken_lock) x Resting
   -- it loads the state of a line
   passes : {j x : ℕ} → j < line_count r.layout → x ≢ ready_state →
-      RowStep r (Between j) (Load (line_at r.layout j 0)) x (after_line r j)
+      RowStep r (Between j) (Load (line_at r.layout j state_offset)) x (after_line r j)
   sees : {j x : ℕ} (seen : List ℕ) → j < line_count r.layout → x ≡ ready_state → length seen ≡ 7 →
-      RowStep r (Between j) (Load (line_at r.layout j 0)) x (Reads j 1 (slice_set seen 0 x))
+      RowStep r (Between j) (Load (line_at r.layout j state_offset)) x (Reads j kind_offset (slice_set seen state_offset x))
   -- it loads a further word of the line, and the last; the first word of its anchor isn't 0
   reads : {j offset x : ℕ} {seen : List ℕ} → j < line_count r.layout → 1 ≤ offset → offset < 6 →
-      (offset ≡ 3 → x ≢ 0) →
+      (offset ≡ anchor_offset → x ≢ 0) →
       RowStep r (Reads j offset seen) (Load (line_at r.layout j offset)) x
       (Reads j (offset + 1) (slice_set seen offset x))
   has_read : {j x : ℕ} {seen : List ℕ} → j < line_count r.layout →
-      RowStep r (Reads j 6 seen) (Load (line_at r.layout j 6)) x (Lands (line_read j (slice_set seen 6 x)))
+      RowStep r (Reads j left_offset seen) (Load (line_at r.layout j left_offset)) x (Lands (line_read j (slice_set seen left_offset x)))
   -- any load of the floor and of the walk; the walk is turned back, or has come to a target, whose version was free
   walks : {e : RowLine} {address x : ℕ} → address < row_words r.layout →
       RowStep r (Lands e) (Load address) x (Lands e)
@@ -69,7 +70,7 @@ pub data RowStep (r : RowTerms) : RowStage → Action → ℕ → RowStage → T
   stamps : {e : RowLine} {x : ℕ} → e.node < r.layout.nodes →
       RowStep r (Stamps e) (Store (volatile_at r.layout e.node stamp_offset) r.stamp) x (Clears e.line)
   empties : {j x : ℕ} → j < line_count r.layout →
-      RowStep r (Clears j) (Store (line_at r.layout j 0) empty_state) x (after_line r j)
+      RowStep r (Clears j) (Store (line_at r.layout j state_offset) empty_state) x (after_line r j)
   -- it loads the status of a node, its stamp, its version
   passes_node : {n x : ℕ} → n < r.layout.nodes → x ≢ gone_status →
       RowStep r (Sweeps n) (Load (volatile_at r.layout n status_offset)) x (after_node r n)
@@ -92,4 +93,4 @@ pub data RowStep (r : RowTerms) : RowStage → Action → ℕ → RowStage → T
   counts : {n x : ℕ} {none : Bool} → n < r.layout.nodes →
       RowStep r (Counts n none) (Load (volatile_at r.layout n status_offset)) x (Counts (n + 1) (none && not (x == free_status)))
   leaves_lock : {n x : ℕ} {none : Bool} → r.layout.nodes ≤ n →
-      RowStep r (Counts n none) (Store (lock_at r.layout) 0) x Resting
+      RowStep r (Counts n none) (Store (lock_at r.layout) untaken_lock) x Resting

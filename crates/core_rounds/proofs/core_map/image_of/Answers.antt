@@ -5,8 +5,8 @@ use Rattle.pm_words.specs.Codes.{empty_state, ready_state}
 use Rattle.pm_words.specs.Images.{Row}
 use Rattle.pm_words.specs.Locations.{Line, Cached, at, word_at}
 use Rattle.pm_words.specs.Rows.{cached_row}
+use Rattle.pm_words.specs.Offsets.{state_offset}
 use Rattle.pm_words.proofs.Made.{cached_row-at}
-use Rattle.data_node.specs.Lines.{state_offset}
 use Rattle.recovery.specs.updater_row_law.specs.Columns.{line_count, line_word}
 use Rattle.recovery.specs.updater_row_law.proofs.RowColumns.{column-here}
 use Rattle.recovery.specs.lone_updater_law.specs.LoneTurns.{is_ready, line_state}

@@ -1,6 +1,6 @@
 use Rattle.std.proofs.Common.{◌∙◌, ◌*◌, ◌<◌, ap, sym, refl, inl, inr, arith}
 use Rattle.std.proofs.lemmas.Bool.{cases_lt, false≢true}
-use Rattle.data_node.specs.Lines.{state_offset}
+use Rattle.pm_words.specs.Offsets.{state_offset}
 use Rattle.layer_map.specs.Keys.{key_number}
 use Rattle.image_layer_rules.proofs.LineLemmas.{line_word-here, line_word-outside, line_key-here}
 use Rattle.image_layer_rules.proofs.line.is_open_for.Goals as goal
@@ -28,7 +28,7 @@ returns c =
       λ no. absurd (false≢true no),
       λ is. absurd (elim (cases_lt is.line (8 * l.callers)) as (λ _. ⊥) [
         | inl within ↦ c.loop-line.invariant is.line (omega arith)
-            (λ empty. is.state (line_word-here l image is.line 0 within (omega arith) ∙ empty), sym (line_key-here l image is.line within) ∙ is.anchor)
-        | inr past ↦ is.state (line_word-outside l image is.line 0 past)
+            (λ empty. is.state (line_word-here l image is.line state_offset within (omega arith) ∙ empty), sym (line_key-here l image is.line within) ∙ is.anchor)
+        | inr past ↦ is.state (line_word-outside l image is.line state_offset past)
       ]),
     )

@@ -1,7 +1,6 @@
 use Rattle.std.proofs.Common.{◌≡◌, ◌+◌, ◌≢◌}
-use Rattle.data_node.specs.Lists.{anchor_offset}
-use Rattle.data_node.specs.Lines.{state_offset}
 use Rattle.layer_map.specs.Keys.{key_of, key_number}
+use Rattle.pm_words.specs.Offsets.{anchor_offset, state_offset}
 use Rattle.image_rules.specs.Rules.{line_spot}
 use Rattle.image_rules.proofs.LowestLemmas.{NoneBelow}
 use Rattle.image_layer_rules.proofs.line.is_open_for.Given as goal

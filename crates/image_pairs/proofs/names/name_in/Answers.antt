@@ -2,8 +2,9 @@ use Rattle.std.proofs.Common.{◌==◌, ℕ, Bool, cond, List, Option, Some, Non
 use Rattle.std.proofs.lemmas.Bool.{eq-eqb, ne_eqb, and_from, and_left, and_right, false≢true}
 use Rattle.std.specs.Int.{bit_at}
 use Rattle.cat_key.specs.Names.{AreNameWords, bytes_of}
+use Rattle.pm_words.specs.Offsets.{bitmap_offset}
 use Rattle.data_node.specs.Lists.{number_of, target_from}
-use Rattle.data_node.specs.Spots.{bitmap_offset, name_words}
+use Rattle.data_node.specs.Spots.{name_words}
 use Rattle.image_rules.specs.Nodes.{image_spot, image_list, image_range}
 use Rattle.image_pairs.proofs.PairWalks.{range_of_words, live_named, found_name}
 use Rattle.image_pairs.proofs.names.name_in.Goals as goal

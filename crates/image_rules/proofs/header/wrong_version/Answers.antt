@@ -19,4 +19,4 @@ returns c =
     let l = c.args.image.now.layout in
     let image = c.args.image.now.words in
     lowest-some (IsLater l image) (IsNumberOf l (BreaksVersions l image)) (λ n. word_number l (Node n version_offset)) c.in_ok-node.node c.node_word.result (versions_move l image)
-    (node_number l c.layout.result c.in_ok-node.node 0 c.node_word.result c.layout.ensures.layout c.node_word.ensures.word) c.in_ok-node.ensures
+    (node_number l c.layout.result c.in_ok-node.node version_offset c.node_word.result c.layout.ensures.layout c.node_word.ensures.word) c.in_ok-node.ensures

@@ -1,4 +1,4 @@
-use Rattle.data_node.specs.Spots.{print_offset}
+use Rattle.pm_words.specs.Offsets.{print_offset}
 use Rattle.image_rules.specs.Nodes.{image_spot}
 use Rattle.image_rules.specs.Rules.{IsMisprinted, BreaksPrints}
 use Rattle.image_rules.proofs.LowestLemmas.{lowest-none, lowest-some}

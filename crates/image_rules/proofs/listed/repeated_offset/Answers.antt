@@ -1,4 +1,4 @@
-use Rattle.data_node.specs.Spots.{slot_offset}
+use Rattle.pm_words.specs.Offsets.{slot_offset}
 use Rattle.image_rules.specs.Nodes.{image_spot}
 use Rattle.image_rules.specs.Rules.{IsRepeated, BreaksApart}
 use Rattle.image_rules.proofs.LowestLemmas.{lowest-none, lowest-some}

@@ -1,6 +1,6 @@
 use Rattle.pm_words.specs.Locations.{Line, word_number}
+use Rattle.pm_words.specs.Offsets.{state_offset}
 use Rattle.std.proofs.Common.{◌/◌, ◌%◌}
-use Rattle.data_node.specs.Lines.{state_offset}
 use Rattle.image_rules.specs.Lowest.{IsNumberOf}
 use Rattle.image_rules.specs.Rules.{IsUnfit, BreaksLines}
 use Rattle.image_rules.proofs.LowestLemmas.{lowest-none, lowest-some}

@@ -1,7 +1,9 @@
 use Rattle.std.proofs.Common.{◌≡◌, ◌≢◌, ℕ, List, suc, ◌-◌, ◌<◌, ◌≤◌, [], ◌∷◌, ◌∙◌, ap, refl, sym, subst, arith, nat_lt}
+use Rattle.std.proofs.Common.{◌+◌}
 use Rattle.std.proofs.lemmas.Bool.{ltb-true, ltb-false}
 use Rattle.pm_words.specs.declared.layout.Layout.{Layout}
-use Rattle.data_node.specs.Lists.{number_of, key_of, anchor_in, members_from, target_from, next_offset}
+use Rattle.pm_words.specs.Offsets.{next_offset, anchor_offset}
+use Rattle.data_node.specs.Lists.{number_of, key_of, anchor_in, members_from, target_from}
 use Rattle.data_node.proofs.KeyLemmas.{key-number, anchor-number, anchor_zero}
 use Rattle.data_node.proofs.PositionLemmas.{target_last, target_here, target_behind}
 use Rattle.image_rules.specs.Nodes.{image_spot, next_in, target_in}
@@ -48,7 +50,7 @@ returns-then-nodes-next-clause-none c = λ _.
     let next = c.next_of-next.ensures in
     let out : l.nodes ≤ next_node = omega arith in
     let lowest : anchor_in (now next_node) ≡ 0 =
-    anchor_zero (now next_node) (λ i. image_spot-outside l image next_node 3 out i ∷ image_spot-outside l image next_node 4 out i ∷ image_spot-outside l image next_node 5 out i ∷ []) in
+    anchor_zero (now next_node) (λ i. image_spot-outside l image next_node anchor_offset out i ∷ image_spot-outside l image next_node (anchor_offset + 1) out i ∷ image_spot-outside l image next_node (anchor_offset + 2) out i ∷ []) in
     let far : target_in l image c.args.name.now ≡ next_node =
     target_is l image c.args.name.now c.loop-position.node walk.left (omega arith) walk.target ∙ target_behind now (walk.left - 1) c.loop-position.node key (leads at.Else-next-eq0) (omega arith)
     ∙ target_last now (walk.left - 1) next_node key (image_spot-outside l image next_node next_offset out) in

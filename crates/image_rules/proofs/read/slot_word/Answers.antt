@@ -1,6 +1,6 @@
 use Rattle.std.proofs.Common.{◌∙◌, ap, sym, slice_index, arith}
 use Rattle.pm_words.specs.declared.layout.Layout.{Layout}
-use Rattle.data_node.specs.Spots.{slot_offset}
+use Rattle.pm_words.specs.Offsets.{slot_offset}
 use Rattle.image_rules.proofs.WordLemmas.{image_spot-here, image_spot-outside, node_number}
 use Rattle.image_rules.proofs.read.slot_word.Goals as goal
 

@@ -1,7 +1,7 @@
 use Rattle.std.proofs.Common.{slice_index, sym, ap, ◌∙◌, arith}
 use Rattle.pm_words.specs.declared.layout.Layout.{Layout}
 use Rattle.pm_words.specs.Locations.{Node, cached_address, word_number}
-use Rattle.data_node.specs.Lists.{next_offset}
+use Rattle.pm_words.specs.Offsets.{next_offset}
 use Rattle.index_law.proofs.Rows.{spot_in-here}
 use Rattle.recovery.proofs.telling.next_of.Goals as goal
 

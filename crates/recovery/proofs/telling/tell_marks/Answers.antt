@@ -1,7 +1,7 @@
 use Rattle.std.proofs.Common.{◌≡◌, ℕ, suc, ◌+◌, ◌<◌, List, sym, ap, ◌∙◌, subst, arith}
 use Rattle.pm_words.specs.declared.layout.Layout.{Layout}
 use Rattle.pm_words.specs.Images.{Row}
-use Rattle.data_node.specs.Lists.{next_offset}
+use Rattle.pm_words.specs.Offsets.{next_offset}
 use Rattle.index_law.specs.Facts.{spot_in}
 use Rattle.recovery.specs.Tellings.{told_words}
 use Rattle.recovery.proofs.NodeMarks.{IsTelling, begins_telling, goes_telling, ends_telling, past_telling}

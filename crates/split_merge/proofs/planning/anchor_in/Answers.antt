@@ -1,5 +1,6 @@
 use Rattle.std.proofs.Common.{◌≡◌, ℕ, ◌+◌, ◌*◌, List, [], ◌∷◌, slice_index, ap, ◌∙◌, arith}
-use Rattle.data_node.specs.Spots.{name_words, slot_offset}
+use Rattle.pm_words.specs.Offsets.{slot_offset}
+use Rattle.data_node.specs.Spots.{name_words}
 use Rattle.split_merge.specs.Plans.{spot_of, anchor_of}
 use Rattle.split_merge.proofs.planning.anchor_in.Goals as goal
 

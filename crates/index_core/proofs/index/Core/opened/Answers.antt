@@ -4,7 +4,7 @@ use Rattle.cat_history.specs.declared.op.Write.{Write}
 use Rattle.pm_words.specs.declared.layout.Layout.{Layout}
 use Rattle.pm_words.specs.Images.{Row}
 use Rattle.pm_words.specs.Locations.{Header, Cached, address_of}
-use Rattle.image_rules.specs.Rules.{generation_offset}
+use Rattle.pm_words.specs.Offsets.{generation_offset}
 use Rattle.index_core.specs.declared.party.PartyState.{PartyState}
 use Rattle.index_core.specs.Indexes.{Index, IsIndex, parties_of}
 use Rattle.index_core.specs.Opened.{opened_index}

@@ -1,6 +1,6 @@
 use Rattle.std.proofs.Common.{true, false, ap, ◌∙◌, arith}
 use Rattle.std.proofs.lemmas.Bool.{eq-eqb, ne_eqb}
-use Rattle.data_node.specs.Spots.{slot_offset}
+use Rattle.pm_words.specs.Offsets.{slot_offset}
 use Rattle.node_ops.specs.Calls.{call_address}
 use Rattle.node_ops.proofs.Comparisons.{address_fits, name_call, name_small, name_within}
 use Rattle.node_ops.proofs.Comparisons.{word_can, word_leads, words_end}

@@ -1,4 +1,5 @@
 use Rattle.std.proofs.Common.{arith}
+use Rattle.pm_words.specs.Offsets.{prints_offset}
 use Rattle.machine_runs.specs.Runs.{begins}
 use Rattle.node_ops.proofs.Comparisons.{address_fits, print_can, print_leads}
 use Rattle.node_ops.proofs.lookup.Lookup.loads_prints.Goals as goal
@@ -9,7 +10,7 @@ address-first-requires-clause-sound g c = (c.requires.2 _ _ _ begins).1.0.call
 pub overflow_add-first : goal.overflow_add-first
 overflow_add-first g c =
     let fits =
-    address_fits c.args.self.now.call 8 c.loop-at.at c.address-first.result (c.requires.2 _ _ _ begins).1.0.call
+    address_fits c.args.self.now.call prints_offset c.loop-at.at c.address-first.result (c.requires.2 _ _ _ begins).1.0.call
     c.address-first.ensures (omega (arith, c.loop-at-test.true)) in
     omega (arith, fits)
 
