@@ -2,7 +2,6 @@
 use Rattle.std.proofs.Common.{◌≡◌, ℕ, zero, suc, ◌+◌, ◌<◌, ◌≤◌, ◌==◌, true, false, cond, inl, inr, refl, sym, subst, ap, arith}
 use Rattle.std.specs.Int.{bit_at}
 use Rattle.std.proofs.lemmas.Bool.{cases_eq, eq-eqb, eqb-true, ne_eqb}
-use Rattle.pm_words.specs.Offsets.{bitmap_offset}
 use Rattle.data_node.specs.Bits.{with_live, without_live, live_count}
 use Rattle.data_node.specs.Slots.{IsLive, IsClear}
 use Rattle.data_node.specs.Spots.{Spot}

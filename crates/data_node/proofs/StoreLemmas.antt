@@ -8,7 +8,7 @@ use Rattle.std.proofs.lemmas.List.{get_or-set_same, get_or-set_other}
 use Rattle.cat_key.specs.Names.{IsName, words_of, bytes_of, fingerprint_of}
 use Rattle.cat_key.proofs.Packing.{bytes_of-words_of}
 use Rattle.shapes.specs.cat_history.specs.Maps.{Map}
-use Rattle.pm_words.specs.Offsets.{bitmap_offset, print_offset, slot_offset}
+use Rattle.pm_words.specs.Offsets.{bitmap_offset, print_offset, slot_offset, value_word}
 use Rattle.data_node.specs.Slots.{IsLive, IsClear, prints_of}
 use Rattle.data_node.specs.Bits.{with_live, without_live, printed, candidate_bits}
 use Rattle.data_node.specs.Spots.{Spot, updated, IsLiveIn, name_words}
@@ -32,7 +32,7 @@ slot_store_keeps slots s slot k word limit small clear = record {
       record {
         live = subst (λ b. IsLive b other) (sym (updated-other s (slot_offset slot k) word bitmap_offset (λ e. omega arith))) live;
         name = name_words-updated s (slot_offset slot k) word other (λ j below e. apart (omega arith));
-        value = updated-other s (slot_offset slot k) word (slot_offset other 3) (λ e. apart (omega arith));
+        value = updated-other s (slot_offset slot k) word (slot_offset other value_word) (λ e. apart (omega arith));
         print = ap (λ w. get_or (prints_of w) (other % 8) 0) (updated-other s (slot_offset slot k) word (print_offset other) (λ e. omega arith));
       };
 }
@@ -72,7 +72,7 @@ module _ (s : Spot) (slot print : ℕ) (in_node : slot < 64) (small : print < 25
     there = λ other within live. record {
       live = subst (λ b. IsLive b other) (sym (updated-other s (print_offset slot) (printed (s (print_offset slot)) slot print) bitmap_offset (λ e. omega arith))) live;
       name = name_words-updated s (print_offset slot) (printed (s (print_offset slot)) slot print) other (λ j below e. omega arith);
-      value = updated-other s (print_offset slot) (printed (s (print_offset slot)) slot print) (slot_offset other 3) (λ e. omega arith);
+      value = updated-other s (print_offset slot) (printed (s (print_offset slot)) slot print) (slot_offset other value_word) (λ e. omega arith);
       print = print_kept other (clear_apart (s bitmap_offset) slot other clear live);
     };
   }
@@ -92,7 +92,7 @@ module _ (s : Spot) (bitmap : ℕ) where
   name_mapped slot = name_words-updated s bitmap_offset bitmap slot (λ k below e. omega arith)
 
   value_mapped : (slot : ℕ) → value_in mapped slot ≡ value_in s slot
-  value_mapped slot = updated-other s bitmap_offset bitmap (slot_offset slot 3) (λ e. omega arith)
+  value_mapped slot = updated-other s bitmap_offset bitmap (slot_offset slot value_word) (λ e. omega arith)
 
   print_mapped : (slot : ℕ) → print_in_spot mapped slot ≡ print_in_spot s slot
   print_mapped slot = ap (λ w. get_or (prints_of w) (slot % 8) 0) (updated-other s bitmap_offset bitmap (print_offset slot) (λ e. omega arith))
@@ -219,16 +219,16 @@ means_cleared slots range s m name held limit is_name live_held same_held means 
 
 -- a store of a live slot's value changes what its name has
 pub means_valued : (slots : ℕ) (range : List ℕ → Bool) (s : Spot) (m : Map) (name : List ℕ) (value held : ℕ) → slots ≤ 64 → IsName name → IsLiveIn s held → name_words s held ≡ words_of name
-    → Means slots range s m → Means slots range (updated s (slot_offset held 3) value) (insert m name value)
+    → Means slots range s m → Means slots range (updated s (slot_offset held value_word) value) (insert m name value)
 means_valued slots range s m name value held limit is_name live_held same_held means =
     let held_within = live_within slots s held means.tidy live_held in
-    let t : Spot = updated s (slot_offset held 3) value in
-    let bitmap_same : t bitmap_offset ≡ s bitmap_offset = updated-other s (slot_offset held 3) value bitmap_offset (λ e. omega arith) in
-    let name_same : (other : ℕ) → name_words t other ≡ name_words s other = λ other. name_words-updated s (slot_offset held 3) value other (λ k below e. omega arith) in
+    let t : Spot = updated s (slot_offset held value_word) value in
+    let bitmap_same : t bitmap_offset ≡ s bitmap_offset = updated-other s (slot_offset held value_word) value bitmap_offset (λ e. omega arith) in
+    let name_same : (other : ℕ) → name_words t other ≡ name_words s other = λ other. name_words-updated s (slot_offset held value_word) value other (λ k below e. omega arith) in
     let print_same : (other : ℕ) → other < slots → print_in_spot t other ≡ print_in_spot s other =
-    λ other within. ap (λ w. get_or (prints_of w) (other % 8) 0) (updated-other s (slot_offset held 3) value (print_offset other) (λ e. omega arith)) in
+    λ other within. ap (λ w. get_or (prints_of w) (other % 8) 0) (updated-other s (slot_offset held value_word) value (print_offset other) (λ e. omega arith)) in
     let value_same : (other : ℕ) → (other ≡ held → ⊥) → value_in t other ≡ value_in s other =
-    λ other apart. updated-other s (slot_offset held 3) value (slot_offset other 3) (λ e. apart (omega arith)) in
+    λ other apart. updated-other s (slot_offset held value_word) value (slot_offset other value_word) (λ e. apart (omega arith)) in
     let stays : (other : ℕ) → IsLiveIn s other → IsLiveIn t other = λ other live. subst (λ b. IsLive b other) (sym bitmap_same) live in
     let was : (other : ℕ) → IsLiveIn t other → IsLiveIn s other = λ other live. subst (λ b. IsLive b other) bitmap_same live in
     let not_held : (other : ℕ) → (name_words s other ≡ words_of name → ⊥) → other ≡ held → ⊥ = λ other not_it e. not_it (subst (λ n. name_words s n ≡ words_of name) (sym e) same_held) in
@@ -250,7 +250,7 @@ means_valued slots range s m name value held limit is_name live_held same_held m
           print_same other within ∙ means.tidy.printed other within (was other live) ∙ ap fingerprint_of (ap bytes_of (sym (name_same other) ∙ same) ∙ bytes_of-words_of name is_name);
       once = λ a b a_within b_within a_live b_live a_same b_same. only a a_within a_live a_same ∙ sym (only b b_within b_live b_same);
     })
-    (held, held_within, stays held live_held, name_same held ∙ same_held, updated-same s (slot_offset held 3) value)
+    (held, held_within, stays held live_held, name_same held ∙ same_held, updated-same s (slot_offset held value_word) value)
     means
 
 -- every live slot with the name is among the candidates

@@ -2,7 +2,7 @@
 use Rattle.std.specs.Prelude.{◌≡◌, ◌≢◌, ℕ, ◌%◌, ◌<◌, ◌^◌, ◌==◌, Bool, true, if◌then◌else◌, List, [], ◌∷◌, slice_index}
 use Rattle.std.specs.Prelude.{Option, Some, None}
 use Rattle.cat_key.specs.Names.{IsName, AreNameWords, words_of, bytes_of, fingerprint_of}
-use Rattle.pm_words.specs.Offsets.{bitmap_offset, print_offset, slot_offset}
+use Rattle.pm_words.specs.Offsets.{bitmap_offset, print_offset, slot_offset, value_word}
 use Rattle.shapes.specs.cat_history.specs.Maps.{Map, at}
 use Rattle.data_node.specs.Slots.{IsLive, prints_of}
 
@@ -23,7 +23,7 @@ abbrev pub name_words : Spot → ℕ → List ℕ
 name_words s slot = s (slot_offset slot 0) ∷ s (slot_offset slot 1) ∷ s (slot_offset slot 2) ∷ []
 
 abbrev pub value_in : Spot → ℕ → ℕ
-value_in s slot = s (slot_offset slot 3)
+value_in s slot = s (slot_offset slot value_word)
 
 abbrev pub print_in_spot : Spot → ℕ → ℕ
 print_in_spot s slot = slice_index (prints_of (s (print_offset slot))) (slot % 8)

@@ -1,5 +1,5 @@
 -- What the slots of a node add to a map whose names are all below theirs: their entries, behind those of the map.
-use Rattle.std.proofs.Common.{◌≡◌, ℕ, zero, suc, ◌+◌, ◌<◌, Bool, true, false, cond, Less, Equal, Greater, Option, Some, None, List, [], ◌∷◌, ◌++◌, refl, sym, ap, ap₂, subst, ◌∙◌, arith}
+use Rattle.std.proofs.Common.{◌≡◌, ℕ, zero, suc, ◌+◌, ◌<◌, Bool, true, false, cond, Less, Equal, Greater, Option, Some, None, List, [], ◌∷◌, ◌++◌, refl, sym, ap, subst, ◌∙◌, arith}
 use Rattle.std.proofs.lemmas.List.{append-nil}
 use Rattle.std.specs.BTreeMap.{insert_entry}
 use Rattle.std.specs.Cmp.Lexicographic.{nat_list_cmp_total}
@@ -88,48 +88,42 @@ slots_behind range s m (suc slot) above =
 abbrev pub found_in : (List ℕ → Bool) → Spot → ℕ → Option (List ℕ)
 found_in range s slot = cond (has_name_in range s slot) (Some (bytes_of (name_words s slot))) None
 
--- one that has it puts it into the tree of those before,
-pub slot_puts : (range : List ℕ → Bool) (s : Spot) (m : Map) (slot value : ℕ) (name : List ℕ) (es : List Entry) → Some name ≡ found_in range s slot → value ≡ value_in s slot
-    → es ≡ entries (with_slots range s m slot) → insert_entry name_cmp es name value ≡ entries (with_slots range s m (slot + 1))
-slot_puts range s m slot value name es found is before =
-    elim (has_name_in range s slot) as (λ b. Some name ≡ cond b (Some text) None → insert_entry name_cmp es name value ≡ entries (cond b (insert so_far text (value_in s slot)) so_far)) [
-      | true ↦ λ same.
-          let here : name ≡ text = cc in
-          ap (λ (es : List Entry). insert_entry name_cmp es name value) before
-          ∙ ap₂ (λ (n : List ℕ) (v : ℕ). insert_entry name_cmp (entries so_far) n v) here is
-          ∙ entries-put so_far text (value_in s slot)
-      | false ↦ λ none. absurd cc
-    ] found
+-- a tree with what is found in a slot
+abbrev put_found : Option (List ℕ) → List Entry → ℕ → List Entry
+put_found (Some name) es value = insert_entry name_cmp es name value
+put_found None es value = es
+
+-- with that, the tree of the slots before is the one up to the next
+slot_goes : (range : List ℕ → Bool) (s : Spot) (m : Map) (slot : ℕ) (found : Option (List ℕ)) (es : List Entry) → found ≡ found_in range s slot
+    → es ≡ entries (with_slots range s m slot) → put_found found es (value_in s slot) ≡ entries (with_slots range s m (slot + 1))
+slot_goes range s m slot found es is before =
+    elim (has_name_in range s slot) as (λ b. found ≡ cond b (Some text) None → put_found found es value ≡ entries (cond b (insert so_far text value) so_far)) [
+      | true ↦ λ same. ap (λ o. put_found o es value) same ∙ ap (λ es. insert_entry name_cmp es text value) before ∙ entries-put so_far text value
+      | false ↦ λ none. ap (λ o. put_found o es value) none ∙ before
+    ] is
     ∙ ap (λ n. entries (with_slots range s m n)) next
   where
     text : List ℕ
     text = bytes_of (name_words s slot)
+
+    value : ℕ
+    value = value_in s slot
 
     so_far : Map
     so_far = with_slots range s m slot
 
     next : suc slot ≡ slot + 1
     next = omega arith
+
+-- a slot that has a name puts it into the tree of those before,
+pub slot_puts : (range : List ℕ → Bool) (s : Spot) (m : Map) (slot value : ℕ) (name : List ℕ) (es : List Entry) → Some name ≡ found_in range s slot → value ≡ value_in s slot
+    → es ≡ entries (with_slots range s m slot) → insert_entry name_cmp es name value ≡ entries (with_slots range s m (slot + 1))
+slot_puts range s m slot value name es found is before = ap (λ v. insert_entry name_cmp es name v) is ∙ slot_goes range s m slot (Some name) es found before
 
 -- and one that has none leaves that
 pub slot_leaves : (range : List ℕ → Bool) (s : Spot) (m : Map) (slot : ℕ) (es : List Entry) → None ≡ found_in range s slot
     → es ≡ entries (with_slots range s m slot) → es ≡ entries (with_slots range s m (slot + 1))
-slot_leaves range s m slot es found before =
-    before
-    ∙ elim (has_name_in range s slot) as (λ b. None ≡ cond b (Some text) None → entries so_far ≡ entries (cond b (insert so_far text (value_in s slot)) so_far)) [
-      | true ↦ λ same. absurd cc
-      | false ↦ λ none. refl
-    ] found
-    ∙ ap (λ n. entries (with_slots range s m n)) next
-  where
-    text : List ℕ
-    text = bytes_of (name_words s slot)
-
-    so_far : Map
-    so_far = with_slots range s m slot
-
-    next : suc slot ≡ slot + 1
-    next = omega arith
+slot_leaves range s m slot es found before = slot_goes range s m slot None es found before
 
 -- Of two names the one with the higher key is above the other.
 pub higher_key : (low high : List ℕ) → IsName low → IsName high → key_of low < key_of high → name_cmp high low ≡ Greater

@@ -1,5 +1,6 @@
 -- What a party may do can be done.
 use Rattle.std.proofs.Common.{◌≡◌, ◌≢◌, inl, ⊎_elim, ℕ, ◌<◌, ◌≤◌, ◌^◌, true, List, length, slice_index, refl, sym, ap, ◌∙◌, subst, arith}
+use Rattle.std.proofs.Common.{◌+◌}
 use Rattle.std.proofs.lemmas.Nat.{same_from_place}
 use Rattle.pm_words.specs.Codes.{live_status}
 use Rattle.pm_words.specs.declared.layout.Layout.{Layout}
@@ -218,8 +219,8 @@ anchor_zero s zero offset least most = ⊎_elim
     (λ past. ⊎_elim
     (λ (is : offset ≡ anchor_offset + 1). ap s is ∙ omega (arith, zero))
     (λ last. let is : offset ≡ anchor_offset + 2 = omega (arith, past, last) in ap s is ∙ omega (arith, zero))
-    (cases_eq offset 4))
-    (cases_eq offset 3)
+    (cases_eq offset (anchor_offset + 1)))
+    (cases_eq offset anchor_offset)
 
 -- node 0 is listed
 module _ (l : Layout) (g : ℕ) (ws : List ℕ) (base : Map) (history : List Write) (a : Action) (some : 0 < l.nodes) (list : IsList l (facts_of l ws base history)) where

@@ -4,6 +4,7 @@ use Rattle.std.specs.Prelude.{◌==◌, ◌||◌, if◌then◌else◌, slice_get
 use Rattle.std.proofs.lemmas.Bool.{eqb-true, ne_eqb, leb-true, leb-false}
 use Rattle.std.proofs.lemmas.List.{append-nil, length-append}
 use Rattle.pm_words.specs.declared.layout.Layout.{Layout}
+use Rattle.pm_words.specs.Codes.{free_status}
 use Rattle.pm_words.specs.Offsets.{next_offset}
 use Rattle.cat_history.specs.Maps.{Map, at}
 use Rattle.cat_history.specs.Writes.{name_of, after}
@@ -62,6 +63,44 @@ beyond_kept : (t t' : Spot) (seen : List (ℕ × ℕ)) → ((offset : ℕ) → 3
     → AllByRecursion (λ (w : ℕ × ℕ). (3 ≤ w.0) × (w.0 ≤ 5) × (t w.0 ≡ w.1)) seen → AllByRecursion (λ (w : ℕ × ℕ). (3 ≤ w.0) × (w.0 ≤ 5) × (t' w.0 ≡ w.1)) seen
 beyond_kept t t' [] same all = tt
 beyond_kept t t' (w ∷ seen) same all = ((all.0.0, all.0.1, same w.0 all.0.0 all.0.1 ∙ all.0.2), beyond_kept t t' seen same all.1)
+
+-- a node in hand, with other words known, dirty or in hand
+pub regrasp : (l : Layout) (g : ℕ) (f : Facts) (k : Grip) (seen dirty : List (ℕ × ℕ)) (hand : Option (ℕ × ℕ)) → Tells seen (f.now k.node) → IfSome hand (λ hand. cached_word f k.node hand.0 ≡ hand.1)
+    → SureGrip l g f k → SureGrip l g f (record k { seen = seen; dirty = dirty; hand = hand })
+regrasp l g f k seen dirty hand tells in_hand sure = record { here = sure.here; stands = sure.stands; lock = sure.lock; seen = tells; hand = in_hand }
+
+-- a word of a node that was told
+pub told_word : (f : Facts) (n offset x : ℕ) → x ≡ cached_word f n offset → 0 < offset → f.now n offset ≡ x
+told_word f n offset x told positive = sym (told ∙ ap (λ (b : Bool). cond b (f.version n) (f.now n offset)) (ne_eqb offset 0 (λ z. omega arith)))
+
+-- what a party saw of a node stands on where facts change, or it sees more
+pub saw_on : (l : Layout) (g : ℕ) (f f' : Facts) (n v w : ℕ) (k k' : Sight) → v ≤ f'.version n → (k'.live ≡ true → f'.now n next_offset < l.nodes) → (f'.version n ≡ v → Stands f' n k')
+    → SureSaw l g f n v w k → SureSaw l g f' n v w k'
+saw_on l g f f' n v w k k' seen leads stands knows = record {
+  here = knows.here;
+  known = knows.known;
+  free = knows.free;
+  unworn = knows.unworn;
+  lock = knows.lock;
+  seen = seen;
+  leads = leads;
+  stands = stands;
+}
+
+pub eyes_on : (l : Layout) (g : ℕ) (f f' : Facts) (h : Held) (m v u : ℕ) (free free' : Bool) → v ≤ f'.version m → (f'.version m ≡ v → free' ≡ true → f'.status m ≡ free_status)
+    → SureEyes l g f h m v u free → SureEyes l g f' h m v u free'
+eyes_on l g f f' h m v u free free' seen stands knows = record {
+  clean = knows.clean;
+  durable = knows.durable;
+  here = knows.here;
+  nonzero = knows.nonzero;
+  known = knows.known;
+  unlocked = knows.unlocked;
+  unworn = knows.unworn;
+  lock = knows.lock;
+  seen = seen;
+  stands = stands;
+}
 
 module _ (l : Layout) (g : ℕ) (f f' : Facts) (later : IsLater f f') where
   longer : length f.history ≤ length f'.history
@@ -294,20 +333,12 @@ module _ (l : Layout) (g : ℕ) (f f' : Facts) (later : IsLater f f') where
 
   -- what a party saw where all is calm
   saw_kept : IsList l f → IsCalm l g f f' → (n v w : ℕ) (k : Sight) → SureSaw l g f n v w k → SureSaw l g f' n v w k
-  saw_kept list calm n v w k knows = record {
-    here = knows.here;
-    known = knows.known;
-    free = knows.free;
-    unworn = knows.unworn;
-    lock = knows.lock;
-    seen = let seen = knows.seen in let rise = calm.rises n knows.here in omega arith;
-    leads = λ live. calm.leads n (knows.leads live);
-    stands = λ is.
-        let seen = knows.seen in
-        let rise = calm.rises n knows.here in
-        let same : f.version n ≡ v = omega arith in
-        stands_kept n k (calm.steady n knows.here (subst (λ (u : ℕ). IsFree u g) (sym same) knows.free) (is ∙ sym same)) calm list (knows.stands same);
-  }
+  saw_kept list calm n v w k knows =
+      let seen = knows.seen in
+      let rise = calm.rises n knows.here in
+      saw_on l g f f' n v w k k (omega arith) (λ live. calm.leads n (knows.leads live)) (λ is.
+      let same : f.version n ≡ v = omega arith in
+      stands_kept n k (calm.steady n knows.here (subst (λ (u : ℕ). IsFree u g) (sym same) knows.free) (is ∙ sym same)) calm list (knows.stands same)) knows
 
   -- what a reader saw and read where all is calm
   reads_kept : IsList l f → IsCalm l g f f' → (since n v : ℕ) (k : Sight) (h : Option Held) → SureReads l g f since n v k h → SureReads l g f' since n v k h
@@ -330,22 +361,12 @@ module _ (l : Layout) (g : ℕ) (f f' : Facts) (later : IsLater f f') where
       }
 
   eyes_kept : IsCalm l g f f' → (h : Held) (m v u : ℕ) (free : Bool) → SureEyes l g f h m v u free → SureEyes l g f' h m v u free
-  eyes_kept calm h m v u free knows = record {
-    clean = knows.clean;
-    durable = knows.durable;
-    here = knows.here;
-    nonzero = knows.nonzero;
-    known = knows.known;
-    unlocked = knows.unlocked;
-    unworn = knows.unworn;
-    lock = knows.lock;
-    seen = let seen = knows.seen in let rise = calm.rises m knows.here in omega arith;
-    stands = λ is told.
-        let seen = knows.seen in
-        let rise = calm.rises m knows.here in
-        let same : f.version m ≡ v = omega arith in
-        (calm.steady m knows.here (subst (λ (u : ℕ). IsFree u g) (sym same) knows.unlocked) (is ∙ sym same)).status ∙ knows.stands same told;
-  }
+  eyes_kept calm h m v u free knows =
+      let seen = knows.seen in
+      let rise = calm.rises m knows.here in
+      eyes_on l g f f' h m v u free free (omega arith) (λ is told.
+      let same : f.version m ≡ v = omega arith in
+      (calm.steady m knows.here (subst (λ (u : ℕ). IsFree u g) (sym same) knows.unlocked) (is ∙ sym same)).status ∙ knows.stands same told) knows
 
   wears_kept : IsCalm l g f f' → (n v : ℕ) → SureWears l g f n v → SureWears l g f' n v
   wears_kept calm n v knows = record {

@@ -1,5 +1,5 @@
 -- The switch of a merge drops a member, in the words of anchors.
-use Rattle.std.proofs.Common.{◌≡◌, ◌≢◌, ℕ, ◌+◌, ◌/◌, ◌≤◌, inl, inr, ⊎_elim, Bool, true, false, cond, not, ◌&&◌, ◌||◌, nat_lt, nat_le, Option, Some, None, List, [], ◌∷◌, ◌++◌, length, slice_get, unwrap_or, refl, sym, ap, ◌∙◌, subst, arith, le-leb, ltb-true, ltb-false, eq-eqb, ne_eqb, eqb-true, length-append}
+use Rattle.std.proofs.Common.{◌≡◌, ◌≢◌, ℕ, ◌+◌, ◌/◌, ◌≤◌, ◌⊎◌, inl, inr, ⊎_elim, Bool, true, false, cond, not, ◌&&◌, ◌||◌, nat_lt, nat_le, Option, Some, None, List, [], ◌∷◌, ◌++◌, length, slice_get, unwrap_or, refl, sym, ap, ◌∙◌, subst, arith, le-leb, ltb-true, ltb-false, eq-eqb, ne_eqb, eqb-true, length-append}
 use Rattle.std.proofs.lemmas.Bool.{lt-leb, cases_eq}
 use Rattle.std.specs.FinMap.{keys}
 use Rattle.std.specs.List.{last_or, AllByRecursion}
@@ -141,6 +141,20 @@ drop-texts now here least (m ∷ behind) chain rise named r among =
     ∙ sym (filter-keeps (λ a. not (same (text_of_key (anchor_in (now r))) a)) t (texts behind) (ap not (above-differs (text_of_key (anchor_in (now r))) t above))))
     (cases_eq m.node r)
 
+-- a name below the next anchor has its target here, and another one behind
+here_or_on : (here : ℕ) (m : ListNode) (behind : List ListNode) (name : List ℕ) → IsText name → TextOf m.anchor (text_of_key m.anchor)
+    → ((below name (text_of_key m.anchor) ≡ true) × (target_from here (m ∷ behind) (key_of name) ≡ here))
+    ⊎ ((below name (text_of_key m.anchor) ≡ false) × (target_from here (m ∷ behind) (key_of name) ≡ target_from m.node behind (key_of name)))
+here_or_on here m behind name tn tm =
+    let t : List ℕ = text_of_key m.anchor in
+    let by : below name t ≡ nat_lt (key_of name) m.anchor = text-below (key_of name) m.anchor name t (record { is_text = tn; is = refl }) tm in
+    let split : (b : Bool) → nat_le m.anchor (key_of name) ≡ b → target_from here (m ∷ behind) (key_of name) ≡ cond b (target_from m.node behind (key_of name)) here =
+    λ b e. ap (λ c. cond c (target_from m.node behind (key_of name)) here) e in
+    ⊎_elim
+    (λ (under : below name t ≡ true). inl (under, split false (lt-leb m.anchor (key_of name) (ltb-true (key_of name) m.anchor (sym by ∙ under)))))
+    (λ (isnt : below name t ≡ false). inr (isnt, split true (le-leb m.anchor (key_of name) (ltb-false (key_of name) m.anchor (sym by ∙ isnt)))))
+    (true_or_false (below name t))
+
 -- where the target leads, the next anchor is
 next-text : (now : ℕ → Spot) (here : ℕ) (low : List ℕ) (list : List ListNode) → IsChain now here list → Rise (anchor_in (now here)) list → TextOf (anchor_in (now here)) low → Named list →
     (name : List ℕ) → IsText name → below name low ≡ false → (n r : ℕ) → target_from here list (key_of name) ≡ n → now n next_offset ≡ r → r ≢ 0 →
@@ -150,20 +164,17 @@ next-text now here low (m ∷ behind) chain rise tl named name tn from n r is le
     let t : List ℕ = text_of_key m.anchor in
     let tm : TextOf m.anchor t = text-of m named.0 in
     let ordered : shape.AnchorsRise (low ∷ t ∷ texts behind) = rise-texts (anchor_in (now here)) low (m ∷ behind) tl rise named in
-    let by : below name t ≡ nat_lt (key_of name) m.anchor = text-below (key_of name) m.anchor name t (record { is_text = tn; is = refl }) tm in
-    let split : (b : Bool) → nat_le m.anchor (key_of name) ≡ b → target_from here (m ∷ behind) (key_of name) ≡ cond b (target_from m.node behind (key_of name)) here =
-    λ b e. ap (λ c. cond c (target_from m.node behind (key_of name)) here) e in
     ⊎_elim
-    (λ (under : below name t ≡ true).
-    let stays : here ≡ n = sym (split false (lt-leb m.anchor (key_of name) (ltb-true (key_of name) m.anchor (sym by ∙ under)))) ∙ is in
+    (λ (under : (below name t ≡ true) × (target_from here (m ∷ behind) (key_of name) ≡ here)).
+    let stays : here ≡ n = sym under.1 ∙ is in
     let e : r ≡ m.node = sym leads ∙ ap (λ k. now k next_offset) (sym stays) ∙ chain.0 in
-    (here-target low (t ∷ texts behind) name from (higher low t (texts behind) name under ordered)).1
+    (here-target low (t ∷ texts behind) name from (higher low t (texts behind) name under.0 ordered)).1
     ∙ ap (λ k. Some (text_of_key k)) (sym (ap (λ k. anchor_in (now k)) e ∙ chain.2)))
-    (λ (isnt : below name t ≡ false).
-    let goes : target_from m.node behind (key_of name) ≡ n = sym (split true (le-leb m.anchor (key_of name) (ltb-false (key_of name) m.anchor (sym by ∙ isnt)))) ∙ is in
-    (later-target low t (texts behind) name from isnt).1
-    ∙ next-text now m.node t behind chain.3 (rise_at now m behind chain.2 rise.1) (subst (λ k. TextOf k t) (sym chain.2) tm) named.1 name tn isnt n r goes leads some)
-    (true_or_false (below name t))
+    (λ (isnt : (below name t ≡ false) × (target_from here (m ∷ behind) (key_of name) ≡ target_from m.node behind (key_of name))).
+    let goes : target_from m.node behind (key_of name) ≡ n = sym isnt.1 ∙ is in
+    (later-target low t (texts behind) name from isnt.0).1
+    ∙ next-text now m.node t behind chain.3 (rise_at now m behind chain.2 rise.1) (subst (λ k. TextOf k t) (sym chain.2) tm) named.1 name tn isnt.0 n r goes leads some)
+    (here_or_on here m behind name tn tm)
 
 -- where the target leads nowhere, there is no next anchor
 next-none : (now : ℕ → Spot) (here : ℕ) (low : List ℕ) (list : List ListNode) → IsChain now here list → Rise (anchor_in (now here)) list → TextOf (anchor_in (now here)) low → Named list →
@@ -172,18 +183,15 @@ next-none now here low [] chain rise tl named name tn from n is ends = (here-tar
 next-none now here low (m ∷ behind) chain rise tl named name tn from n is ends =
     let t : List ℕ = text_of_key m.anchor in
     let tm : TextOf m.anchor t = text-of m named.0 in
-    let by : below name t ≡ nat_lt (key_of name) m.anchor = text-below (key_of name) m.anchor name t (record { is_text = tn; is = refl }) tm in
-    let split : (b : Bool) → nat_le m.anchor (key_of name) ≡ b → target_from here (m ∷ behind) (key_of name) ≡ cond b (target_from m.node behind (key_of name)) here =
-    λ b e. ap (λ c. cond c (target_from m.node behind (key_of name)) here) e in
     ⊎_elim
-    (λ (under : below name t ≡ true).
-    let stays : here ≡ n = sym (split false (lt-leb m.anchor (key_of name) (ltb-true (key_of name) m.anchor (sym by ∙ under)))) ∙ is in
+    (λ (under : (below name t ≡ true) × (target_from here (m ∷ behind) (key_of name) ≡ here)).
+    let stays : here ≡ n = sym under.1 ∙ is in
     absurd (chain.1 (sym chain.0 ∙ ap (λ k. now k next_offset) stays ∙ ends)))
-    (λ (isnt : below name t ≡ false).
-    let goes : target_from m.node behind (key_of name) ≡ n = sym (split true (le-leb m.anchor (key_of name) (ltb-false (key_of name) m.anchor (sym by ∙ isnt)))) ∙ is in
-    (later-target low t (texts behind) name from isnt).1
-    ∙ next-none now m.node t behind chain.3 (rise_at now m behind chain.2 rise.1) (subst (λ k. TextOf k t) (sym chain.2) tm) named.1 name tn isnt n goes ends)
-    (true_or_false (below name t))
+    (λ (isnt : (below name t ≡ false) × (target_from here (m ∷ behind) (key_of name) ≡ target_from m.node behind (key_of name))).
+    let goes : target_from m.node behind (key_of name) ≡ n = sym isnt.1 ∙ is in
+    (later-target low t (texts behind) name from isnt.0).1
+    ∙ next-none now m.node t behind chain.3 (rise_at now m behind chain.2 rise.1) (subst (λ k. TextOf k t) (sym chain.2) tm) named.1 name tn isnt.0 n goes ends)
+    (here_or_on here m behind name tn tm)
 
 pub no_next : (l : Layout) (f : Facts) → IsList l f → (name : List ℕ) → IsName name → (n : ℕ) → range_of l f n name ≡ true → f.now n next_offset ≡ 0 → next_of (anchors_of f.list) name ≡ None
 no_next l f list name is_name n inside ends =

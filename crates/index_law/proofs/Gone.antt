@@ -15,7 +15,7 @@ use Rattle.index_law.specs.Lawful.{IsList, AreLive, Sure}
 use Rattle.call_stages.specs.Stages.{HoldsNode}
 use Rattle.index_law.specs.Prevs.{IsGone}
 use Rattle.index_law.proofs.Bystanders.{IsSteady}
-use Rattle.index_law.proofs.Locks.{own_of, steady_else, look_before, split_before}
+use Rattle.index_law.proofs.Locks.{own_of, steady_else, look_holds, split_holds}
 use Rattle.index_law.proofs.Moves.{fact_after, MergeGave, Gives}
 use Rattle.index_law.proofs.Switch.{inside_listed, leads_on}
 use Rattle.index_law.proofs.Versions.{unfree}
@@ -45,7 +45,7 @@ module _ {l : Layout} {g : ℕ} (f : Facts) (caller index since : ℕ) (list : I
   -- who holds a node afterwards held it, or it isn't GONE
   taken : {s : Stage} {a : Action} {x : ℕ} {t : Stage} {r : Option (Once Placed)} → (k : Step l g s a x t r) → Gives k f → Sure l g f caller index since s → (m : ℕ) → HoldsNode t m
       → HoldsNode s m ⊎ (IsGone f m → ⊥)
-  taken (kinds.looks look) e mine m lock = inl (look_before f caller index since look m lock)
+  taken (kinds.looks look) e mine m lock = inl ((look_holds f caller index since look m).1 lock)
   taken (kinds.locks {n = n} same named lit between) e mine m lock = inr (listed_stays n m lock ((mine.stands (sym e ∙ same)).listed lit))
   taken (kinds.locks_read {n = n} same named lit between unworn is_lock small) e mine m lock = inr (listed_stays n m lock ((mine.stands (sym e ∙ same)).listed lit))
   taken (kinds.stores has content small clean soils learnt means) e mine m lock = inl lock
@@ -58,7 +58,7 @@ module _ {l : Layout} {g : ℕ} (f : Facts) (caller index since : ℕ) (list : I
       inr (λ gone. absurd (let no : 0 ≡ 2 = sym (mine.1.stands (sym e ∙ same) refl) ∙ ap f.status lock ∙ gone in omega arith))
   taken (kinds.publishes next left fresh) e mine m lock = inl (inl lock)
   taken (kinds.leaves next) e mine m lock = absurd lock
-  taken (kinds.splits k) e mine m lock = inl (split_before f caller index since k m lock)
+  taken (kinds.splits k) e mine m lock = inl ((split_holds f caller index since k m).1 lock)
   taken (kinds.merges k) e mine m lock = merge_taken k e mine m lock
 
   -- so it stays, whoever steps: its version word and its status with it

@@ -22,7 +22,7 @@ use Rattle.index_law.proofs.Moves.{merge_after, MergeGave}
 use Rattle.index_law.proofs.Rows.{with_version, with_word, with_past, set_here, set_else, links_content}
 use Rattle.index_law.proofs.Switch.{inside_listed, leads_on, one_range, anchors_set}
 use Rattle.index_law.proofs.Past.{range_joined, range_right, listed_else, listed_not, right_above, right_anchor, anchor_inside}
-use Rattle.index_law.proofs.Bystanders.{settled_kept, grip_kept, holds_kept, later-version, steady-version, later-word, steady-word}
+use Rattle.index_law.proofs.Bystanders.{regrasp, told_word, settled_kept, grip_kept, holds_kept, later-version, steady-version, later-word, steady-word}
 use Rattle.index_law.proofs.Stays.{stays_stored, means_beside}
 use Rattle.index_law.proofs.Versions.{own_lock, unfree}
 
@@ -132,7 +132,7 @@ module _ (l : Layout) (g : ℕ) (f : Facts) (caller index since : ℕ) where
         still = knows.1.still;
         untimed = knows.1.untimed;
         unmerged = knows.1.unmerged;
-        grip = record { here = knows.1.grip.here; stands = knows.1.grip.stands; lock = knows.1.grip.lock; seen = told (f.now right.node) knows.1.grip.seen (sym e); hand = knows.1.grip.hand };
+        grip = regrasp l g f right seen right.dirty right.hand (told (f.now right.node) knows.1.grip.seen (sym e)) knows.1.grip.hand knows.1.grip;
         copies = knows.1.copies;
         apart = knows.1.apart;
         nonzero = knows.1.nonzero;
@@ -282,13 +282,7 @@ module _ (l : Layout) (g : ℕ) (f : Facts) (caller index since : ℕ) where
         hand_else (Some k) was new = (λ i. cond (k.0 == 0) (f.version right.node) (new i k.0)) ∙ was
     merge_mine (glances_joined {x = x} {offset = offset} {left = left} {right = right} {pace = pace} {seen = seen} has learnt) e knows = record {
       call = record { unmerged = knows.call.unmerged; named = knows.call.named; inside = knows.call.inside; below = knows.call.below; old = knows.call.old; placed = knows.call.placed };
-      one = record {
-        here = knows.one.here;
-        stands = knows.one.stands;
-        lock = knows.one.lock;
-        seen = learnt (f.now left.node) knows.one.seen (λ positive. sym (e ∙ ap (λ (b : Bool). cond b (f.version left.node) (f.now left.node offset)) (ne_eqb offset 0 (λ z. omega arith))));
-        hand = sym e;
-      };
+      one = regrasp l g f left seen left.dirty (Some (offset, x)) (learnt (f.now left.node) knows.one.seen (told_word f left.node offset x e)) (sym e) knows.one;
       other = knows.other;
       apart = knows.apart;
       nonzero = knows.nonzero;
@@ -296,7 +290,7 @@ module _ (l : Layout) (g : ℕ) (f : Facts) (caller index since : ℕ) where
     }
     merge_mine (drains_joined {left = left} {right = right} {pace = pace} {dirty = dirty} has small hand cleans) e knows = record {
       call = record { unmerged = knows.call.unmerged; named = knows.call.named; inside = knows.call.inside; below = knows.call.below; old = knows.call.old; placed = knows.call.placed };
-      one = record { here = knows.one.here; stands = knows.one.stands; lock = knows.one.lock; seen = knows.one.seen; hand = tt };
+      one = regrasp l g f left left.seen dirty None knows.one.seen tt knows.one;
       other = knows.other;
       apart = knows.apart;
       nonzero = knows.nonzero;

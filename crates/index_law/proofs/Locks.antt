@@ -1,6 +1,6 @@
 -- What a step makes of the locks, of the free nodes and of the other parties.
 use Rattle.std.proofs.Common.{◌≡◌, ◌≢◌, ℕ, ◌<◌, ◌≤◌, ◌⊎◌, inl, inr, ⊎_elim, Bool, true, cond, List, [], refl, sym, ap, ◌∙◌, subst, arith}
-use Rattle.std.specs.Prelude.{Option, Some, IfSome}
+use Rattle.std.specs.Prelude.{◌↔◌, Option, Some, IfSome}
 use Rattle.std.proofs.lemmas.Bool.{eq-eqb, ne_eqb, cases_eq}
 use Rattle.pm_words.specs.Codes.{live_status, gone_status}
 use Rattle.pm_words.specs.declared.layout.Layout.{Layout}
@@ -410,42 +410,43 @@ module _ {l : Layout} {g : ℕ} (f : Facts) (caller index since : ℕ) where
   lead (splits k) list mine m was = split_leads k mine m was
   lead (merges k) list mine m was = merge_leads k list mine m was
 
-  pub look_before : {s : Stage} {a : Action} {x : ℕ} {t : Stage} {r : Option (Once Placed)} → (k : Look l g s a x t r) → (m : ℕ) → HoldsNode t m → HoldsNode s m
-  look_before (turns_back {s = s} loose here busy) m lock = absurd lock
-  look_before (wears {s = s} loose here free worn) m lock = absurd lock
-  look_before (roams has) m lock = absurd lock
-  look_before (roams_status here) m lock = absurd lock
-  look_before (is_worn has) m lock = absurd lock
-  look_before (sees {s = s} loose here free unworn lock') m lock = absurd lock
-  look_before (finds_live here is) m lock = absurd lock
-  look_before (watches has positive live next learnt) m lock = absurd lock
-  look_before (watches_next has low high ne live live' next leads learnt) m lock = absurd lock
-  look_before (turns_away {s = s} loose here up) m lock = absurd lock
-  look_before (steps_back {s = s} loose here up) m lock = absurd lock
-  look_before (wanders {s = s} loose here up) m lock = absurd lock
-  look_before (peeks here unready) m lock = lock
-  look_before (peeks_status here unready) m lock = lock
-  look_before (eyes clean durable here nonzero free unworn lock') m lock = lock
-  look_before (eyes_free here is) m lock = lock
-  look_before (passes here) m lock = lock
-  look_before (loses here other) m lock = lock
-  look_before (misses other) m lock = absurd lock
-  look_before (misses_read other small) m lock = absurd lock
-  look_before (times clean below) m lock = lock
-  look_before (learns has positive unready learnt) m lock = lock
-  look_before (decides has positive clean durable about learnt decided) m lock = lock
-  look_before (reads_on {t = t} k) m lock = absurd (loose_holds t (read_after k) m lock)
-  look_before (glances has unready) m lock = lock
+  -- a look takes no node, and gives none back
+  pub look_holds : {s : Stage} {a : Action} {x : ℕ} {t : Stage} {r : Option (Once Placed)} → (k : Look l g s a x t r) → (m : ℕ) → HoldsNode s m ↔ HoldsNode t m
+  look_holds (turns_back {s = s} loose here busy) m = (λ held. absurd (loose_holds s loose m held), λ lock. absurd lock)
+  look_holds (wears {s = s} loose here free worn) m = (λ held. absurd (loose_holds s loose m held), λ lock. absurd lock)
+  look_holds (roams has) m = (λ held. held, λ lock. lock)
+  look_holds (roams_status here) m = (λ held. held, λ lock. lock)
+  look_holds (is_worn has) m = (λ held. held, λ lock. lock)
+  look_holds (sees {s = s} loose here free unworn lock') m = (λ held. absurd (loose_holds s loose m held), λ lock. absurd lock)
+  look_holds (finds_live here is) m = (λ held. held, λ lock. lock)
+  look_holds (watches has positive live next learnt) m = (λ held. held, λ lock. lock)
+  look_holds (watches_next has low high ne live live' next leads learnt) m = (λ held. held, λ lock. lock)
+  look_holds (turns_away {s = s} loose here up) m = (λ held. absurd (loose_holds s loose m held), λ lock. absurd lock)
+  look_holds (steps_back {s = s} loose here up) m = (λ held. absurd (loose_holds s loose m held), λ lock. absurd lock)
+  look_holds (wanders {s = s} loose here up) m = (λ held. absurd (loose_holds s loose m held), λ lock. absurd lock)
+  look_holds (peeks here unready) m = (λ held. held, λ lock. lock)
+  look_holds (peeks_status here unready) m = (λ held. held, λ lock. lock)
+  look_holds (eyes clean durable here nonzero free unworn lock') m = (λ held. held, λ lock. lock)
+  look_holds (eyes_free here is) m = (λ held. held, λ lock. lock)
+  look_holds (passes here) m = (λ held. held, λ lock. lock)
+  look_holds (loses here other) m = (λ held. held, λ lock. lock)
+  look_holds (misses other) m = (λ held. held, λ lock. lock)
+  look_holds (misses_read other small) m = (λ held. held, λ lock. lock)
+  look_holds (times clean below) m = (λ held. held, λ lock. lock)
+  look_holds (learns has positive unready learnt) m = (λ held. held, λ lock. lock)
+  look_holds (decides has positive clean durable about learnt decided) m = (λ held. held, λ lock. lock)
+  look_holds (reads_on {s = s} {t = t} k) m = (λ held. absurd (loose_holds s (read_before k) m held), λ lock. absurd (loose_holds t (read_after k) m lock))
+  look_holds (glances has unready) m = (λ held. held, λ lock. lock)
 
-  pub split_before : {s : Stage} {a : Action} {x : ℕ} {t : Stage} → (k : Split l g s a x t) → (m : ℕ) → HoldsNode t m → HoldsNode s m
-  split_before (fills has positive small within soils told) m lock = lock
-  split_before (lights here leads) m lock = lock
-  split_before (switches here small durable soiled cut told means) m lock = lock
-  split_before (glances_left has learnt) m lock = lock
-  split_before (glances_fresh has) m lock = lock
-  split_before (drains_left has small hand cleans) m lock = lock
-  split_before (drains_fresh has small hand cleans) m lock = lock
-  split_before (trims here small durable soiled anchor told means) m lock = lock
+  pub split_holds : {s : Stage} {a : Action} {x : ℕ} {t : Stage} → (k : Split l g s a x t) → (m : ℕ) → HoldsNode s m ↔ HoldsNode t m
+  split_holds (fills has positive small within soils told) m = (λ held. held, λ lock. lock)
+  split_holds (lights here leads) m = (λ held. held, λ lock. lock)
+  split_holds (switches here small durable soiled cut told means) m = (λ held. held, λ lock. lock)
+  split_holds (glances_left has learnt) m = (λ held. held, λ lock. lock)
+  split_holds (glances_fresh has) m = (λ held. held, λ lock. lock)
+  split_holds (drains_left has small hand cleans) m = (λ held. held, λ lock. lock)
+  split_holds (drains_fresh has small hand cleans) m = (λ held. held, λ lock. lock)
+  split_holds (trims here small durable soiled anchor told means) m = (λ held. held, λ lock. lock)
 
   merge_before : {s : Stage} {a : Action} {x : ℕ} {t : Stage} → (k : Merge l g s a x t) → MergeGave k f → Sure l g f caller index since s → (m : ℕ) → HoldsNode t m
       → HoldsNode s m ⊎ (IsFree (f.version m) g × (IsWorn (f.version m) g → ⊥))
@@ -469,7 +470,7 @@ module _ {l : Layout} {g : ℕ} (f : Facts) (caller index since : ℕ) where
   -- who holds a node afterwards held it, or found it free
   pub lock_before : {s : Stage} {a : Action} {x : ℕ} {t : Stage} {r : Option (Once Placed)} → (k : Step l g s a x t r) → Gives k f → Sure l g f caller index since s
       → (m : ℕ) → HoldsNode t m → HoldsNode s m ⊎ IsFree (f.version m) g
-  lock_before (looks look) e mine m lock = inl (look_before look m lock)
+  lock_before (looks look) e mine m lock = inl ((look_holds look m).1 lock)
   lock_before (locks {n = n} same named live between) e mine m lock = inr (subst (λ (v : ℕ). IsFree v g) (sym (ap f.version (sym lock) ∙ sym e ∙ same)) mine.free)
   lock_before (locks_read {n = n} same named live between unworn taken small) e mine m lock = inr (subst (λ (v : ℕ). IsFree v g) (sym (ap f.version (sym lock) ∙ sym e ∙ same)) mine.free)
   lock_before (stores has content small clean soils learnt means) e mine m lock = inl lock
@@ -481,13 +482,13 @@ module _ {l : Layout} {g : ℕ} (f : Facts) (caller index since : ℕ) where
   lock_before (claims unplaced here same) e mine m (inr lock) = inr (subst (λ (v : ℕ). IsFree v g) (sym (ap f.version (sym lock) ∙ sym e ∙ same)) mine.1.unlocked)
   lock_before (publishes next left fresh) e mine m lock = inl (inl lock)
   lock_before (leaves next) e mine m lock = absurd lock
-  lock_before (splits k) e mine m lock = inl (split_before k m lock)
+  lock_before (splits k) e mine m lock = inl ((split_holds k m).1 lock)
   lock_before (merges k) e mine m lock = ⊎_elim (λ was. inl was) (λ found. inr found.0) (merge_before k e mine m lock)
 
   -- who holds a node afterwards held it, or found it unworn
   taken_unworn : {s : Stage} {a : Action} {x : ℕ} {t : Stage} {r : Option (Once Placed)} → (k : Step l g s a x t r) → Gives k f → Sure l g f caller index since s
       → (m : ℕ) → HoldsNode t m → HoldsNode s m ⊎ (IsWorn (f.version m) g → ⊥)
-  taken_unworn (looks look) e mine m lock = inl (look_before look m lock)
+  taken_unworn (looks look) e mine m lock = inl ((look_holds look m).1 lock)
   taken_unworn (locks {n = n} same named live between) e mine m lock = inr (λ worn. mine.unworn (subst (λ (v : ℕ). IsWorn v g) (ap f.version (sym lock) ∙ sym e ∙ same) worn))
   taken_unworn (locks_read {n = n} same named live between unworn taken small) e mine m lock = inr (λ worn. unworn (subst (λ (v : ℕ). IsWorn v g) (ap f.version (sym lock) ∙ sym e ∙ same) worn))
   taken_unworn (stores has content small clean soils learnt means) e mine m lock = inl lock
@@ -499,7 +500,7 @@ module _ {l : Layout} {g : ℕ} (f : Facts) (caller index since : ℕ) where
   taken_unworn (claims unplaced here same) e mine m (inr lock) = inr (λ worn. mine.1.unworn (subst (λ (v : ℕ). IsWorn v g) (ap f.version (sym lock) ∙ sym e ∙ same) worn))
   taken_unworn (publishes next left fresh) e mine m lock = inl (inl lock)
   taken_unworn (leaves next) e mine m lock = absurd lock
-  taken_unworn (splits k) e mine m lock = inl (split_before k m lock)
+  taken_unworn (splits k) e mine m lock = inl ((split_holds k m).1 lock)
   taken_unworn (merges k) e mine m lock = ⊎_elim (λ was. inl was) (λ found. inr found.1) (merge_before k e mine m lock)
 
   -- the nodes that the other parties hold are steady
@@ -574,43 +575,6 @@ module _ {l : Layout} {g : ℕ} (f : Facts) (caller index since : ℕ) where
   stays_known (merges k) mine known m here = merge_known k mine known m here
   stays_known (splits k) mine known m here = subst (λ (version : ℕ → ℕ). generation_of (version m) ≤ g) (sym (split_versions k)) (known m here)
 
-  pub look_freed : {s : Stage} {a : Action} {x : ℕ} {t : Stage} {r : Option (Once Placed)} → (k : Look l g s a x t r) → (m : ℕ) → HoldsNode s m → HoldsNode t m
-  look_freed (turns_back {s = s} loose here busy) m held = absurd (loose_holds s loose m held)
-  look_freed (wears {s = s} loose here free worn) m held = absurd (loose_holds s loose m held)
-  look_freed (roams has) m held = absurd held
-  look_freed (roams_status here) m held = absurd held
-  look_freed (is_worn has) m held = absurd held
-  look_freed (sees {s = s} loose here free unworn lock') m held = absurd (loose_holds s loose m held)
-  look_freed (finds_live here is) m held = absurd held
-  look_freed (watches has positive live next learnt) m held = absurd held
-  look_freed (watches_next has low high ne live live' next leads learnt) m held = absurd held
-  look_freed (turns_away {s = s} loose here up) m held = absurd (loose_holds s loose m held)
-  look_freed (steps_back {s = s} loose here up) m held = absurd (loose_holds s loose m held)
-  look_freed (wanders {s = s} loose here up) m held = absurd (loose_holds s loose m held)
-  look_freed (peeks here unready) m held = held
-  look_freed (peeks_status here unready) m held = held
-  look_freed (eyes clean durable here nonzero free unworn lock') m held = held
-  look_freed (eyes_free here is) m held = held
-  look_freed (passes here) m held = held
-  look_freed (loses here other) m held = held
-  look_freed (misses other) m held = absurd held
-  look_freed (misses_read other small) m held = absurd held
-  look_freed (times clean below) m held = held
-  look_freed (learns has positive unready learnt) m held = held
-  look_freed (decides has positive clean durable about learnt decided) m held = held
-  look_freed (reads_on {s = s} k) m held = absurd (loose_holds s (read_before k) m held)
-  look_freed (glances has unready) m held = held
-
-  pub split_freed : {s : Stage} {a : Action} {x : ℕ} {t : Stage} → (k : Split l g s a x t) → (m : ℕ) → HoldsNode s m → HoldsNode t m
-  split_freed (fills has positive small within soils told) m held = held
-  split_freed (lights here leads) m held = held
-  split_freed (switches here small durable soiled cut told means) m held = held
-  split_freed (glances_left has learnt) m held = held
-  split_freed (glances_fresh has) m held = held
-  split_freed (drains_left has small hand cleans) m held = held
-  split_freed (drains_fresh has small hand cleans) m held = held
-  split_freed (trims here small durable soiled anchor told means) m held = held
-
   merge_back : {s : Stage} {a : Action} {x : ℕ} {t : Stage} → (k : Merge l g s a x t) → IsList l f → Sure l g f caller index since s
       → (m : ℕ) → HoldsNode s m → (HoldsNode t m → ⊥) → IsGivenBack l g (merge_after k f) m
   merge_back (meets here same untimed leads) list mine m held gone = absurd (gone (inl held))
@@ -643,7 +607,7 @@ module _ {l : Layout} {g : ℕ} (f : Facts) (caller index since : ℕ) where
 
   pub given_back : {s : Stage} {a : Action} {x : ℕ} {t : Stage} {r : Option (Once Placed)} → (k : Step l g s a x t r) → IsList l f → Sure l g f caller index since s
       → (m : ℕ) → HoldsNode s m → (HoldsNode t m → ⊥) → IsGivenBack l g (fact_after k f caller index) m
-  given_back (looks look) list mine m held gone = absurd (gone (look_freed look m held))
+  given_back (looks look) list mine m held gone = absurd (gone ((look_holds look m).0 held))
   given_back (locks same named live between) list mine m held gone = absurd held
   given_back (locks_read same named live between unworn taken small) list mine m held gone = absurd held
   given_back (stores has content small clean soils learnt means) list mine m held gone = absurd (gone held)
@@ -668,7 +632,7 @@ module _ {l : Layout} {g : ℕ} (f : Facts) (caller index since : ℕ) where
     free = subst (λ (v : ℕ). IsFree v g) (sym (version_there f left.node freed m (sym held) ∙ next)) (freed-free left.lock g mine.grip.lock);
     rest = inl (subst (IsListed f) held mine.listed, subst (IsSettled l (with_version f left.node freed)) held (record { means = mine.settled.means; stays = mine.settled.stays }));
   }
-  given_back (splits k) list mine m held gone = absurd (gone (split_freed k m held))
+  given_back (splits k) list mine m held gone = absurd (gone ((split_holds k m).0 held))
   given_back (merges k) list mine m held gone = merge_back k list mine m held gone
 
   -- each listed free node means the map on its range

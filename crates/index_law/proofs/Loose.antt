@@ -9,7 +9,7 @@ use Rattle.call_stages.specs.declared.once.Once.{Once}
 use Rattle.call_stages.specs.declared.once.Once.TheVariants as once
 use Rattle.call_stages.specs.declared.once.Placed.{Placed}
 use Rattle.call_stages.specs.Kinds.{clock_address, GivesUp}
-use Rattle.call_stages.specs.Stages.{Stage, Idle, Saw, Wears, Reads, Holds, Eyes, Splits, Leaves, Meets, Joins, IsLoose, counted, placed_in}
+use Rattle.call_stages.specs.Stages.{Stage, Sight, Held, Idle, Saw, Wears, Reads, Holds, Eyes, Splits, Leaves, Meets, Joins, IsLoose, counted, placed_in}
 use Rattle.index_law.specs.Facts.{Facts}
 use Rattle.index_law.specs.LoneShapes.{IsOut, has_merged}
 use Rattle.call_stages.specs.Stages.{HoldsNode}
@@ -17,56 +17,34 @@ use Rattle.index_law.specs.Laws.{Counts, IsLegal, IsLegalUnheld}
 use Rattle.index_law.specs.Weights.{lowered_in}
 use Rattle.index_law.specs.Twins.{BacksStage}
 
+-- what holds of each loose stage, form by form
+pub each_loose : (P : Stage → Type 0) → P Idle → ((n v w : ℕ) (k : Sight) → P (Saw n v w k)) → ((n v : ℕ) → P (Wears n v)) → ((n v : ℕ) (sight : Sight) (told : Option Held) → P (Reads n v sight told))
+    → (s : Stage) → IsLoose s → P s
+each_loose P idle saw wears reads Idle loose = idle
+each_loose P idle saw wears reads (Saw n v w k) loose = saw n v w k
+each_loose P idle saw wears reads (Wears n v) loose = wears n v
+each_loose P idle saw wears reads (Reads n v sight told) loose = reads n v sight told
+each_loose P idle saw wears reads (Holds n w h) loose = absurd loose
+each_loose P idle saw wears reads (Eyes n w h m v u free) loose = absurd loose
+each_loose P idle saw wears reads (Splits left fresh phase) loose = absurd loose
+each_loose P idle saw wears reads (Leaves left) loose = absurd loose
+each_loose P idle saw wears reads (Meets n w h right) loose = absurd loose
+each_loose P idle saw wears reads (Joins h left right pace) loose = absurd loose
+
 pub loose_counted : (s : Stage) → IsLoose s → counted s ≡ None
-loose_counted Idle loose = refl
-loose_counted (Saw n v w k) loose = refl
-loose_counted (Holds n w h) loose = absurd loose
-loose_counted (Eyes n w h m v u free) loose = absurd loose
-loose_counted (Splits left fresh phase) loose = absurd loose
-loose_counted (Wears n v) loose = refl
-loose_counted (Reads n v sight told) loose = refl
-loose_counted (Leaves left) loose = absurd loose
-loose_counted (Meets n w h right) loose = absurd loose
-loose_counted (Joins h left right pace) loose = absurd loose
+loose_counted = each_loose (λ s. counted s ≡ None) refl (λ n v w k. refl) (λ n v. refl) (λ n v sight told. refl)
 
 pub loose_counts : (l : Layout) (count : ℕ) (a : Action) (x : ℕ) (s : Stage) → IsLoose s → a ≢ Add (clock_address l) → Counts l count a x (counted s)
 loose_counts l count a x s loose other = subst (Counts l count a x) (sym (loose_counted s loose)) other
 
 pub loose_holds : (s : Stage) → IsLoose s → (m : ℕ) → HoldsNode s m → ⊥
-loose_holds Idle loose m held = held
-loose_holds (Saw n v w k) loose m held = held
-loose_holds (Holds n w h) loose m held = loose
-loose_holds (Eyes n w h k v u free) loose m held = loose
-loose_holds (Splits left fresh phase) loose m held = loose
-loose_holds (Wears n v) loose m held = held
-loose_holds (Reads n v sight told) loose m held = held
-loose_holds (Leaves left) loose m held = loose
-loose_holds (Meets n w h right) loose m held = loose
-loose_holds (Joins h left right pace) loose m held = loose
+loose_holds s loose m = each_loose (λ s. HoldsNode s m → ⊥) (λ held. held) (λ n v w k held. held) (λ n v held. held) (λ n v sight told held. held) s loose
 
 pub loose_lowers : (l : Layout) (f : Facts) (s : Stage) → IsLoose s → lowered_in l f s ≡ 0
-loose_lowers l f Idle loose = refl
-loose_lowers l f (Saw n v w k) loose = refl
-loose_lowers l f (Holds n w h) loose = absurd loose
-loose_lowers l f (Eyes n w h m v u free) loose = refl
-loose_lowers l f (Splits left fresh phase) loose = refl
-loose_lowers l f (Wears n v) loose = refl
-loose_lowers l f (Reads n v sight told) loose = refl
-loose_lowers l f (Leaves left) loose = refl
-loose_lowers l f (Meets n w h right) loose = absurd loose
-loose_lowers l f (Joins h left right pace) loose = absurd loose
+loose_lowers l f = each_loose (λ s. lowered_in l f s ≡ 0) refl (λ n v w k. refl) (λ n v. refl) (λ n v sight told. refl)
 
 pub loose_backs : (l : Layout) (f : Facts) (words : List ℕ) (s : Stage) → IsLoose s → BacksStage l f words s
-loose_backs l f words Idle loose = tt
-loose_backs l f words (Saw n v w k) loose = tt
-loose_backs l f words (Holds n w h) loose = absurd loose
-loose_backs l f words (Eyes n w h m v u free) loose = absurd loose
-loose_backs l f words (Splits left fresh phase) loose = absurd loose
-loose_backs l f words (Wears n v) loose = tt
-loose_backs l f words (Reads n v k h) loose = tt
-loose_backs l f words (Leaves left) loose = absurd loose
-loose_backs l f words (Meets n w h right) loose = absurd loose
-loose_backs l f words (Joins h left right pace) loose = absurd loose
+loose_backs l f words = each_loose (BacksStage l f words) tt (λ n v w k. tt) (λ n v. tt) (λ n v sight told. tt)
 
 pub loose_legal : (l : Layout) (g : ℕ) (f : Facts) (caller index since : ℕ) (s : Stage) (answer : Once Placed) → IsLoose s → IsLegalUnheld g f answer
     → IsLegal l g f caller index since s (Some answer)
@@ -123,16 +101,7 @@ pub out_unmerged : (s : Stage) → IsOut s → has_merged s ≡ false
 out_unmerged s out = (out_has_none s out).1
 
 pub loose_out : (s : Stage) → IsLoose s → IsOut s
-loose_out Idle loose = tt
-loose_out (Saw n v w k) loose = tt
-loose_out (Wears n v) loose = tt
-loose_out (Reads n v sight told) loose = tt
-loose_out (Holds n w h) loose = absurd loose
-loose_out (Eyes n w h m v u free) loose = absurd loose
-loose_out (Splits left fresh phase) loose = absurd loose
-loose_out (Leaves left) loose = absurd loose
-loose_out (Meets n w h right) loose = absurd loose
-loose_out (Joins h left right pace) loose = absurd loose
+loose_out = each_loose IsOut tt (λ n v w k. tt) (λ n v. tt) (λ n v sight told. tt)
 
 pub loose_unplaced : (s : Stage) → IsLoose s → placed_in s ≡ None
 loose_unplaced s loose = out_unplaced s (loose_out s loose)

@@ -124,27 +124,22 @@ module _ {l : Layout} {g : ℕ} where
   ReadGave (wavers {n = n} {x = x} here other) f = x ≡ f.version n
 
   -- it is loose before and after
+  read_loose : {s : Stage} {a : Action} {x : ℕ} {t : Stage} {r : Option (Once Placed)} → Read l g s a x t r → IsLoose s × IsLoose t
+  read_loose (views loose here free) = (loose, tt)
+  read_loose (views_live here is) = (tt, tt)
+  read_loose (views_word has positive live next learnt) = (tt, tt)
+  read_loose (views_next has low high ne live live' next leads learnt) = (tt, tt)
+  read_loose (dates named live between kept) = (tt, tt)
+  read_loose (notes has positive learnt) = (tt, tt)
+  read_loose (finds has positive learnt decided) = (tt, tt)
+  read_loose (confirms here same unplaced unlimited time old) = (tt, tt)
+  read_loose (wavers here other) = (tt, tt)
+
   pub read_before : {s : Stage} {a : Action} {x : ℕ} {t : Stage} {r : Option (Once Placed)} → Read l g s a x t r → IsLoose s
-  read_before (views loose here free) = loose
-  read_before (views_live here is) = tt
-  read_before (views_word has positive live next learnt) = tt
-  read_before (views_next has low high ne live live' next leads learnt) = tt
-  read_before (dates named live between kept) = tt
-  read_before (notes has positive learnt) = tt
-  read_before (finds has positive learnt decided) = tt
-  read_before (confirms here same unplaced unlimited time old) = tt
-  read_before (wavers here other) = tt
+  read_before k = (read_loose k).0
 
   pub read_after : {s : Stage} {a : Action} {x : ℕ} {t : Stage} {r : Option (Once Placed)} → Read l g s a x t r → IsLoose t
-  read_after (views loose here free) = tt
-  read_after (views_live here is) = tt
-  read_after (views_word has positive live next learnt) = tt
-  read_after (views_next has low high ne live live' next leads learnt) = tt
-  read_after (dates named live between kept) = tt
-  read_after (notes has positive learnt) = tt
-  read_after (finds has positive learnt decided) = tt
-  read_after (confirms here same unplaced unlimited time old) = tt
-  read_after (wavers here other) = tt
+  read_after k = (read_loose k).1
 
   -- its action is a load
   pub read_loads : {s : Stage} {a : Action} {x : ℕ} {t : Stage} {r : Option (Once Placed)} → Read l g s a x t r → (address : ℕ) × (a ≡ Load address)

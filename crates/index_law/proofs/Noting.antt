@@ -25,7 +25,7 @@ use Rattle.index_law.specs.Laws.{loads_clock, loads_word, loads_status, loads_pr
 use Rattle.index_law.specs.Twins.{IsMix, AreDurable}
 use Rattle.index_law.specs.Lines.{line_in, safe_line, AreFit, IsGiven, WaitsOrIsEmpty, IsWaiting, SureLine, NoteLaw, NotesKeep, NodesLeaveLines, EvictFits}
 use Rattle.index_law.proofs.Backing.{known_mix, before_store, before_mix, after_mix, without_mix}
-use Rattle.index_law.proofs.Rows.{facts-elsewhere}
+use Rattle.index_law.proofs.Rows.{facts-elsewhere, if-alike}
 use Rattle.index_law.proofs.Twins.{blank_word, aside_blank, IsCloser, IsNearer, IsAside, nearer, evict_closer, evict_cached, store_closer, closer_stage, closer_durable, closer_versions, closer_front}
 use Rattle.index_law.proofs.Places.{caller_at, number_at, offset_at}
 
@@ -44,23 +44,20 @@ has_line l c j offset e =
     (ltb-true c l.callers outer.0, ltb-true j 8 inner.0, ltb-true offset 8 inner.1)
 
 -- rows in which a line's words are the same
+kind-alike : (l : Layout) (words words' : List ℕ) (c j offset : ℕ) (kind : Word → Location) → (HasWord l (Line c j offset) → at l words' (kind (Line c j offset)) ≡ at l words (kind (Line c j offset)))
+    → cond (in_line l c j offset) (at l words' (kind (Line c j offset))) 0 ≡ cond (in_line l c j offset) (at l words (kind (Line c j offset))) 0
+kind-alike l words words' c j offset kind same =
+    if-alike (in_line l c j offset) (at l words' (kind (Line c j offset))) (at l words (kind (Line c j offset))) (λ is. same (has_line l c j offset is))
+
 pub line-alike : (l : Layout) (words words' : List ℕ) (c j offset : ℕ) → (HasWord l (Line c j offset) → at l words' (Cached (Line c j offset)) ≡ at l words (Cached (Line c j offset)))
     → line_in l words' c j offset ≡ line_in l words c j offset
 unfolding line_in
-line-alike l words words' c j offset same =
-    elim (in_line l c j offset) as (λ b. in_line l c j offset ≡ b → cond b (at l words' (Cached (Line c j offset))) 0 ≡ cond b (at l words (Cached (Line c j offset))) 0) [
-      | true ↦ λ is. same (has_line l c j offset is)
-      | false ↦ λ _. refl
-    ] refl
+line-alike l words words' c j offset same = kind-alike l words words' c j offset Cached same
 
 pub safe-alike : (l : Layout) (words words' : List ℕ) (c j offset : ℕ) → (HasWord l (Line c j offset) → at l words' (Durable (Line c j offset)) ≡ at l words (Durable (Line c j offset)))
     → safe_line l words' c j offset ≡ safe_line l words c j offset
 unfolding safe_line
-safe-alike l words words' c j offset same =
-    elim (in_line l c j offset) as (λ b. in_line l c j offset ≡ b → cond b (at l words' (Durable (Line c j offset))) 0 ≡ cond b (at l words (Durable (Line c j offset))) 0) [
-      | true ↦ λ is. same (has_line l c j offset is)
-      | false ↦ λ _. refl
-    ] refl
+safe-alike l words words' c j offset same = kind-alike l words words' c j offset Durable same
 
 -- a store at an address that is no line's leaves lines
 abbrev pub IsNoLine : Location → Type 0

@@ -22,13 +22,13 @@ use Rattle.call_stages.specs.Stages.{Knows, KnowsDurable, IsAmong, Held, Sight, 
 use Rattle.call_stages.specs.Kinds.{finds_live, watches, watches_next, turns_away, steps_back, wanders, fills, lights, switches, glances_left, glances_fresh, drains_left, drains_fresh, trims, meets, knows_own, knows_right, copies, takes_up, puts_down, parts, gathers, joins, glances_joined, drains_joined, retires, yields, merges, splits, peeks, peeks_status, eyes, eyes_free, passes, loses, claims, publishes, leaves}
 use Rattle.call_stages.specs.Kinds.{Look, turns_back, is_worn, wears, roams, roams_status, sees, misses, misses_read, times, learns, decides, glances, Answers, writes, reads, is_spent, has_no_room, refuses, Step, looks, locks, locks_read, stores, commits, drains, counts, unlocks}
 use Rattle.index_law.specs.Facts.{Facts, map_now, range_of}
-use Rattle.index_law.specs.Lawful.{IsList, AreLive, AreKnown, AreSettled, IsTime, HasWriteAt, IsPlaced, map_before, IsOwnLock, Stands, SureHolds, SureSaw, Sure}
+use Rattle.index_law.specs.Lawful.{IsList, AreLive, AreKnown, AreSettled, IsTime, HasWriteAt, IsPlaced, map_before, IsOwnLock, Stands, SureHolds, Sure}
 use Rattle.index_law.specs.Laws.{loads_clock, loads_word, loads_status, loads_prev, exchanges, exchanges_read, stores_word, stores_status, drains_word, adds, claims_node, frees_fresh, frees_left, frees_met, frees_right, frees, IsWithin, StepIsAllowed, IsLegalHeld, IsLegal}
 use Rattle.index_law.proofs.Maps.{after_all-push, after-longer, after-whole, slice_get-last, means_alike}
 use Rattle.index_law.proofs.Moves.{fact_after, Gave, Gives, content_positive}
 use Rattle.index_law.proofs.Rows.{with_version, with_word}
 use Rattle.index_law.proofs.Switch.{between_inside, inside_listed}
-use Rattle.index_law.proofs.Bystanders.{grip_kept, later-version, steady-version}
+use Rattle.index_law.proofs.Bystanders.{grip_kept, later-version, steady-version, saw_on, eyes_on}
 use Rattle.index_law.proofs.Versions.{own_lock, unfree}
 use Rattle.index_law.proofs.Reading.{read_allowed, read_mine, read_legal, stands_live, stands_next, stands_word}
 use Rattle.call_stages.specs.Kinds.{reads_on}
@@ -131,20 +131,6 @@ begun_below : (limit : Option ℕ) (since clock : ℕ) → since ≤ clock → I
 begun_below None since clock later below = tt
 begun_below (Some most) since clock later below = omega arith
 
--- what a party saw of a node stands once it sees more
-saw_on : (l : Layout) (g : ℕ) (f : Facts) (n v w : ℕ) (k k' : Sight) → (k'.live ≡ true → f.now n next_offset < l.nodes) → (f.version n ≡ v → Stands f n k → Stands f n k')
-    → SureSaw l g f n v w k → SureSaw l g f n v w k'
-saw_on l g f n v w k k' leads more knows = record {
-  here = knows.here;
-  known = knows.known;
-  free = knows.free;
-  unworn = knows.unworn;
-  lock = knows.lock;
-  seen = knows.seen;
-  leads = leads;
-  stands = λ same. more same (knows.stands same);
-}
-
 module _ {l : Layout} {g : ℕ} (f : Facts) (caller index since : ℕ) where
   -- what is known of a call with nothing pending
   pub clean_means : (n w : ℕ) (h : Held) → SureHolds l g f caller index since n w h → h.pending ≡ None → Means l.slots (range_of l f n) (f.now n) (map_now f)
@@ -177,12 +163,12 @@ module _ {l : Layout} {g : ℕ} (f : Facts) (caller index since : ℕ) where
       };
     }
     look_mine (finds_live {n = n} {v = v} {w = w} {k = k} here is) e knows =
-        saw_on l g f n v w k (record k { live = true }) (λ _. live_part.leads n here (sym e ∙ is))
-        (λ same. stands_live f n k (live_part.listed n here (sym e ∙ is) (subst (λ (u : ℕ). IsFree u g) (sym same) knows.free))) knows
+        saw_on l g f f n v w k (record k { live = true }) knows.seen (λ _. live_part.leads n here (sym e ∙ is))
+        (λ same. stands_live f n k (live_part.listed n here (sym e ∙ is) (subst (λ (u : ℕ). IsFree u g) (sym same) knows.free)) (knows.stands same)) knows
     look_mine (watches {n = n} {v = v} {w = w} {x = x} {offset = offset} {k = k} {k' = k'} has positive live next learnt) e knows =
-        saw_on l g f n v w k k' (λ is. knows.leads (sym live ∙ is)) (λ same. stands_word f n offset x k k' live next learnt e) knows
+        saw_on l g f f n v w k k' knows.seen (λ is. knows.leads (sym live ∙ is)) (λ same. stands_word f n offset x k k' live next learnt e (knows.stands same)) knows
     look_mine (watches_next {n = n} {v = v} {w = w} {m = m} {x = x} {offset = offset} {k = k} {k' = k'} has low high ne live live' next leads learnt) e knows =
-        saw_on l g f n v w k k' (λ _. knows.leads live) (λ same. stands_next f n m offset x k k' live leads learnt e) knows
+        saw_on l g f f n v w k k' knows.seen (λ _. knows.leads live) (λ same. stands_next f n m offset x k k' live leads learnt e (knows.stands same)) knows
     look_mine (turns_away {s = s} loose here up) e knows = tt
     look_mine (steps_back {s = s} loose here up) e knows = tt
     look_mine (wanders {s = s} loose here up) e knows = tt
@@ -203,21 +189,7 @@ module _ {l : Layout} {g : ℕ} (f : Facts) (caller index since : ℕ) where
         stands = λ is no. absurd (let none : false ≡ true = no in cc);
       },
     )
-    look_mine (eyes_free here is) e knows = (
-      knows.0,
-      record {
-        clean = knows.1.clean;
-        durable = knows.1.durable;
-        here = knows.1.here;
-        nonzero = knows.1.nonzero;
-        known = knows.1.known;
-        unlocked = knows.1.unlocked;
-        unworn = knows.1.unworn;
-        lock = knows.1.lock;
-        seen = knows.1.seen;
-        stands = λ same told. sym e ∙ is;
-      },
-    )
+    look_mine (eyes_free {m = m} {v = v} {u = u} {h = h} here is) e knows = (knows.0, eyes_on l g f f h m v u false true knows.1.seen (λ same told. sym e ∙ is) knows.1)
     look_mine (passes here) e knows = knows.0
     look_mine (loses here other) e knows = knows.0
     look_mine (misses other) e knows = tt

@@ -7,7 +7,7 @@ use Rattle.std.proofs.lemmas.List.{get_or-set_other}
 use Rattle.pm_words.specs.Codes.{gone_status, live_status}
 use Rattle.pm_words.specs.Rows as rows
 use Rattle.std.specs.Prelude.{◌==◌, ◌||◌, nat_lt, slice_set, Option, Some, None, IfSome}
-use Rattle.std.proofs.lemmas.Bool.{lt-ltb, ltb-true, eq-eqb, eqb-true, ne_eqb, cases_eq, cond_both}
+use Rattle.std.proofs.lemmas.Bool.{lt-ltb, ltb-true, eq-eqb, eqb-true, ne_eqb, cases_eq}
 use Rattle.std.proofs.lemmas.List.{set-get_or}
 use mathlib.Core.Option.{some, some-injective}
 use lib.ListN.{get_elem?}
@@ -26,7 +26,7 @@ use Rattle.call_stages.specs.Stages.{Gone, Stage, Idle, Saw, Wears, Reads, Holds
 use Rattle.call_stages.specs.Kinds.{Step, clock_address, word_address, status_address, prev_address}
 use Rattle.call_stages.specs.Kinds as kinds
 use Rattle.index_law.specs.Facts.{Facts, IsListed}
-use Rattle.index_law.specs.Worlds.{Party, World, facts, moved_on, stepped, evicted_world}
+use Rattle.index_law.specs.Worlds.{Party, World, facts, moved_on, started, stepped, evicted_world}
 use Rattle.index_law.specs.Lawful.{Lawful, IsList, Sure, SureJoins}
 use Rattle.call_stages.specs.Stages.{HoldsNode}
 use Rattle.index_law.specs.Laws.{Allowed, loads_clock, loads_word, loads_status, loads_prev, exchanges, exchanges_read, stores_word, stores_status, drains_word, adds, claims_node, frees_fresh, frees_left, frees_met, frees_right, frees}
@@ -43,21 +43,21 @@ use Rattle.index_law.proofs.Moves.{fact_after, facts_step, gives}
 use Rattle.index_law.proofs.Noting.{beside_law}
 use Rattle.index_law.proofs.Own.{allow_law, sure_within, mine}
 use Rattle.index_law.proofs.Parties.{at_set, set_here, set_else}
-use Rattle.index_law.proofs.Rows.{facts-elsewhere}
+use Rattle.index_law.proofs.Rows.{facts-elsewhere, if-alike}
 use Rattle.index_law.proofs.Shapes.{step_shapes}
 use Rattle.index_law.proofs.Starts.{listed_within, start_law, rest_law}
 use Rattle.index_law.proofs.Evictions.{evict_facts, evict_law}
 use Rattle.index_law.proofs.Switch.{rise_from, leads_on}
 use Rattle.index_law.proofs.Twins.{nearer, store_closer}
 
+-- rows with the same prev words have the same prevs
+pub prev_in-alike : (l : Layout) (words words' : List ℕ) (n : ℕ) → (n < l.nodes → at l words' (Volatile n prev_offset) ≡ at l words (Volatile n prev_offset)) → prev_in l words' n ≡ prev_in l words n
+unfolding prev_in
+prev_in-alike l words words' n same = if-alike (nat_lt n l.nodes) (at l words' (Volatile n prev_offset)) (at l words (Volatile n prev_offset)) (λ here. same (ltb-true n l.nodes here))
+
 -- prev words are elsewhere than what a step on nodes stores into
 pub store_prev : (l : Layout) (words : List ℕ) (p : Location) (y : ℕ) → HasLocation l p → ((n : ℕ) → Volatile n prev_offset ≢ p) → (n : ℕ) → prev_in l (slice_set words (address_of l p) y) n ≡ prev_in l words n
-unfolding prev_in
-store_prev l words p y has other n =
-    elim (nat_lt n l.nodes) as (λ b. nat_lt n l.nodes ≡ b → cond b (at l (slice_set words (address_of l p) y) (Volatile n prev_offset)) 0 ≡ cond b (at l words (Volatile n prev_offset)) 0) [
-      | true ↦ λ is. at-set_other l words p (Volatile n prev_offset) y has (ltb-true n l.nodes is, omega arith) (other n)
-      | false ↦ λ _. refl
-    ] refl
+store_prev l words p y has other n = prev_in-alike l words (slice_set words (address_of l p) y) n (λ here. at-set_other l words p (Volatile n prev_offset) y has (here, omega arith) (other n))
 
 pub nodes_leave_prevs : (l : Layout) (words : List ℕ) (s : Stage) (a : Action) (n : ℕ) → Allowed l s a → prev_in l (acted l words a) n ≡ prev_in l words n
 nodes_leave_prevs l words s a n loads_clock = ap (λ v. prev_in l v n) (set-get_or words (clock_address l) 0)
@@ -433,6 +433,21 @@ if_some : {A : Type 0} (P Q : A → Type 0) (o : Option A) → ((a : A) → P a 
 if_some P Q None step holds = tt
 if_some P Q (Some a) step holds = step a holds
 
+-- a prev is still owed where another party than the one that owes it has stepped
+still_owed : (z z' : Traced) (i : ℕ) (d d' : Debt) → get_elem? z.debts i ≡ some d → z'.debts ≡ set z.debts i d'
+    → ((j : ℕ) (q : Party) → j ≢ i → get_elem? z.world.parties j ≡ some q → get_elem? z'.world.parties j ≡ some q) → (n : ℕ) → IsOwed z n → IsOwed z' n ⊎ (d.owes ≡ Some n)
+still_owed z z' i d d' owing debts others n owed = ⊎_elim
+    (λ (e : owed.number ≡ i). inr (ap (λ (q : Debt). q.owes) (some-injective _ _ (sym owing ∙ ap (get_elem? z.debts) (sym e) ∙ owed.there)) ∙ owed.is))
+    (λ (other : owed.number ≢ i). inl (record {
+      number = owed.number;
+      debt = owed.debt;
+      party = owed.party;
+      there = ap (λ (debts : List Debt). get_elem? debts owed.number) debts ∙ set_else z.debts i owed.number d' other ∙ owed.there;
+      at = others owed.number owed.party other owed.at;
+      is = owed.is;
+    }))
+    (cases_eq owed.number i)
+
 pub step_traces : StepTraces
 step_traces z i p a x t r d d' traced there owing k told room deals =
     let w = z.world in
@@ -459,18 +474,7 @@ step_traces z i p a x t r d d' traced there owing k told room deals =
     let z' : Traced = record { world = w'; debts = set z.debts i d' } in
     let own : (n : ℕ) → d'.owes ≡ Some n → IsOwed z' n =
     λ n e. record { number = i; debt = d'; party = moved_on p t; there = set_here z.debts i d' d owing; at = set_here w.parties i (moved_on p t) p there; is = e } in
-    let still : (n : ℕ) → IsOwed z n → IsOwed z' n ⊎ (d.owes ≡ Some n) =
-    λ n owed. ⊎_elim
-    (λ (e : owed.number ≡ i). inr (ap (λ (q : Debt). q.owes) (some-injective _ _ (sym owing ∙ ap (get_elem? z.debts) (sym e) ∙ owed.there)) ∙ owed.is))
-    (λ (other : owed.number ≢ i). inl (record {
-      number = owed.number;
-      debt = owed.debt;
-      party = owed.party;
-      there = set_else z.debts i owed.number d' other ∙ owed.there;
-      at = set_else w.parties i owed.number (moved_on p t) other ∙ owed.at;
-      is = owed.is;
-    }))
-    (cases_eq owed.number i) in
+    let still : (n : ℕ) → IsOwed z n → IsOwed z' n ⊎ (d.owes ≡ Some n) = still_owed z z' i d d' owing refl (λ j q other at. set_else w.parties i j (moved_on p t) other ∙ at) in
     let before : d.owes ≡ None → (n : ℕ) → HoldsNode p.stage n → IsListed f n → f.now n next_offset ≢ 0 → prev (f.now n next_offset) ≡ n =
     λ none n holds listed ne. ⊎_elim
     (λ e. e)
@@ -529,12 +533,8 @@ node_of_place (Volatile n o) = n
 node_of_place _ = 0
 
 pub prev_else : (l : Layout) (words : List ℕ) (m y n : ℕ) → m < l.nodes → n ≢ m → prev_in l (slice_set words (prev_address l m) y) n ≡ prev_in l words n
-unfolding prev_in
-prev_else l words m y n here other =
-    elim (nat_lt n l.nodes) as (λ b. nat_lt n l.nodes ≡ b → cond b (at l (slice_set words (prev_address l m) y) (Volatile n prev_offset)) 0 ≡ cond b (at l words (Volatile n prev_offset)) 0) [
-      | true ↦ λ is. at-set_other l words (Volatile m prev_offset) (Volatile n prev_offset) y (here, omega arith) (ltb-true n l.nodes is, omega arith) (λ e. other (ap node_of_place e))
-      | false ↦ λ _. refl
-    ] refl
+prev_else l words m y n here other = prev_in-alike l words (slice_set words (prev_address l m) y) n
+    (λ its. at-set_other l words (Volatile m prev_offset) (Volatile n prev_offset) y (here, omega arith) (its, omega arith) (λ e. other (ap node_of_place e)))
 
 -- A prev is stored that leads to a listed node.
 module _ (z : Traced) (i : ℕ) (p : Party) (d d' : Debt) (m y : ℕ) (traced : IsTraced z) (there : get_elem? z.world.parties i ≡ some p) (owing : get_elem? z.debts i ≡ some d)
@@ -596,17 +596,7 @@ module _ (z : Traced) (i : ℕ) (p : Party) (d d' : Debt) (m y : ℕ) (traced : 
   }
 
   owed_else : (n : ℕ) → IsOwed z n → IsOwed z' n ⊎ (d.owes ≡ Some n)
-  owed_else n owed = ⊎_elim
-      (λ (e : owed.number ≡ i). inr (ap (λ (q : Debt). q.owes) (some-injective _ _ (sym owing ∙ ap (get_elem? z.debts) (sym e) ∙ owed.there)) ∙ owed.is))
-      (λ (other : owed.number ≢ i). inl (record {
-        number = owed.number;
-        debt = owed.debt;
-        party = owed.party;
-        there = set_else z.debts i owed.number d' other ∙ owed.there;
-        at = owed.at;
-        is = owed.is;
-      }))
-      (cases_eq owed.number i)
+  owed_else = still_owed z z' i d d' owing refl (λ j q other at. at)
 
   same_party : (j : ℕ) (q : Party) → j ≡ i → get_elem? z.world.parties j ≡ some q → p ≡ q
   same_party j q e at = some-injective _ _ (sym there ∙ ap (get_elem? z.world.parties) (sym e) ∙ at)
@@ -717,12 +707,8 @@ gone_come_out z n traced gone =
 
 -- an eviction leaves the prevs
 evict_prev : (l : Layout) (words : List ℕ) (word n : ℕ) → word < image_words l → prev_in l (rows.evicted l words word) n ≡ prev_in l words n
-unfolding prev_in
-evict_prev l words word n within =
-    elim (nat_lt n l.nodes) as (λ b. nat_lt n l.nodes ≡ b → cond b (at l (rows.evicted l words word) (Volatile n prev_offset)) 0 ≡ cond b (at l words (Volatile n prev_offset)) 0) [
-      | true ↦ λ is. let here = ltb-true n l.nodes is in get_or-set_other words (durable_address l word) (address_of l (Volatile n prev_offset)) (slice_index words (cached_address l word)) 0 (λ e. absurd (omega arith))
-      | false ↦ λ _. refl
-    ] refl
+evict_prev l words word n within = prev_in-alike l words (rows.evicted l words word) n
+    (λ here. get_or-set_other words (durable_address l word) (address_of l (Volatile n prev_offset)) (slice_index words (cached_address l word)) 0 (λ e. absurd (omega arith)))
 
 pub evict_traces : EvictTraces
 evict_traces z word traced within =
@@ -752,6 +738,7 @@ idle_owes o s f idle was n is = absurd (subst (λ (u : Stage). HoldsNode u n) id
 pub start_traces : StartTraces
 start_traces z i p index d traced there owing idle =
     let q : Party = record { caller = p.caller; index = index; since = length z.world.history; stage = Idle } in
+    let z' : Traced = record { world = started z.world i p index; debts = set z.debts i no_debt } in
     record {
       lawful = start_law z.world i p index traced.lawful there idle;
       known = λ j e u at_d at_p. ⊎_elim
@@ -771,17 +758,9 @@ start_traces z i p index d traced there owing idle =
       prevs = λ n listed ne. ⊎_elim
           (λ e. inl e)
           (λ owed. inr (⊎_elim
-          (λ (e : owed.number ≡ i). absurd (idle_owes d.owes p.stage (facts z.world) idle (traced.owes i d p owing there) n
-          (ap (λ (o : Debt). o.owes) (some-injective _ _ (sym owing ∙ ap (get_elem? z.debts) (sym e) ∙ owed.there)) ∙ owed.is)))
-          (λ (other : owed.number ≢ i). record {
-            number = owed.number;
-            debt = owed.debt;
-            party = owed.party;
-            there = set_else z.debts i owed.number no_debt other ∙ owed.there;
-            at = set_else z.world.parties i owed.number q other ∙ owed.at;
-            is = owed.is;
-          })
-          (cases_eq owed.number i)))
+          (λ still. still)
+          (λ (own : d.owes ≡ Some n). absurd (idle_owes d.owes p.stage (facts z.world) idle (traced.owes i d p owing there) n own))
+          (still_owed z z' i d no_debt owing refl (λ j u other at. set_else z.world.parties i j q other ∙ at) n owed)))
           (traced.prevs n listed ne);
       order = traced.order;
       below = traced.below;
@@ -790,14 +769,6 @@ start_traces z i p index d traced there owing idle =
 pub prev_at : (l : Layout) (words : List ℕ) (n : ℕ) → n < l.nodes → prev_in l words n ≡ at l words (Volatile n prev_offset)
 unfolding prev_in
 prev_at l words n here = rw (lt-ltb n l.nodes here) refl
-
--- rows with the same prev words have the same prevs
-pub prev_in-alike : (l : Layout) (words words' : List ℕ) (n : ℕ) → (n < l.nodes → at l words' (Volatile n prev_offset) ≡ at l words (Volatile n prev_offset)) → prev_in l words' n ≡ prev_in l words n
-unfolding prev_in
-prev_in-alike l words words' n same =
-    cond_both (nat_lt n l.nodes) (at l words' (Volatile n prev_offset)) 0 (λ (x : ℕ). x ≡ cond (nat_lt n l.nodes) (at l words (Volatile n prev_offset)) 0)
-    (λ here. same (ltb-true n l.nodes here) ∙ sym (rw here refl))
-    (λ past. sym (rw past refl))
 
 pub prevs_are_nodes : PrevsAreNodes
 prevs_are_nodes z n traced here = let is = prev_at z.world.layout z.world.words n here in let low = traced.below n in omega arith

@@ -1,7 +1,7 @@
 -- What a store at a place makes of the facts that are read off a row.
 use Rattle.std.proofs.Common.{◌≡◌, ◌≢◌, ℕ, ◌+◌, ◌*◌, ◌^◌, ◌<◌, ◌≤◌, ⊎_elim, Bool, true, false, cond, ◌&&◌, List, ◌++◌, length, slice_index, slice_set, refl, sym, ap, ◌∙◌, subst, arith}
 use Rattle.std.specs.Prelude.{◌==◌, if◌then◌else◌, nat_lt}
-use Rattle.std.proofs.lemmas.Bool.{lt-ltb, ltb-true, cases_eq, eq-eqb, ne_eqb, cond_both}
+use Rattle.std.proofs.lemmas.Bool.{lt-ltb, ltb-true, cases_eq, eq-eqb, ne_eqb}
 use Rattle.std.proofs.lemmas.List.{get_or-set_other}
 use Rattle.pm_words.specs.declared.layout.Layout.{Layout}
 use Rattle.pm_words.specs.Locations.{Location, Cached, Node, Volatile, HasLocation, address_of, node_words, row_words}
@@ -53,20 +53,20 @@ cached_word-here l words base history n offset has = ⊎_elim
     (λ (other : offset ≡ version_offset → ⊥). rw (ne_eqb offset version_offset other) (spot_in-here l words n offset has (omega (arith, other))))
     (cases_eq offset 0)
 
+-- what is read where a test holds, and is 0 otherwise, is the same where the same is read
+pub if-alike : (b : Bool) (x y : ℕ) → (b ≡ true → x ≡ y) → cond b x 0 ≡ cond b y 0
+if-alike true x y same = same refl
+if-alike false x y same = refl
+
 -- rows with the same version words have the same versions
 pub version_in-alike : (l : Layout) (words words' : List ℕ) (n : ℕ) → (n < l.nodes → slice_index words' (version_address l n) ≡ slice_index words (version_address l n)) → version_in l words' n ≡ version_in l words n
 unfolding version_in
-version_in-alike l words words' n same =
-    cond_both (nat_lt n l.nodes) (slice_index words' (version_address l n)) 0 (λ (x : ℕ). x ≡ cond (nat_lt n l.nodes) (slice_index words (version_address l n)) 0)
-    (λ here. same (ltb-true n l.nodes here) ∙ sym (rw here refl))
-    (λ past. sym (rw past refl))
+version_in-alike l words words' n same = if-alike (nat_lt n l.nodes) (slice_index words' (version_address l n)) (slice_index words (version_address l n)) (λ here. same (ltb-true n l.nodes here))
 
 pub spot_in-alike : (l : Layout) (words words' : List ℕ) (n offset : ℕ) → (HasWordAt l n offset → 0 < offset → slice_index words' (word_address l n offset) ≡ slice_index words (word_address l n offset)) → spot_in l words' n offset ≡ spot_in l words n offset
 unfolding spot_in
-spot_in-alike l words words' n offset same =
-    cond_both (in_spot l n offset) (slice_index words' (word_address l n offset)) 0 (λ (x : ℕ). x ≡ cond (in_spot l n offset) (slice_index words (word_address l n offset)) 0)
-    (λ here. let parts = in_spot-true l n offset here in same parts.0 parts.1 ∙ sym (rw here refl))
-    (λ past. sym (rw past refl))
+spot_in-alike l words words' n offset same = if-alike (in_spot l n offset) (slice_index words' (word_address l n offset)) (slice_index words (word_address l n offset))
+    (λ here. let parts = in_spot-true l n offset here in same parts.0 parts.1)
 
 pub status_in-here : (l : Layout) (words : List ℕ) (n : ℕ) → n < l.nodes → status_in l words n ≡ slice_index words (status_address l n)
 unfolding status_in
@@ -74,10 +74,7 @@ status_in-here l words n here = rw (lt-ltb n l.nodes here) refl
 
 pub status_in-alike : (l : Layout) (words words' : List ℕ) (n : ℕ) → (n < l.nodes → slice_index words' (status_address l n) ≡ slice_index words (status_address l n)) → status_in l words' n ≡ status_in l words n
 unfolding status_in
-status_in-alike l words words' n same =
-    cond_both (nat_lt n l.nodes) (slice_index words' (status_address l n)) 0 (λ (x : ℕ). x ≡ cond (nat_lt n l.nodes) (slice_index words (status_address l n)) 0)
-    (λ here. same (ltb-true n l.nodes here) ∙ sym (rw here refl))
-    (λ past. sym (rw past refl))
+status_in-alike l words words' n same = if-alike (nat_lt n l.nodes) (slice_index words' (status_address l n)) (slice_index words (status_address l n)) (λ here. same (ltb-true n l.nodes here))
 
 -- a place other than the cached words of the nodes and their statuses
 abbrev pub IsElsewhere : Location → Type 0
@@ -243,11 +240,11 @@ module _ (l : Layout) (words : List ℕ) (base : Map) (history : List Write) (n 
       ∙ sym (ap (λ (s : Spot). s o) (set_else (spot_in l words) n offset y m other)))
       (cases_eq m n)
 
-  -- where the links of the listed nodes stay
-  pub facts-word : ((m : ℕ) → IsIn (list_in l words) m → SameLinks (spot_in l words) (word_set (spot_in l words) n offset y) m)
-      → facts_of l (slice_set words (word_address l n offset) y) base history ≡ with_word (facts_of l words base history) n offset y
-  facts-word links =
-      let list = members_alike (spot_in l words) (word_set (spot_in l words) n offset y) l.nodes 0 links in
+  -- with what it makes of the list
+  facts-set : (after : List ListNode) → members_from (word_set (spot_in l words) n offset y) l.nodes 0 ≡ after
+      → facts_of l (slice_set words (word_address l n offset) y) base history
+      ≡ record { version = version_in l words; status = status_in l words; now = word_set (spot_in l words) n offset y; list = after; base = base; history = history }
+  facts-set after list =
       (λ k. record {
         version = λ m. version-word m k;
         status = λ m. status-word m k;
@@ -264,27 +261,17 @@ module _ (l : Layout) (words : List ℕ) (base : Map) (history : List Write) (n 
         history = history;
       })
 
+  -- where the links of the listed nodes stay
+  pub facts-word : ((m : ℕ) → IsIn (list_in l words) m → SameLinks (spot_in l words) (word_set (spot_in l words) n offset y) m)
+      → facts_of l (slice_set words (word_address l n offset) y) base history ≡ with_word (facts_of l words base history) n offset y
+  facts-word links = facts-set (list_in l words) (members_alike (spot_in l words) (word_set (spot_in l words) n offset y) l.nodes 0 links)
+
 -- a store by which a node leads elsewhere, with what it makes of the list
 facts-leads : (l : Layout) (words : List ℕ) (base : Map) (history : List Write) (n y : ℕ) (after : List ListNode) → length words ≡ row_words l → HasWordAt l n next_offset
     → members_from (word_set (spot_in l words) n next_offset y) l.nodes 0 ≡ after
     → facts_of l (slice_set words (word_address l n next_offset) y) base history
     ≡ record { version = version_in l words; status = status_in l words; now = word_set (spot_in l words) n next_offset y; list = after; base = base; history = history }
-facts-leads l words base history n y after whole has list =
-    (λ k. record {
-      version = λ m. version-word l words base history n next_offset y whole has (omega arith) m k;
-      status = λ m. status-word l words base history n next_offset y whole has (omega arith) m k;
-      now = λ m o. spot-word l words base history n next_offset y whole has (omega arith) m o k;
-      list = members_from (λ m o. spot-word l words base history n next_offset y whole has (omega arith) m o k) l.nodes 0;
-      base = base;
-      history = history;
-    }) ∙ (λ k. record {
-      version = version_in l words;
-      status = status_in l words;
-      now = word_set (spot_in l words) n next_offset y;
-      list = list k;
-      base = base;
-      history = history;
-    })
+facts-leads l words base history n y after whole has list = facts-set l words base history n next_offset y whole has (omega arith) after list
 
 -- a store by which a node leads to another one
 pub facts-next : (l : Layout) (words : List ℕ) (base : Map) (history : List Write) (n y : ℕ) → length words ≡ row_words l → HasWordAt l n next_offset

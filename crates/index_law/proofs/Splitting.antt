@@ -1,7 +1,7 @@
 -- What a party knows after a step of its split.
 use Rattle.std.proofs.Common.{◌≡◌, ◌≢◌, ℕ, ◌<◌, Bool, true, false, cond, List, refl, sym, ap, ◌∙◌, subst, arith}
 use Rattle.std.specs.Prelude.{◌==◌, ◌||◌, ◌&&◌, nat_le, nat_lt, if◌then◌else◌, Option, None, Some, IfSome}
-use Rattle.std.proofs.lemmas.Bool.{ne_eqb, eq-eqb, leb-true, lt-ltb, le-ltb, leb-false}
+use Rattle.std.proofs.lemmas.Bool.{eq-eqb, leb-true, lt-ltb, le-ltb, leb-false}
 use Rattle.pm_words.specs.Codes.{live_status}
 use Rattle.pm_words.specs.declared.layout.Layout.{Layout}
 use Rattle.pm_words.specs.declared.action.Action.{Action}
@@ -16,7 +16,7 @@ use Rattle.index_law.specs.Lawful.{IsList, IsLinked, IsAtPhase, Sure}
 use Rattle.index_law.proofs.Moves.{split_after, SplitGave}
 use Rattle.index_law.proofs.Rows.{with_word, with_status, with_next, set_here, set_else}
 use Rattle.index_law.proofs.Switch.{inside_between, range_left, range_fresh, listed_still, listed_fresh}
-use Rattle.index_law.proofs.Bystanders.{settled_kept, asked_kept, grip_kept, later-word, later-status, steady-word, steady-status}
+use Rattle.index_law.proofs.Bystanders.{regrasp, told_word, settled_kept, asked_kept, grip_kept, later-word, later-status, steady-word, steady-status}
 use Rattle.index_law.proofs.Locks.{cut_now}
 use Rattle.index_law.proofs.Stays.{stays_stored}
 
@@ -151,13 +151,7 @@ module _ (l : Layout) (g : ℕ) (f : Facts) (caller index since : ℕ) (list : I
       hand_else None was id new = tt
       hand_else (Some h) was id new = (λ i. if h.0 == 0 then f.version fresh.node else new i h.0) ∙ was
   split_mine (glances_left {x = x} {offset = offset} {left = left} {fresh = fresh} {phase = phase} {seen = seen} has learnt) e knows = record {
-    full = record {
-      here = knows.full.here;
-      stands = knows.full.stands;
-      lock = knows.full.lock;
-      seen = learnt (f.now left.node) knows.full.seen (λ positive. sym (e ∙ ap (λ (b : Bool). cond b (f.version left.node) (f.now left.node offset)) (ne_eqb offset 0 (λ z. omega arith))));
-      hand = sym e;
-    };
+    full = regrasp l g f left seen left.dirty (Some (offset, x)) (learnt (f.now left.node) knows.full.seen (told_word f left.node offset x e)) (sym e) knows.full;
     new = knows.new;
     apart = knows.apart;
     nonzero = knows.nonzero;
@@ -165,13 +159,13 @@ module _ (l : Layout) (g : ℕ) (f : Facts) (caller index since : ℕ) (list : I
   }
   split_mine (glances_fresh {x = x} {offset = offset} {left = left} {fresh = fresh} {phase = phase} has) e knows = record {
     full = knows.full;
-    new = record { here = knows.new.here; stands = knows.new.stands; lock = knows.new.lock; seen = knows.new.seen; hand = sym e };
+    new = regrasp l g f fresh fresh.seen fresh.dirty (Some (offset, x)) knows.new.seen (sym e) knows.new;
     apart = knows.apart;
     nonzero = knows.nonzero;
     at = regrip left fresh left.seen left.dirty fresh.seen fresh.dirty left.hand (Some (offset, x)) phase knows.at;
   }
   split_mine (drains_left {left = left} {fresh = fresh} {phase = phase} {dirty = dirty} has small hand cleans) e knows = record {
-    full = record { here = knows.full.here; stands = knows.full.stands; lock = knows.full.lock; seen = knows.full.seen; hand = tt };
+    full = regrasp l g f left left.seen dirty None knows.full.seen tt knows.full;
     new = knows.new;
     apart = knows.apart;
     nonzero = knows.nonzero;
@@ -179,7 +173,7 @@ module _ (l : Layout) (g : ℕ) (f : Facts) (caller index since : ℕ) (list : I
   }
   split_mine (drains_fresh {left = left} {fresh = fresh} {phase = phase} {dirty = dirty} has small hand cleans) e knows = record {
     full = knows.full;
-    new = record { here = knows.new.here; stands = knows.new.stands; lock = knows.new.lock; seen = knows.new.seen; hand = tt };
+    new = regrasp l g f fresh fresh.seen dirty None knows.new.seen tt knows.new;
     apart = knows.apart;
     nonzero = knows.nonzero;
     at = regrip left fresh left.seen left.dirty fresh.seen dirty left.hand None phase knows.at;

@@ -2,7 +2,7 @@
 use Rattle.std.proofs.Common.{◌≡◌, ◌≢◌, ℕ, ◌%◌, arith, Bool, true, false, List, [], ◌∷◌, refl, sym, ap, ◌∙◌, subst}
 use Rattle.std.specs.FinMap.{empty, get-empty}
 use Rattle.cat_key.specs.Names.{name_cmp}
-use Rattle.pm_words.specs.Offsets.{bitmap_offset, next_offset, print_offset, slot_offset}
+use Rattle.pm_words.specs.Offsets.{bitmap_offset, next_offset, print_offset, slot_offset, value_word}
 use Rattle.image_rules.specs.Sound.{with_slots}
 use Rattle.image_rules.proofs.MapLemmas.{slots_find, found_once}
 use Rattle.std.specs.Prelude.{not, ◌&&◌, slice_index, None}
@@ -50,7 +50,7 @@ means_beside slots range s t m same means =
           let a = same (slot_offset slot 0) (λ e. omega arith) in
           let b = same (slot_offset slot 1) (λ e. omega arith) in
           let c = same (slot_offset slot 2) (λ e. omega arith) in
-          let d = same (slot_offset slot 3) (λ e. omega arith) in
+          let d = same (slot_offset slot value_word) (λ e. omega arith) in
           let p = same (print_offset slot) (λ e. omega arith) in
           record {
             live = subst (λ w. IsLive w slot) (sym bits) live;

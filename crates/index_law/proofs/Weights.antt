@@ -150,25 +150,15 @@ gone_more half status status' r (suc n) more = ⊎_elim
     omega arith)
     (cases_eq n r)
 
-split_lowers : (l : Layout) (g : ℕ) (f : Facts) {s : Stage} {a : Action} {x : ℕ} {t : Stage} → Split l g s a x t → lowered_in l f s ≡ 0
-split_lowers l g f (fills has positive small within soils told) = refl
-split_lowers l g f (lights here leads) = refl
-split_lowers l g f (switches here small durable soiled cut told means) = refl
-split_lowers l g f (glances_left has learnt) = refl
-split_lowers l g f (glances_fresh has) = refl
-split_lowers l g f (drains_left has small hand cleans) = refl
-split_lowers l g f (drains_fresh has small hand cleans) = refl
-split_lowers l g f (trims here small durable soiled anchor told means) = refl
-
-split_lowers_after : (l : Layout) (g : ℕ) (f : Facts) {s : Stage} {a : Action} {x : ℕ} {t : Stage} → Split l g s a x t → lowered_in l f t ≡ 0
-split_lowers_after l g f (fills has positive small within soils told) = refl
-split_lowers_after l g f (lights here leads) = refl
-split_lowers_after l g f (switches here small durable soiled cut told means) = refl
-split_lowers_after l g f (glances_left has learnt) = refl
-split_lowers_after l g f (glances_fresh has) = refl
-split_lowers_after l g f (drains_left has small hand cleans) = refl
-split_lowers_after l g f (drains_fresh has small hand cleans) = refl
-split_lowers_after l g f (trims here small durable soiled anchor told means) = refl
+split_lowers : (l : Layout) (g : ℕ) (f : Facts) {s : Stage} {a : Action} {x : ℕ} {t : Stage} → Split l g s a x t → (lowered_in l f s ≡ 0) × (lowered_in l f t ≡ 0)
+split_lowers l g f (fills has positive small within soils told) = (refl, refl)
+split_lowers l g f (lights here leads) = (refl, refl)
+split_lowers l g f (switches here small durable soiled cut told means) = (refl, refl)
+split_lowers l g f (glances_left has learnt) = (refl, refl)
+split_lowers l g f (glances_fresh has) = (refl, refl)
+split_lowers l g f (drains_left has small hand cleans) = (refl, refl)
+split_lowers l g f (drains_fresh has small hand cleans) = (refl, refl)
+split_lowers l g f (trims here small durable soiled anchor told means) = (refl, refl)
 
 module _ {l : Layout} {g : ℕ} (f : Facts) (caller index since : ℕ) where
   -- a look lowers nothing
@@ -367,8 +357,8 @@ module _ {l : Layout} {g : ℕ} (f : Facts) (caller index since : ℕ) where
   own_weighs list (merges k) e knows after = inl (merge_weighs list k knows after)
   own_weighs list (splits k) e knows after =
       let weighs = split_weighs list k knows after in
-      let none = split_lowers l g f k in
-      let none' = split_lowers_after l g (split_after k f) k in
+      let none = (split_lowers l g f k).0 in
+      let none' = (split_lowers l g (split_after k f) k).1 in
       inl (omega arith)
 
   -- what the GONE nodes weigh, with the one that a merge makes GONE

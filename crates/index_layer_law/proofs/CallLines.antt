@@ -3,7 +3,7 @@ use Rattle.std.proofs.Common.{◌≡◌, ℕ, ◌+◌, ◌*◌, ◌/◌, ◌%◌
 use Rattle.std.specs.Prelude.{nat_lt}
 use Rattle.std.proofs.lemmas.Bool.{cond_both}
 use Rattle.pm_words.specs.declared.layout.Layout.{Layout}
-use Rattle.pm_words.specs.Locations.{Line, Cached, Durable, Node, at, address_of, node_words}
+use Rattle.pm_words.specs.Locations.{Word, Location, Line, Cached, Durable, Node, at, address_of, node_words}
 use Rattle.pm_words.specs.Codes.{open_state}
 use Rattle.pm_words.specs.Offsets.{anchor_offset, state_offset}
 use Rattle.cat_key.specs.Names.{IsName, AreNameWords, words_of}
@@ -46,21 +46,19 @@ module _ (l : Layout) (words : List ℕ) (e : HeldLine) (here : (e.caller < l.ca
       ∙ (λ k. at l words (Durable (Line (its_caller k) (its_number k) o)))
       ∙ sym (safe-here l words e.caller e.number o (here.0, here.1, small))
 
-  pub anchor_line_tie : (lines_in l words Cached).anchor (line_number e) ≡ anchor_in (line_in l words e.caller e.number)
+  anchor_tie : (twin : Word → Location) (read : ℕ → ℕ) → ((o : ℕ) → o < 8 → line_field l words twin o (line_number e) ≡ read o) → (lines_in l words twin).anchor (line_number e) ≡ anchor_in read
   unfolding anchor_in
-  anchor_line_tie =
-      let first = line_tie anchor_offset (omega arith) in
-      let second = line_tie (anchor_offset + 1) (omega arith) in
-      let third = line_tie (anchor_offset + 2) (omega arith) in
+  anchor_tie twin read tie =
+      let first = tie anchor_offset (omega arith) in
+      let second = tie (anchor_offset + 1) (omega arith) in
+      let third = tie (anchor_offset + 2) (omega arith) in
       λ k. (first k * 2 ^ 64 + second k) * 2 ^ 64 + third k
 
+  pub anchor_line_tie : (lines_in l words Cached).anchor (line_number e) ≡ anchor_in (line_in l words e.caller e.number)
+  anchor_line_tie = anchor_tie Cached (line_in l words e.caller e.number) line_tie
+
   pub anchor_safe_tie : (lines_in l words Durable).anchor (line_number e) ≡ anchor_in (safe_line l words e.caller e.number)
-  unfolding anchor_in
-  anchor_safe_tie =
-      let first = safe_tie anchor_offset (omega arith) in
-      let second = safe_tie (anchor_offset + 1) (omega arith) in
-      let third = safe_tie (anchor_offset + 2) (omega arith) in
-      λ k. (first k * 2 ^ 64 + second k) * 2 ^ 64 + third k
+  anchor_safe_tie = anchor_tie Durable (safe_line l words e.caller e.number) safe_tie
 
 -- a node's words are words
 spot_fits : (l : Layout) (words : List ℕ) → ((k : ℕ) → slice_index words k < 2 ^ 64) → (n o : ℕ) → spot_in l words n o < 2 ^ 64
@@ -83,7 +81,7 @@ pub record IsOpenNumber (l : Layout) (words : List ℕ) (anchor j : ℕ) : Type 
   pub state : (lines_in l words Cached).state j ≡ open_state
   pub covers : IsCover (lines_in l words Cached) (lines_in l words Durable) anchor j
 
-pub open_covers : (l : Layout) (words : List ℕ) (e : HeldLine) (node : Grip) (t : Spot) → SureLine l words e → IsOpenOf e node → Tells node.seen t → AreNameWords (t 3 ∷ t 4 ∷ t 5 ∷ [])
+pub open_covers : (l : Layout) (words : List ℕ) (e : HeldLine) (node : Grip) (t : Spot) → SureLine l words e → IsOpenOf e node → Tells node.seen t → AreNameWords (t anchor_offset ∷ t (anchor_offset + 1) ∷ t (anchor_offset + 2) ∷ [])
     → IsOpenNumber l words (anchor_in t) (line_number e)
 open_covers l words e node t sure open_ told named =
     let both = clean_lines_are_durable l words e sure open_.durable in

@@ -18,7 +18,7 @@ use Rattle.call_stages.specs.Footings.{Minds, HasLine}
 use Rattle.index_law.specs.Facts.{Facts, version_in}
 use Rattle.index_law.specs.Worlds.{Party, World, facts}
 use Rattle.index_law.specs.Lawful.{Sure, Lawful}
-use Rattle.index_law.proofs.Locks.{look_before}
+use Rattle.index_law.proofs.Locks.{look_holds}
 use Rattle.index_law.proofs.Moves.{MergeGave, Gives}
 use Rattle.updater_law.specs.Covers.{set_at}
 use Rattle.updater_law.specs.Facts.{TurnFacts}
@@ -66,7 +66,7 @@ module _ (l : Layout) (g : ℕ) (f : Facts) (holder : ℕ → ℕ) (i caller ind
 
   -- the party holds its nodes afterwards
   pub mine_after : {s : Stage} {a : Action} {x : ℕ} {t : Stage} {r : Option (Once Placed)} (k : Step l g s a x t r) → ((m : ℕ) → HoldsNode s m → holder m ≡ i) → (m : ℕ) → HoldsNode t m → holder_after k holder i m ≡ i
-  mine_after {s = s} {a = a} {x = x} {t = t} {r = r} (looks look) own m held = own m (look_before f caller index since look m held)
+  mine_after {s = s} {a = a} {x = x} {t = t} {r = r} (looks look) own m held = own m ((look_holds f caller index since look m).1 held)
   mine_after (locks {n = n} same named live between) own m held = here holder n m i (sym held)
   mine_after (locks_read {n = n} same named live between unworn taken small) own m held = here holder n m i (sym held)
   mine_after (stores has content small clean soils learnt means) own m held = own m held

@@ -1,5 +1,6 @@
 -- A step of a call on its log line is, for the law of turns, a step of another party, or none.
 use Rattle.std.proofs.Common.{◌≡◌, ◌≢◌, ℕ, ◌/◌, ◌%◌, ◌<◌, ◌≤◌, inr, ⊎_elim, Bool, true, false, List, slice_set, refl}
+use Rattle.std.proofs.Common.{◌+◌}
 use Rattle.std.proofs.Common.{sym, ap, ◌∙◌, subst, arith}
 use Rattle.std.proofs.lemmas.Bool.{cases_eq}
 use Rattle.pm_words.specs.declared.layout.Layout.{Layout}
@@ -144,8 +145,8 @@ module _ (l : Layout) (words : List ℕ) (row : IsRow l words) (e : HeldLine) (s
         (λ (two : offset ≡ line_node_offset). inr (subst (OtherStep F) (sym (path (record lines { node = set_at lines.node number y }) (node_lines two))) (others.notes_node number y is_empty)))
         (λ (not_two : offset ≢ line_node_offset). inr (subst (OtherStep F) (sym (path (record lines { anchor = set_at lines.anchor number ((lines_in l stored Cached).anchor number) }) (anchor_lines (omega arith))))
         (others.notes_anchor number ((lines_in l stored Cached).anchor number) is_empty)))
-        (cases_eq offset 2))
-        (cases_eq offset 1)
+        (cases_eq offset line_node_offset))
+        (cases_eq offset kind_offset)
 
     state_moved : offset ≡ state_offset → OtherStep F (record F { line = record lines { state = set_at lines.state number y } }) → Moved F after
     state_moved is step = inr (subst (OtherStep F) (sym (path (record lines { state = set_at lines.state number y }) (state_lines is))) step)

@@ -5,7 +5,7 @@ use Rattle.std.proofs.lemmas.Bool.{cases_eq}
 use Rattle.pm_words.specs.declared.layout.Layout.{Layout}
 use Rattle.pm_words.specs.declared.action.Action.{Action}
 use Rattle.pm_words.specs.Rows.{IsRow}
-use Rattle.pm_words.specs.Codes.{gone_status, merge_kind, ready_state}
+use Rattle.pm_words.specs.Codes.{gone_status, merge_kind, ready_state, live_status}
 use Rattle.pm_words.specs.Offsets.{bitmap_offset, next_offset}
 use Rattle.version_lock.specs.Versions.{is_worn_word, IsFree, IsWorn}
 use Rattle.cat_history.specs.Maps.{Map}
@@ -158,7 +158,7 @@ module _ (l : Layout) (g : ℕ) (words : List ℕ) (base : Map) (history : List 
       inr (subst (others.OtherStep F) (sym (word_path l g f (rest_in l words) holder fresh.node offset y))
       (others.anchors fresh.node (anchor_in (updated (f.now fresh.node) offset y)) (context.sure.at.dark refl) (held_is l g f (rest_in l words) holder fresh.node fresh.lock context.sure.new.stands context.sure.new.lock)))
   split_moved (lights {fresh = fresh} here leads) context line sure_line minds =
-      inr (subst (others.OtherStep F) (sym (status_path l g f (rest_in l words) holder fresh.node 1))
+      inr (subst (others.OtherStep F) (sym (status_path l g f (rest_in l words) holder fresh.node live_status))
       (others.lights fresh.node (context.sure.at.dark refl) (held_is l g f (rest_in l words) holder fresh.node fresh.lock context.sure.new.stands context.sure.new.lock)))
   split_moved (switches {left = left} {fresh = fresh} here small durable soiled cut told means) context line sure_line minds =
       let sure = context.sure in
@@ -206,7 +206,7 @@ module _ (l : Layout) (g : ℕ) (words : List ℕ) (base : Map) (history : List 
   merge_moved (glances_joined has learnt) given context line sure_line minds gives = inl refl
   merge_moved (drains_joined has small hand cleans) given context line sure_line minds gives = inl refl
   merge_moved (retires {right = right} durable) given context line sure_line minds gives =
-      inr (subst (others.OtherStep F) (sym (status_path l g f (rest_in l words) holder right.node 2))
+      inr (subst (others.OtherStep F) (sym (status_path l g f (rest_in l words) holder right.node gone_status))
       (others.goes right.node (λ told. context.sure.at.unlisted (listed_told f right.node told)) context.sure.at.bright
       (held_is l g f (rest_in l words) holder right.node right.lock context.sure.other.stands context.sure.other.lock)))
   merge_moved (yields {freed = freed} {h = h} {left = left} {right = right} next durable) given context line sure_line minds gives =

@@ -1,5 +1,6 @@
 -- A fresh index has its search layer.
 use Rattle.std.proofs.Common.{◌≡◌, ◌≢◌, ℕ, ◌<◌, ◌==◌, ◌||◌, Bool, true, false, cond, List, None, refl, sym, ap, ◌∙◌}
+use Rattle.std.proofs.Common.{◌+◌}
 use Rattle.std.proofs.Common.{subst, inl, inr, arith}
 use Rattle.std.specs.Prelude.{not, nat_lt}
 use Rattle.std.proofs.lemmas.Bool.{cases_eq, ne_eqb, cond_both, lt-ltb, ltb-true}
@@ -129,11 +130,11 @@ module _ (l : Layout) (layout : IsLayout l) where
 
   marks_are : IsMarkSet (layer_marks l image_row) (layer_marks l words) (Leaf 0) 1
   marks_are =
-      let set = mark_is_set l image_row 1 0 1 (row_of-row l (fresh_words l) (fresh_image l layout)).whole (mark_has l) in
+      let set = mark_is_set l image_row leaf_kind 0 1 (row_of-row l (fresh_words l) (fresh_image l layout)).whole (mark_has l) in
       let same : layer_marks l words ≡ layer_marks l row = store_leaves_marks l row (Volatile 0 status_offset) live_status (some, omega arith) tt in
       record {
         may = tt;
-        here = ap (λ (m : Marks). m 1 0) same ∙ set.here;
+        here = ap (λ (m : Marks). m leaf_kind 0) same ∙ set.here;
         others = λ kind n other. ap (λ (m : Marks). m kind n) same ∙ set.others kind n other;
       }
 

@@ -4,7 +4,7 @@ use Rattle.std.specs.Prelude.{IfSome}
 use Rattle.pm_words.specs.declared.layout.Layout.{Layout}
 use Rattle.pm_words.specs.declared.action.Action.{Action}
 use Rattle.pm_words.specs.Rows.{IsRow}
-use Rattle.pm_words.specs.Codes.{free_status, live_status}
+use Rattle.pm_words.specs.Codes.{free_status, live_status, ready_state, open_state}
 use Rattle.pm_words.specs.Offsets.{next_offset, state_offset}
 use Rattle.cat_history.specs.Maps.{Map}
 use Rattle.cat_history.specs.declared.op.Write.{Write}
@@ -35,6 +35,7 @@ use Rattle.call_stages.specs.Stages.{Tells}
 use Rattle.call_stages.specs.Kinds.{reads_on}
 use Rattle.call_stages.specs.Stages.{IsLoose}
 use Rattle.index_law.proofs.Moves.{read_after}
+use Rattle.index_law.proofs.Loose.{each_loose}
 
 -- A party has a line that isn't READY, of whose number this holds.
 abbrev pub HasUnready : (ℕ → Type 0) → Option HeldLine → Type 0
@@ -50,8 +51,8 @@ other_covers (others.notes_kind k x empty) n j busy cover = record { state = cov
 other_covers (others.notes_node k x empty) n j busy cover = record { state = cover.state; anchor = cover.anchor; safe_state = cover.safe_state; safe_anchor = cover.safe_anchor }
 other_covers {F = F} (others.notes_anchor k x empty) n j busy cover =
     cover_noted F.line (set_at F.line.anchor k x) F.safe_line (F.anchor n) j k empty (λ m apart. other F.line.anchor k m x apart) cover
-other_covers {F = F} (others.opens k empty) n j busy cover = cover_stays F.line F.safe_line (F.anchor n) j k 1 (λ e. omega arith) cover
-other_covers {F = F} (others.readies k open_state safe_state safe_anchor ripe) n j busy cover = cover_stays F.line F.safe_line (F.anchor n) j k 2 (λ e. omega arith) cover
+other_covers {F = F} (others.opens k empty) n j busy cover = cover_stays F.line F.safe_line (F.anchor n) j k open_state (λ e. omega arith) cover
+other_covers {F = F} (others.readies k open_state safe_state safe_anchor ripe) n j busy cover = cover_stays F.line F.safe_line (F.anchor n) j k ready_state (λ e. omega arith) cover
 other_covers {F = F} (others.drains_lines lines evict) n j busy cover = cover_evicts F.line F.safe_line lines (F.anchor n) j evict cover
 other_covers (others.locks p m listed live free) n j busy cover = cover
 other_covers (others.claims p m unused free) n j busy cover = cover
@@ -104,16 +105,7 @@ line_stays l s n P line after a x is (notes {ready = ready} within fits marks so
 line_stays l s n P line after a x is (keeps_safe within fits hand cleans) waits has = has
 
 loose_unswitched : (s : Stage) → IsLoose s → (n : ℕ) → IsSwitched s n → ⊥
-loose_unswitched Idle loose n is = is
-loose_unswitched (Saw m v w k) loose n is = is
-loose_unswitched (Wears m v) loose n is = is
-loose_unswitched (Reads m v k h) loose n is = is
-loose_unswitched (Holds m w h) loose n is = loose
-loose_unswitched (Eyes m w h k v u free) loose n is = loose
-loose_unswitched (Splits left fresh phase) loose n is = loose
-loose_unswitched (Leaves left) loose n is = loose
-loose_unswitched (Meets m w h right) loose n is = loose
-loose_unswitched (Joins h left right pace) loose n is = loose
+loose_unswitched s loose n = each_loose (λ s. IsSwitched s n → ⊥) (λ is. is) (λ m v w k is. is) (λ m v is. is) (λ m v sight told is. is) s loose
 
 no_look : {l : Layout} {g : ℕ} {s : Stage} {a : Action} {x : ℕ} {t : Stage} {r : Option (Once Placed)} → Look l g s a x t r → (n : ℕ) → IsSwitched t n → ⊥
 no_look (turns_back loose within busy) n is = is

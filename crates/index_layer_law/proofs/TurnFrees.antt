@@ -2,7 +2,7 @@
 use Rattle.std.proofs.Common.{◌≡◌, ◌≢◌, ℕ, ◌<◌, ⊎_elim, Bool, cond, List, [], slice_set, refl, sym, ap, ◌∙◌, subst, arith}
 use Rattle.std.proofs.lemmas.Bool.{cases_eq, eq-eqb, ne_eqb}
 use Rattle.std.proofs.lemmas.List.{append-nil}
-use Rattle.pm_words.specs.Codes.{gone_status, free_status}
+use Rattle.pm_words.specs.Codes.{gone_status, free_status, live_status}
 use Rattle.pm_words.specs.declared.layout.Layout.{Layout}
 use Rattle.pm_words.specs.Locations.{Location, Clock, Volatile, Cached, HasLocation, address_of}
 use Rattle.pm_words.specs.Rows.{IsRow}
@@ -15,7 +15,7 @@ use Rattle.index_law.specs.Lawful.{SureSaw, SureEyes, SureWears, Sure, IsList, A
 use Rattle.index_law.specs.Twins.{BacksStage, AreDurable}
 use Rattle.index_law.specs.Whole.{Whole, IsWhole}
 use Rattle.index_law.proofs.Backing.{backs_steady}
-use Rattle.index_law.proofs.Bystanders.{IsLater, IsSteady, if_some, keeps_by, steady-status}
+use Rattle.index_law.proofs.Bystanders.{IsLater, IsSteady, if_some, keeps_by, steady-status, saw_on, eyes_on}
 use Rattle.index_law.proofs.Locks.{own_of}
 use Rattle.index_law.proofs.Noting.{store_leaves}
 use Rattle.index_law.proofs.Prevs.{store_prev}
@@ -48,8 +48,8 @@ module _ (l : Layout) (g : ℕ) (f : Facts) (n : ℕ) (gone : f.status n ≡ gon
   live_freed : AreLive l g f → AreLive l g freed
   live_freed live = record {
     live = λ m listed. freed_else m (λ e. let no : 1 ≡ 2 = sym (live.live m listed) ∙ ap f.status e ∙ gone in omega arith) ∙ live.live m listed;
-    listed = λ m here is unlocked. live.listed m here (freed_was m 1 (λ e. omega arith) is) unlocked;
-    leads = λ m here is. live.leads m here (freed_was m 1 (λ e. omega arith) is);
+    listed = λ m here is unlocked. live.listed m here (freed_was m live_status (λ e. omega arith) is) unlocked;
+    leads = λ m here is. live.leads m here (freed_was m live_status (λ e. omega arith) is);
     three = λ m here. ⊎_elim
         (λ (e : m ≡ n). let is = freed_here m e in omega arith)
         (λ other. let is = freed_else m other in let most = live.three m here in omega arith)
@@ -60,30 +60,12 @@ module _ (l : Layout) (g : ℕ) (f : Facts) (n : ℕ) (gone : f.status n ≡ gon
   later_freed = record { base = refl; more = []; few = omega arith; history = sym (append-nil f.history) }
 
   saw_freed : (m v w : ℕ) (k : Sight) → SureSaw l g f m v w k → SureSaw l g freed m v w k
-  saw_freed m v w k knows = record {
-    here = knows.here;
-    known = knows.known;
-    free = knows.free;
-    unworn = knows.unworn;
-    lock = knows.lock;
-    seen = knows.seen;
-    leads = knows.leads;
-    stands = λ is. let was = knows.stands is in record { listed = was.listed; sees = was.sees; leads = was.leads };
-  }
+  saw_freed m v w k knows = saw_on l g f freed m v w k k knows.seen knows.leads (λ is.
+      let was = knows.stands is in record { listed = was.listed; sees = was.sees; leads = was.leads }) knows
 
   eyes_freed : (h : Held) (m v u : ℕ) (is_free : Bool) → SureEyes l g f h m v u is_free → SureEyes l g freed h m v u is_free
-  eyes_freed h m v u is_free knows = record {
-    clean = knows.clean;
-    durable = knows.durable;
-    here = knows.here;
-    nonzero = knows.nonzero;
-    known = knows.known;
-    unlocked = knows.unlocked;
-    unworn = knows.unworn;
-    lock = knows.lock;
-    seen = knows.seen;
-    stands = λ is told. ⊎_elim (λ (e : m ≡ n). freed_here m e) (λ other. freed_else m other ∙ knows.stands is told) (cases_eq m n);
-  }
+  eyes_freed h m v u is_free knows = eyes_on l g f freed h m v u is_free is_free knows.seen
+      (λ is told. ⊎_elim (λ (e : m ≡ n). freed_here m e) (λ other. freed_else m other ∙ knows.stands is told) (cases_eq m n)) knows
 
   wears_freed : (m v : ℕ) → SureWears l g f m v → SureWears l g freed m v
   wears_freed m v knows = record { here = knows.here; free = knows.free; worn = knows.worn; stands = knows.stands }
@@ -188,6 +170,6 @@ module _ (z : Whole) (n : ℕ) (here : n < z.world.layout.nodes) (gone : (facts 
         joint = joint_same (record { world = z.world; lines = z.lines }) stored whole.joint lawful (store_leaves l words p 0 has (λ c j o. (λ e. cc, λ e. cc)));
         traced = traced_fewer (record { world = z.world; debts = z.debts }) stored whole.traced lawful
             (ap (λ (φ : Facts). φ.list) same) (ap (λ (φ : Facts). φ.now) same)
-            (λ m is. freed_was l g f n gone free m 2 (λ e. omega arith) (ap (λ (φ : Facts). φ.status m) (sym same) ∙ is))
+            (λ m is. freed_was l g f n gone free m gone_status (λ e. omega arith) (ap (λ (φ : Facts). φ.status m) (sym same) ∙ is))
             (λ m. store_prev l words p 0 has (λ k e. let no : 1 ≡ 0 = ap offset_at e in omega arith) m);
       }

@@ -2,19 +2,11 @@
 use Rattle.std.proofs.Common.{◌≡◌, true, false, refl}
 use Rattle.call_stages.specs.Stages.{Stage, Idle, Saw, Wears, Reads, Holds, Eyes, Splits, Leaves, Meets, Joins, IsLoose}
 use Rattle.index_law.specs.LoneShapes.{has_merged}
+use Rattle.index_law.proofs.Loose.{each_loose}
 use Rattle.lone_call_law.specs.Tries.{is_cut, has_retired}
 
 pub loose_uncut : (s : Stage) → IsLoose s → is_cut s ≡ false
-loose_uncut Idle loose = refl
-loose_uncut (Saw n v w k) loose = refl
-loose_uncut (Wears n v) loose = refl
-loose_uncut (Reads n v sight told) loose = refl
-loose_uncut (Holds n w h) loose = absurd loose
-loose_uncut (Eyes n w h m v u free) loose = absurd loose
-loose_uncut (Splits left fresh phase) loose = absurd loose
-loose_uncut (Leaves left) loose = absurd loose
-loose_uncut (Meets n w h right) loose = absurd loose
-loose_uncut (Joins h left right pace) loose = absurd loose
+loose_uncut = each_loose (λ s. is_cut s ≡ false) refl (λ n v w k. refl) (λ n v. refl) (λ n v sight told. refl)
 
 -- a call that splits doesn't merge
 pub cut_unmerged : (s : Stage) → is_cut s ≡ true → has_merged s ≡ true → ⊥

@@ -21,6 +21,7 @@ use Rattle.index_law.proofs.Versions.{unfree}
 use Rattle.lone_call_law.specs.Locks.{locks_of, IsTaken, IsLockedOnce, AreLocked, IsLeft, HoldsLocked, HasLocked, PartsOnce, AfterLocks, LocksGo, StagesLose, FewestLose, WornHasNone}
 use Rattle.call_stages.specs.Kinds.{reads_on}
 use Rattle.index_law.proofs.Moves.{read_before, read_after}
+use Rattle.index_law.proofs.Loose.{each_loose}
 use Rattle.call_stages.specs.Stages.{IsLoose}
 
 -- a free word that is not worn leaves locks
@@ -87,16 +88,7 @@ module _ (g : ℕ) (before now : ℕ → ℕ) where
   Same = (m : ℕ) → now m ≡ before m
 
   loose_same : (leaving : Bool) (s : Stage) → IsLoose s → HasLocked g before now leaving s → Same
-  loose_same leaving Idle loose has = has
-  loose_same leaving (Saw n v w k) loose has = has
-  loose_same leaving (Wears n v) loose has = has
-  loose_same leaving (Reads n v sight told) loose has = has
-  loose_same leaving (Holds n w h) loose has = absurd loose
-  loose_same leaving (Eyes n w h m v u free) loose has = absurd loose
-  loose_same leaving (Splits left fresh phase) loose has = absurd loose
-  loose_same leaving (Leaves left) loose has = absurd loose
-  loose_same leaving (Meets n w h right) loose has = absurd loose
-  loose_same leaving (Joins h left right pace) loose has = absurd loose
+  loose_same leaving s loose has = each_loose (λ s. HasLocked g before now leaving s → Same) (λ has. has) (λ n v w k has. has) (λ n v has. has) (λ n v sight told has. has) s loose has
 
   idle_after : (after : Bool) (r : Option (Once Placed)) → Same → AfterLocks g before now after Idle r
   idle_after after None same = same

@@ -116,6 +116,7 @@ use Rattle.index_law.proofs.AnySteps.{any_allowed, any_can, any_keeps}
 use Rattle.index_law.proofs.Actions.{some_told, some_leads}
 use Rattle.index_law.proofs.Own.{sure_within}
 use Rattle.index_law.proofs.Maps.{after_all-push}
+use Rattle.index_law.proofs.Loose.{each_loose}
 use Rattle.node_ops.proofs.LookupLaw.{key_is}
 use Rattle.lone_call_law.specs.There.{CanWalk, StartsAt, WalksBy, IsAtNode, IsUnmoved, IsLanding}
 use Rattle.lone_call_law.specs.Rooms.{target_node}
@@ -223,16 +224,7 @@ HoldsFew (Holds n w h) = Unit {0}
 HoldsFew _ = ⊥
 
 loose_one : (s : Stage) → IsLoose s → HoldsFew s
-loose_one Idle loose = tt
-loose_one (Saw n v w k) loose = tt
-loose_one (Wears n v) loose = tt
-loose_one (Reads n v sight told) loose = tt
-loose_one (Holds n w h) loose = tt
-loose_one (Eyes n w h m v u free) loose = absurd loose
-loose_one (Splits left fresh phase) loose = absurd loose
-loose_one (Meets n w h right) loose = absurd loose
-loose_one (Joins h left right pace) loose = absurd loose
-loose_one (Leaves left) loose = absurd loose
+loose_one = each_loose HoldsFew tt (λ n v w k. tt) (λ n v. tt) (λ n v sight told. tt)
 
 held_one : (limit : Option ℕ) (n word : ℕ) (kept : Sight) (h : Held) → HoldsFew (held_by limit n word kept h)
 held_one None n word kept h = tt

@@ -57,8 +57,8 @@ use Rattle.lone_call_law.specs.There.{LookupStands, LookedStands, LooksComeThere
 use Rattle.lone_call_law.specs.There.{RestIsStill, IdleIsQuiet}
 use Rattle.std.specs.Prelude.{IsSome, is_some}
 use Rattle.std.specs.Prelude.{Option, Some, None}
-use Rattle.pm_words.specs.Offsets.{version_offset, bitmap_offset, next_offset, anchor_offset, slot_offset, state_offset}
-use Rattle.pm_words.specs.Offsets.{status_offset}
+use Rattle.pm_words.specs.Offsets.{version_offset, bitmap_offset, next_offset, anchor_offset, slot_offset, value_word}
+use Rattle.pm_words.specs.Offsets.{state_offset, status_offset}
 use Rattle.index_law.proofs.Places.{node_at, offset_at}
 
 pub rest_is_still : RestIsStill
@@ -276,7 +276,7 @@ module _ (call : Call) (sound : IsCall call) (words0 words : List ℕ) where
         ]
         | false ↦ candidate_there after hold directory (without_live left slot) stands
       ]
-  at_there (at.Value hold directory slot) x here still stands told = come_there call.limit hold.locked (call_address call (slot_offset slot 3)) stands
+  at_there (at.Value hold directory slot) x here still stands told = come_there call.limit hold.locked (call_address call (slot_offset slot value_word)) stands
 
 pub looks_come_there : LooksComeThere
 looks_come_there lookup words0 words x sound still stands told = at_there lookup.call sound.call words0 words lookup.at x sound.here still stands told

@@ -36,7 +36,7 @@ use Rattle.index_law.specs.Worlds.{Party, World, facts, stepped, moved_on}
 use Rattle.index_law.proofs.AnySteps.{beside_keeps}
 use Rattle.index_law.proofs.Footings.{permutation_leaves}
 use Rattle.index_law.proofs.Law.{step_law}
-use Rattle.index_law.proofs.Loose.{out_unmerged}
+use Rattle.index_law.proofs.Loose.{each_loose, out_unmerged}
 use Rattle.index_law.proofs.Moves.{fact_after, split_after, merge_after, facts_step}
 use Rattle.index_law.proofs.Own.{allow_law, sure_within}
 use Rattle.index_law.proofs.Parties.{set_here}
@@ -105,16 +105,7 @@ module _ {l : Layout} {g : ℕ} (f : Facts) (caller index since : ℕ) where
   gone_stays (kinds.merges k) knows n is = merge_stays k n is
 
 loose_own : (n m : ℕ) (s : Stage) → IsLoose s → IsOwn s n m
-loose_own n m Idle loose = tt
-loose_own n m (Saw o v w k) loose = tt
-loose_own n m (Wears o v) loose = tt
-loose_own n m (Reads o v k h) loose = tt
-loose_own n m (Holds o w h) loose = tt
-loose_own n m (Eyes o w h p v u free) loose = tt
-loose_own n m (Splits left fresh phase) loose = absurd loose
-loose_own n m (Leaves left) loose = absurd loose
-loose_own n m (Meets o w h right) loose = absurd loose
-loose_own n m (Joins h left right pace) loose = absurd loose
+loose_own n m = each_loose (λ s. IsOwn s n m) tt (λ o v w k. tt) (λ o v. tt) (λ o v sight told. tt)
 
 -- the nodes that a merge holds stay its own
 look_own : {l : Layout} {g : ℕ} {s : Stage} {a : Action} {x : ℕ} {t : Stage} {r : Option (Once Placed)} (n m : ℕ) → Look l g s a x t r → IsOwn t n m
@@ -217,6 +208,20 @@ retire_known (ends no_switch no_join no_retire owed leads) q = absurd (no_retire
 retire_known (switches one fresh_known none) q = absurd (let no = q.was in cc)
 retire_known (joins one none) q = absurd (let no = q.was in cc)
 
+-- what a merge has left of the nodes, where the list stays and its nodes stay the call's own
+still_left : (w0 w w' : World) (s s' : Stage) (b : HasLeftOut w0 w s) → (facts w').list ≡ (facts w).list → IsOwn s' b.left b.right
+    → (has_retired s' ≡ true → ((facts w').status b.right ≡ gone_status) × (prev_in w'.layout w'.words b.right ≡ b.left)) → HasLeftOut w0 w' s'
+still_left w0 w w' s s' b same own gone = record {
+  left = b.left;
+  right = b.right;
+  listed = b.listed;
+  some = b.some;
+  leads = b.leads;
+  list = same ∙ b.list;
+  own = own;
+  gone = gone;
+}
+
 -- ---- the steps
 
 module _ (name : List ℕ) (own : Option Change) (w0 : World) (z : Whole) (i : ℕ) (p : Party) (whole : IsWhole z) (o : Trying name own w0 i z.world p) where
@@ -266,16 +271,8 @@ module _ (name : List ℕ) (own : Option Change) (w0 : World) (z : Whole) (i : �
     -- as far as the call was, it still is
     left_on : (s : Stage) → HasLeftOut w0 w p.stage → (facts (stepped z.world i p a t)).list ≡ f.list → has_retired s ≡ has_retired p.stage → ((n m : ℕ) → IsOwn p.stage n m → IsOwn s n m)
         → HasLeftOut w0 (stepped z.world i p a t) s
-    left_on s b same retired mine = record {
-      left = b.left;
-      right = b.right;
-      listed = b.listed;
-      some = b.some;
-      leads = b.leads;
-      list = same ∙ b.list;
-      own = mine b.left b.right b.own;
-      gone = λ is. let was = b.gone (sym retired ∙ is) in (gone_on b.right was.0, prev_on b.right ∙ was.1);
-    }
+    left_on s b same retired mine = still_left w0 w (stepped z.world i p a t) p.stage s b same (mine b.left b.right b.own) (λ is.
+        let was = b.gone (sym retired ∙ is) in (gone_on b.right was.0, prev_on b.right ∙ was.1))
 
     does : Effect l f (facts (stepped z.world i p a t)) p.stage x t r
     does = subst (λ (φ : Facts). Effect l f φ p.stage x t r) (sym (facts_step w.words w.base w.history p.caller p.index p.since k o.lawful.row o.lawful.list told knows))
@@ -319,19 +316,10 @@ module _ (name : List ℕ) (own : Option Change) (w0 : World) (z : Whole) (i : �
           let sure : SureJoins l g (facts (stepped z.world i p a t)) p.caller p.index p.since retire.held retire.left retire.right Gone =
           subst (λ (s : Stage). Sure l g (facts (stepped z.world i p a t)) p.caller p.index p.since s) retire.is after in
           let known = subst (λ (q : Option (ℕ × ℕ)). IfSome q (λ k. prev_in l words k.0 ≡ k.1)) (retire_known deals retire) (prevs_known d owing) in
-          record {
-            left = b.left;
-            right = b.right;
-            listed = b.listed;
-            some = b.some;
-            leads = b.leads;
-            list = same ∙ b.list;
-            own = subst (λ (s : Stage). IsOwn s b.left b.right) (sym retire.is) mine;
-            gone = λ _. (
-              ap (facts (stepped z.world i p a t)).status (sym mine.1) ∙ sure.at.gone,
-              prev_on b.right ∙ ap (prev_in l words) (sym mine.1) ∙ known ∙ mine.0,
-            );
-          }
+          still_left w0 w (stepped z.world i p a t) p.stage t b same (subst (λ (s : Stage). IsOwn s b.left b.right) (sym retire.is) mine) (λ _. (
+            ap (facts (stepped z.world i p a t)).status (sym mine.1) ∙ sure.at.gone,
+            prev_on b.right ∙ ap (prev_in l words) (sym mine.1) ∙ known ∙ mine.0,
+          ))
         where
           only : (q : Option (ℕ × ℕ)) → IfSome q (λ k. HoldsNode p.stage k.0 × (IsListed f k.0 → ⊥) × (prev_in l words k.0 ≡ k.1)) → IfSome q (λ k. prev_in l words k.0 ≡ k.1)
           only None is = tt
@@ -359,16 +347,8 @@ module _ (name : List ℕ) (own : Option Change) (w0 : World) (z : Whole) (i : �
     stay = λ n gone. let now = stands.stay n gone in (ap (λ (φ : Facts). φ.status n) same ∙ now.0, prevs n now.0 ∙ now.1);
     left_out = λ merged.
         let b = stands.left_out merged in
-        record {
-          left = b.left;
-          right = b.right;
-          listed = b.listed;
-          some = b.some;
-          leads = b.leads;
-          list = ap (λ (φ : Facts). φ.list) same ∙ b.list;
-          own = b.own;
-          gone = λ retired. let was = b.gone retired in (ap (λ (φ : Facts). φ.status b.right) same ∙ was.0, prevs b.right was.0 ∙ was.1);
-        };
+        still_left w0 w (stepped z.world i p a p.stage) p.stage p.stage b (ap (λ (φ : Facts). φ.list) same) b.own (λ retired.
+        let was = b.gone retired in (ap (λ (φ : Facts). φ.status b.right) same ∙ was.0, prevs b.right was.0 ∙ was.1));
   }
 
   line_prevs : (line after : Option HeldLine) (a : Action) (x : ℕ) → get_elem? z.lines i ≡ some line → Notes l line a x after → (n : ℕ) → prev_in l (acted l words a) n ≡ prev_in l words n

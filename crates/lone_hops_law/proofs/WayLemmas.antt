@@ -156,6 +156,21 @@ module _ (l : Layout) (g : ℕ) (f f' : Nodes) (all : AreQuiet l g f) (after : A
         all = way.all ∙ sym (λ i. way.gone + apart (list i) (moves.1 i) key);
       }
 
+  -- a way to a node that is still listed is longer by no more than its key and the other one are further apart
+  still_way : (key n hops : ℕ) (way : IsWay f key n hops) → Moves way.out → apart f'.list (anchor_in (f.now way.out)) key ≤ apart f.list (anchor_in (f.now way.out)) key + 1
+      → (more : ℕ) × (more ≤ hops + 1) × IsWay f' key n more
+  still_way key n hops way moves few =
+      let was = way.all in (
+        way.gone + apart f'.list (anchor_in (f.now way.out)) key,
+        omega arith,
+        record {
+          out = way.out;
+          gone = way.gone;
+          leads = out_stays n way.gone way.out way.leads moves.0;
+          all = ap (λ a. way.gone + apart f'.list a key) (sym moves.1);
+        },
+      )
+
   pub cut_ways : HasCut f f' → LongerByOne f f'
   cut_ways cut key n hops way =
       let own : ℕ = anchor_in (f.now way.out) in
@@ -175,16 +190,7 @@ module _ (l : Layout) (g : ℕ) (f f' : Nodes) (all : AreQuiet l g f) (after : A
       (λ (b : (key < cut.new.anchor) × (one_at cut.new.anchor key ≡ 0)). let x = a.1 in let y = b.1 in omega arith)
       (one_or cut.new.anchor key))
       (one_or cut.new.anchor own) in
-      let was = way.all in (
-        way.gone + apart f'.list own key,
-        omega arith,
-        record {
-          out = way.out;
-          gone = way.gone;
-          leads = out_stays n way.gone way.out way.leads moves.0;
-          all = ap (λ a. way.gone + apart f'.list a key) (sym moves.1);
-        },
-      )
+      still_way key n hops way moves few
 
   module _ (joined : HasJoined f f') where
     abbrev left : ℕ
@@ -292,14 +298,7 @@ module _ (l : Layout) (g : ℕ) (f f' : Nodes) (all : AreQuiet l g f) (after : A
         ))
         (λ (other : way.out ≢ right).
         let moves = still way.out other (out_listed n way.gone way.out way.leads) in
-        let few = nearer own key in (
-          way.gone + apart f'.list own key,
-          omega arith,
-          record {
-            out = way.out;
-            gone = way.gone;
-            leads = out_stays n way.gone way.out way.leads moves.0;
-            all = ap (λ a. way.gone + apart f'.list a key) (sym moves.1);
-          },
-        ))
+        let near = nearer own key in
+        let few : apart f'.list own key ≤ apart f.list own key + 1 = omega arith in
+        still_way key n hops way moves few)
         (cases_eq way.out right)

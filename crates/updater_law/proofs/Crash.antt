@@ -1,7 +1,7 @@
 -- Evictions, crashes, the stamps of nodes that are made free, and a fresh index.
 use Rattle.std.proofs.Common.{◌≡◌, ◌≢◌, ℕ, ◌==◌, true, false, cond, Option, Some, None, inl, inr, refl, sym, subst, ap, ◌∙◌, arith}
 use Rattle.std.proofs.lemmas.Bool.{cases_eq, eqb-true, eq-eqb}
-use Rattle.pm_words.specs.Codes.{gone_status, free_status}
+use Rattle.pm_words.specs.Codes.{gone_status, free_status, empty_state, ready_state}
 use Rattle.updater_law.specs.Covers.{IsOpenFor, HasCover}
 use Rattle.updater_law.specs.Facts.{TurnTerms, TurnFacts, IsListed}
 use Rattle.updater_law.specs.TurnStages.{TurnStage, Resting, Between, Sees, SeesKind, SeesNode, Lands, Changes, Stamps, Clears, Sweeps, Gone, HasStamp, IsUnworn, Frees, Counts}
@@ -145,7 +145,7 @@ fresh_is_lawful c stamp = record {
   live = λ n listed. ap (λ b. cond b 1 0) listed;
   marked = λ n some_stamp. absurd (some_stamp refl);
   owned = λ n gone bare. absurd (fresh_none_gone n gone);
-  ready = λ j is. absurd (one_not 0 2 (no_lines.state j) refl is (omega arith));
-  merges = λ j is kind. absurd (one_not 0 2 (no_lines.state j) refl is (omega arith));
+  ready = λ j is. absurd (one_not empty_state ready_state (no_lines.state j) refl is (omega arith));
+  merges = λ j is kind. absurd (one_not empty_state ready_state (no_lines.state j) refl is (omega arith));
   sure = tt;
 }

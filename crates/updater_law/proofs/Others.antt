@@ -137,71 +137,45 @@ module _ (c : TurnTerms) (f : TurnFacts) (s : TurnStage) (law : TurnLawful c f s
     free = λ m gone is. is;
   }
 
+  -- a step on lines alone
+  with_lines : (line safe : Lines) → KeptLines f (record f { line = line; safe_line = safe }) → Kept f (record f { line = line; safe_line = safe })
+  with_lines line safe lines = record {
+    lines = lines;
+    nodes = same_nodes f (record f { line = line; safe_line = safe }) refl refl refl refl refl;
+    list = same_list f (record f { line = line; safe_line = safe }) refl refl;
+    layer = refl;
+  }
+
+  -- and one that leaves their states
+  noted : (kind node anchor : ℕ → ℕ) (safe : Lines) → ((i : ℕ) → f.line.state i ≡ ready_state → kind i ≡ f.line.kind i) → ((i : ℕ) → f.line.state i ≡ ready_state → node i ≡ f.line.node i)
+      → ((i : ℕ) → f.line.state i ≡ ready_state → anchor i ≡ f.line.anchor i)
+      → ((key j : ℕ) → IsCover f.line f.safe_line key j → IsCover (record (f.line) { kind = kind; node = node; anchor = anchor }) safe key j)
+      → Kept f (record f { line = record (f.line) { kind = kind; node = node; anchor = anchor }; safe_line = safe })
+  noted kind node anchor safe same_kind same_node same_anchor covered = with_lines (record (f.line) { kind = kind; node = node; anchor = anchor }) safe (record {
+    state = λ i ready. ready;
+    kind = same_kind;
+    node = same_node;
+    anchor = same_anchor;
+    covers = covered;
+    readies = λ i ready kind. inl ready;
+  })
+
   kept : {f' : TurnFacts} → OtherStep f f' → Kept f f'
-  kept (notes_kind j x empty) = record {
-    lines = record {
-      state = λ i ready. ready;
-      kind = λ i ready. other f.line.kind j i x (not_two f j i empty_state empty (omega arith) ready);
-      node = λ i ready. refl;
-      anchor = λ i ready. refl;
-      covers = λ key line cover. record { state = cover.state; anchor = cover.anchor; safe_state = cover.safe_state; safe_anchor = cover.safe_anchor };
-      readies = λ i ready kind. inl ready;
-    };
-    nodes = same_nodes f (record f { line = record (f.line) { kind = set_at f.line.kind j x } }) refl refl refl refl refl;
-    list = same_list f (record f { line = record (f.line) { kind = set_at f.line.kind j x } }) refl refl;
-    layer = refl;
-  }
-  kept (notes_node j x empty) = record {
-    lines = record {
-      state = λ i ready. ready;
-      kind = λ i ready. refl;
-      node = λ i ready. other f.line.node j i x (not_two f j i empty_state empty (omega arith) ready);
-      anchor = λ i ready. refl;
-      covers = λ key line cover. record { state = cover.state; anchor = cover.anchor; safe_state = cover.safe_state; safe_anchor = cover.safe_anchor };
-      readies = λ i ready kind. inl ready;
-    };
-    nodes = same_nodes f (record f { line = record (f.line) { node = set_at f.line.node j x } }) refl refl refl refl refl;
-    list = same_list f (record f { line = record (f.line) { node = set_at f.line.node j x } }) refl refl;
-    layer = refl;
-  }
-  kept (notes_anchor j x empty) = record {
-    lines = record {
-      state = λ i ready. ready;
-      kind = λ i ready. refl;
-      node = λ i ready. refl;
-      anchor = λ i ready. other f.line.anchor j i x (not_two f j i empty_state empty (omega arith) ready);
-      covers = λ key line cover. cover_noted f.line (set_at f.line.anchor j x) f.safe_line key line j empty (λ i ne. other f.line.anchor j i x ne) cover;
-      readies = λ i ready kind. inl ready;
-    };
-    nodes = same_nodes f (record f { line = record (f.line) { anchor = set_at f.line.anchor j x } }) refl refl refl refl refl;
-    list = same_list f (record f { line = record (f.line) { anchor = set_at f.line.anchor j x } }) refl refl;
-    layer = refl;
-  }
-  kept (opens j empty) = record {
-    lines = state_lines f j empty_state open_state empty (omega arith) (omega arith) (λ e. absurd (omega arith));
-    nodes = same_nodes f (record f { line = record (f.line) { state = set_at f.line.state j open_state } }) refl refl refl refl refl;
-    list = same_list f (record f { line = record (f.line) { state = set_at f.line.state j open_state } }) refl refl;
-    layer = refl;
-  }
-  kept (readies j is_open safe_state safe_anchor ripe) = record {
-    lines = state_lines f j open_state ready_state is_open (omega arith) (omega arith) (λ e kind. (ripe kind).held);
-    nodes = same_nodes f (record f { line = record (f.line) { state = set_at f.line.state j ready_state } }) refl refl refl refl refl;
-    list = same_list f (record f { line = record (f.line) { state = set_at f.line.state j ready_state } }) refl refl;
-    layer = refl;
-  }
-  kept (drains_lines lines evicts) = record {
-    lines = record {
-      state = λ i ready. ready;
-      kind = λ i ready. refl;
-      node = λ i ready. refl;
-      anchor = λ i ready. refl;
-      covers = λ key line cover. cover_evicts f.line f.safe_line lines key line evicts cover;
-      readies = λ i ready kind. inl ready;
-    };
-    nodes = same_nodes f (record f { safe_line = lines }) refl refl refl refl refl;
-    list = same_list f (record f { safe_line = lines }) refl refl;
-    layer = refl;
-  }
+  kept (notes_kind j x empty) = noted (set_at f.line.kind j x) f.line.node f.line.anchor f.safe_line
+      (λ i ready. other f.line.kind j i x (not_two f j i empty_state empty (omega arith) ready)) (λ i ready. refl) (λ i ready. refl)
+      (λ key line cover. record { state = cover.state; anchor = cover.anchor; safe_state = cover.safe_state; safe_anchor = cover.safe_anchor })
+  kept (notes_node j x empty) = noted f.line.kind (set_at f.line.node j x) f.line.anchor f.safe_line
+      (λ i ready. refl) (λ i ready. other f.line.node j i x (not_two f j i empty_state empty (omega arith) ready)) (λ i ready. refl)
+      (λ key line cover. record { state = cover.state; anchor = cover.anchor; safe_state = cover.safe_state; safe_anchor = cover.safe_anchor })
+  kept (notes_anchor j x empty) = noted f.line.kind f.line.node (set_at f.line.anchor j x) f.safe_line
+      (λ i ready. refl) (λ i ready. refl) (λ i ready. other f.line.anchor j i x (not_two f j i empty_state empty (omega arith) ready))
+      (λ key line cover. cover_noted f.line (set_at f.line.anchor j x) f.safe_line key line j empty (λ i ne. other f.line.anchor j i x ne) cover)
+  kept (opens j empty) = with_lines (record (f.line) { state = set_at f.line.state j open_state }) f.safe_line
+      (state_lines f j empty_state open_state empty (omega arith) (omega arith) (λ e. absurd (omega arith)))
+  kept (readies j is_open safe_state safe_anchor ripe) = with_lines (record (f.line) { state = set_at f.line.state j ready_state }) f.safe_line
+      (state_lines f j open_state ready_state is_open (omega arith) (omega arith) (λ e kind. (ripe kind).held))
+  kept (drains_lines lines evicts) = noted f.line.kind f.line.node f.line.anchor lines
+      (λ i ready. refl) (λ i ready. refl) (λ i ready. refl) (λ key line cover. cover_evicts f.line f.safe_line lines key line evicts cover)
   kept (locks p n listed live free) = let f' : TurnFacts = record f { held = set_at f.held n true; holder = set_at f.holder n p } in
       record { lines = same_lines f f' refl refl; nodes = held_nodes n p (λ e. omega arith); list = same_list f f' refl refl; layer = refl }
   kept (claims p n free unheld) = let f' : TurnFacts = record f { held = set_at f.held n true; holder = set_at f.holder n p } in
