@@ -14,7 +14,7 @@ use Rattle.pm_words.specs.Rows.{CanAct, acted, got}
 use Rattle.pm_words.specs.declared.machine.Turn.{Turn}
 use Rattle.pm_words.specs.Offsets.{anchor_offset}
 use Rattle.data_node.specs.Lists.{number_of}
-use Rattle.call_stages.specs.Kinds.{word_address}
+use Rattle.call_stages.specs.Kinds.{word_address, version_address}
 use Rattle.machine_runs.specs.Runs.{begins}
 use Rattle.machine_runs.proofs.Running.{turn_bursts, third_can, thrice_bursts, burst_goes, burst_behind, run_may}
 use Rattle.data_list.specs.declared.target.Walked.{Walked}
@@ -23,7 +23,7 @@ use Rattle.data_list.specs.declared.walk.Walk.{Walk}
 use Rattle.data_list.specs.declared.walk.WalkAt.{WalkAt}
 use Rattle.data_list.specs.declared.walk.WalkAt.TheVariants as at
 use Rattle.data_list.specs.Walks.{walk_at_asks, walk_at_turned, walk_takes, IsWalk}
-use Rattle.data_list.specs.Walks.{landing, loads_at, hops_to, saw_version, saw_status, saw_anchor, saw_next, saw_high, target, high_of}
+use Rattle.data_list.specs.Walks.{landing, loads_at, hops_to, saw_version, saw_status, saw_anchor, saw_next, saw_high, target, target_at}
 use Rattle.data_list.specs.declared.target.Next.{Next}
 use Rattle.data_list.specs.Arrivals.{MayWalk, WalkBursts, Arrives, Leads, anchor_loaded, anchor_at}
 use Rattle.data_list.proofs.Loading.{walk_adds_nothing, walk_fewer}
@@ -106,14 +106,7 @@ pub arrives : {old after : Row} (walk : Walk) (here : WalkAt) (version : ℕ) (l
     {turn : Turn Walk Walked} {begun later : ℕ} → WalkBursts old after walk here turn begun later
     → turn ≡ target walk version low next → Arrives old after (record walk { at = here }) walk version begun later
 arrives {old} {after} walk here version low next {begun = begun} {later} b is = record {
-  target = record {
-    node = walk.node;
-    version = version;
-    low = low;
-    high = high_of next;
-    hops = walk.hops;
-    next = next;
-  };
+  target = target_at walk version low next;
   here = record { node = refl; version_is = refl; hops = refl };
   burst = subst (λ (t : Turn Walk Walked). WalkBursts old after walk here t begun later) is b;
 }
@@ -179,6 +172,19 @@ module _ (walk : Walk) (version : ℕ) (low : List ℕ) (below : Bool)
   pub anchor_here : below ≡ false → saw_anchor walk version low ≡ Go (record walk { at = at.Next version low })
   anchor_here so = ap by_anchor (sym is ∙ so)
 
+-- and what the anchor of the next node does
+module _ (walk : Walk) (version : ℕ) (low : List ℕ) (next : ℕ) (high : List ℕ) (below : Bool)
+    (is : below ≡ nat_lt (number_of walk.key) (number_of high)) where
+  abbrev by_high : Bool → Turn Walk Walked
+  by_high b = cond b (target walk version low (Some (record { node = next; anchor = high }))) (hops_to walk next)
+
+  pub high_above : below ≡ true
+      → saw_high walk version low next high ≡ target walk version low (Some (record { node = next; anchor = high }))
+  high_above so = ap by_high (sym is ∙ so)
+
+  pub high_below : below ≡ false → saw_high walk version low next high ≡ hops_to walk next
+  high_below so = ap by_high (sym is ∙ so)
+
 -- and what the version word does
 free_same : (word generation : ℕ) (free : Bool) → IsTrue free ↔ IsFree word generation
     → is_free_word word generation ≡ free
@@ -198,6 +204,25 @@ module _ (walk : Walk) (word : ℕ) (free : Bool) (told : IsTrue free ↔ IsFree
 
   pub version_taken : free ≡ false → saw_version walk word ≡ Done (walked.Again (Locked walk.node word))
   version_taken so = ap by_version (free_same word walk.generation free told ∙ so)
+
+-- so a load of it goes on where it is free
+pub version_bursts : {old after : Row} (walk : Walk) {address number begun later : ℕ} → MayWalk old walk at.Version
+    → address ≡ version_address walk.layout walk.node
+    → after ≡ record old { words = acted old.layout old.words (Load address) }
+    → number ≡ got old.layout old.words (Load address) → later ≡ begun + 1
+    → WalkBursts old after walk at.Version (saw_version walk number) begun later
+version_bursts walk may asked acts given ticks =
+    load_bursts walk at.Version may (ap (λ (a : ℕ). Load a) asked) acts given ticks
+
+pub free_bursts : {old after : Row} (walk : Walk) {address number begun later : ℕ} → MayWalk old walk at.Version
+    → address ≡ version_address walk.layout walk.node
+    → after ≡ record old { words = acted old.layout old.words (Load address) }
+    → number ≡ got old.layout old.words (Load address) → later ≡ begun + 1
+    → (free : Bool) → IsTrue free ↔ IsFree number walk.generation → free ≡ true
+    → WalkBursts old after walk at.Version (Go (record walk { at = at.Status number })) begun later
+free_bursts {old} {after} walk {number = number} {begun} {later} may asked acts given ticks free told so =
+    subst (λ (t : Turn Walk Walked). WalkBursts old after walk at.Version t begun later)
+    (version_free walk number free told so) (version_bursts walk may asked acts given ticks)
 
 -- a hop begins at the version word
 abbrev hop_at : Turn Walk Walked → WalkAt

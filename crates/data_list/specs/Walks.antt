@@ -88,17 +88,20 @@ abbrev pub high_of : Option Next → Option (List ℕ)
 high_of None = None
 high_of (Some next) = name_kept next.anchor
 
--- the node that it is at is its target
+-- the node that it is at, as a target
+abbrev pub target_at : Walk → ℕ → List ℕ → Option Next → Target
+target_at walk version low next = record {
+  node = walk.node;
+  version = version;
+  low = low;
+  high = high_of next;
+  hops = walk.hops;
+  next = next;
+}
+
+-- that is its target
 abbrev pub target : Walk → ℕ → List ℕ → Option Next → Turn Walk Walked
-target walk version low next =
-    Done (walked.Target (record {
-      node = walk.node;
-      version = version;
-      low = low;
-      high = high_of next;
-      hops = walk.hops;
-      next = next;
-    }))
+target walk version low next = Done (walked.Target (target_at walk version low next))
 
 -- what it loaded of its target
 abbrev pub sighting_of : Target → Sighting

@@ -45,3 +45,8 @@ module _ (l : Layout) (image : List ℕ) (x : ℕ) (some_cell : x ≢ 0) (kind :
     deep = let deeper = head_deeper l image x cell_right b child same in omega (arith, is);
     fine = λ some_child wrong. right some_cell (wrong_below l image x b (reference_of x) (reference_of child) (to_cell x some_cell kind) same (reference_some child some_child) wrong);
   }
+
+  -- with the child that it has read of the cell
+  pub reads_on : (cell : cells.Cell) → cell.kind ≡ kind_of x → ((o : ℕ) → words_of cell o ≡ image_cell l image x o) → (least depth : ℕ) → depth ≡ (image_tree l image).depth x → least ≤ depth_of (image_tree l image) (reference_of x)
+      → (b child : ℕ) → child ≡ children_of cell b → GoesOn l image least depth child
+  reads_on cell kind_is words least depth is least_is b child read = goes_on least depth is least_is b child (child_read l image x cell kind_is words b child read)

@@ -60,7 +60,7 @@ use Rattle.node_ops.specs.declared.running.Running.{Running}
 use Rattle.node_ops.specs.declared.running.Running.TheVariants.{Getting, Putting, Deleting, Parting}
 use Rattle.node_ops.specs.Calls.{IsCall, name_in}
 use Rattle.pm_words.specs.Fences.{line_of, fence_start}
-use Rattle.pm_words.specs.Offsets.{bitmap_offset, prints_offset, slot_offset}
+use Rattle.pm_words.specs.Offsets.{bitmap_offset, prints_offset, slot_offset, value_word}
 use Rattle.node_ops.specs.LookupSteps.{IsHit, IsFoundBy, lookup_turned}
 use Rattle.node_ops.specs.FinishSteps.{finish_turned}
 use Rattle.node_ops.specs.FillSteps.{fill_turned}
@@ -70,7 +70,7 @@ use Rattle.node_ops.specs.RunningSteps.{running_call, running_asks, running_turn
 use Rattle.node_ops.specs.Laws.{TurnsAreFootSteps, TurnsAreSteps, LeadsAreTaken}
 use Rattle.node_ops.specs.CallStages.{words_from, nothing, knows, decided, fence_rest, seen_hit, seen_fill, get_stage, put_stage, part_stage, stage_of, stage_after, reply_of, found_full, footing_of, footing_after}
 use Rattle.node_ops.proofs.SeenLemmas.{Stand, seen_append, seen_front, stand_whole}
-use Rattle.node_ops.proofs.LookupLaw.{PlainStep, steps, hit_words, found_known, Writes_found, Found_by, written_found, Leads, keeps_live, lookup_leads}
+use Rattle.node_ops.proofs.LookupLaw.{MachineLeads, PlainStep, steps, hit_words, found_known, Writes_found, Found_by, written_found, Leads, keeps_live, lookup_leads}
 use Rattle.node_ops.proofs.FinishLaw.{Finishes, finish_leads}
 use Rattle.node_ops.proofs.FillLaw.{Fills, fill_leads}
 use Rattle.node_ops.proofs.LookupSound.{SoundLooked, found_by, lookup_stays}
@@ -85,15 +85,12 @@ use Rattle.node_ops.proofs.DelLaw.{dels_are_steps, merge_leads}
 use Rattle.data_list.specs.WalkStages.{live_sight}
 use Rattle.node_ops.specs.CallStages.{stage_by}
 
--- the kind of step of a turn of a get
+-- the kinds of step of a turn of a get, and of a put
 abbrev Gets : Call → Stage → Action → ℕ → Turn Get (Once Placed) → Type 0
-Gets call stage action x (Go get) = PlainStep call.view.layout call.view.generation stage action x (get_stage get) None
-Gets call stage action x (Done answer) = Step call.view.layout call.view.generation stage action x Idle (Some answer)
+Gets = MachineLeads get_stage
 
--- of a put
 abbrev Puts : Call → Stage → Action → ℕ → Turn Put (Once Placed) → Type 0
-Puts call stage action x (Go put) = PlainStep call.view.layout call.view.generation stage action x (put_stage put) None
-Puts call stage action x (Done answer) = Step call.view.layout call.view.generation stage action x Idle (Some answer)
+Puts = MachineLeads put_stage
 
 module _ (call : Call) (sound : IsCall call) where
   abbrev slots : ℕ
@@ -110,18 +107,20 @@ module _ (call : Call) (sound : IsCall call) where
       steps (so nothing (λ s known. record { seen = tt; left = tt }))
 
   -- what is known as the writing into a clear slot begins
+  abbrev filling : Found → ℕ → ℕ → Fill
+  filling found value slot = record {
+    call = call;
+    hold = found.hold;
+    bitmap = found.directory.bitmap;
+    prints = get_or found.directory.prints (slot / 8) 0;
+    slot = slot;
+    hit = found.hit;
+    value = value;
+    at = fill_at.Word 0;
+  }
+
   fill_known : (s : Spot) (found : Found) (value slot : ℕ) → length found.directory.prints ≡ 8 → slot < 64 → Knows (name_in call) (found_known call found) s
-      → Knows (name_in call) (knows (seen_fill (record {
-        call = call;
-        hold = found.hold;
-        bitmap = found.directory.bitmap;
-        prints = get_or found.directory.prints (slot / 8) 0;
-        slot = slot;
-        hit = found.hit;
-        value = value;
-        at = fill_at.Word 0;
-      })
-      (get_or found.directory.prints (slot / 8) 0) 0)) s
+      → Knows (name_in call) (knows (seen_fill (filling found value slot) (get_or found.directory.prints (slot / 8) 0) 0)) s
   fill_known s found value slot eight small known =
       let prints = found.directory.prints in
       let stands : Stand s prints_offset prints (length prints) = stand_whole s prints_offset prints (seen_front s (words_from prints_offset prints) (hit_words call found.hit) known.seen.1) in
@@ -143,17 +142,7 @@ module _ (call : Call) (sound : IsCall call) where
   put_into_leads stage action x found value (Some slot) is sound_found leads =
       let lowest = lowest_clear-some found.directory.bitmap slots slot sound_found.directory.bitmap limit is in
       let small : slot < 64 = let within : slot < slots = lowest.within in let few : slots ≤ 64 = limit in omega arith in
-      steps (leads (knows (seen_fill (record {
-        call = call;
-        hold = found.hold;
-        bitmap = found.directory.bitmap;
-        prints = get_or found.directory.prints (slot / 8) 0;
-        slot = slot;
-        hit = found.hit;
-        value = value;
-        at = fill_at.Word 0;
-      })
-      (get_or found.directory.prints (slot / 8) 0) 0)) None false tt
+      steps (leads (knows (seen_fill (filling found value slot) (get_or found.directory.prints (slot / 8) 0) 0)) None false tt
       (λ s known. fill_known s found value slot sound_found.directory.prints small known) (λ range s m in_range old means. means))
   put_into_leads stage action x found value None is sound_found leads = put_full_leads stage action x found found.hit value leads
 
@@ -180,7 +169,7 @@ module _ (call : Call) (sound : IsCall call) where
   replacing_leads hold bitmap hit value x is fits =
       let within : hit.slot < slots = is.within in
       commits {h = decided call hold (Some hit.value) (knows (seen_hit call bitmap (Some hit)))} {k = nothing}
-      {dirty = fence_rest (line_of (slot_offset hit.slot 3)) fence_start ∷ []} {old = Some hit.value} {c = change.Put (name_in call) value}
+      {dirty = fence_rest (line_of (slot_offset hit.slot value_word)) fence_start ∷ []} {old = Some hit.value} {c = change.Put (name_in call) value}
       (sound.node, (omega arith)) (inr (omega arith)) fits (record { pending = refl; ready = refl; placed = refl }) refl (inl (omega arith, omega arith)) refl refl
       (λ s tidy before. record { seen = tt; left = tt })
       (λ range s m in_range before old means.

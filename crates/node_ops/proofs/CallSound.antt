@@ -36,7 +36,7 @@ use Rattle.node_ops.specs.declared.running.Running.TheVariants.{Getting, Putting
 use Rattle.node_ops.specs.Calls.{IsCall, at_node, IsSame}
 use Rattle.pm_words.specs.Fences.{IsFence, line_of, fence_start, fence_next}
 use Rattle.pm_words.specs.Locations.{node_words}
-use Rattle.pm_words.specs.Offsets.{bitmap_offset, slot_offset}
+use Rattle.pm_words.specs.Offsets.{bitmap_offset, slot_offset, value_word}
 use Rattle.pm_words.proofs.Fencing.{fence_stays}
 use Rattle.node_ops.specs.LookupSteps.{IsHit, IsFoundBy, lookup_turned}
 use Rattle.node_ops.specs.FinishSteps.{IsFinish, IsFinishAt, finish_turned, finish_at_turned, finish_fenced}
@@ -94,7 +94,7 @@ starts = record { word = omega arith; value = tt }
 bitmap_inside : (call : Call) → line_of bitmap_offset + 8 ≤ node_words call.view.layout
 bitmap_inside call = omega arith
 
-value_inside : (call : Call) (slot : ℕ) → IsCall call → slot < call.view.layout.slots → line_of (slot_offset slot 3) + 8 ≤ node_words call.view.layout
+value_inside : (call : Call) (slot : ℕ) → IsCall call → slot < call.view.layout.slots → line_of (slot_offset slot value_word) + 8 ≤ node_words call.view.layout
 value_inside call slot sound within =
     let even : call.view.layout.slots % 2 ≡ 0 = sound.view.layout.slots.2 in
     omega arith

@@ -11,7 +11,7 @@ use Rattle.pm_words.specs.Locations.{node_words}
 use Rattle.pm_words.specs.Rows.{CanAct, acted, got}
 use Rattle.pm_words.specs.Turns.{GoesBelow}
 use Rattle.pm_words.specs.declared.machine.Turn.{Turn}
-use Rattle.pm_words.specs.Offsets.{bitmap_offset, prints_offset, slot_offset}
+use Rattle.pm_words.specs.Offsets.{bitmap_offset, prints_offset, slot_offset, value_word}
 use Rattle.data_node.specs.Bits.{candidate_bits, without_live, lowest_live}
 use Rattle.data_node.proofs.BitLemmas.{lowest_live-some, without_live-same}
 use Rattle.node_ops.specs.declared.call.Call.{Call}
@@ -197,7 +197,7 @@ module _ {old now : Row} (call : Call) (hold : Hold) (directory : Directory) (le
       let limit : call.view.layout.slots ≤ 64 = candidate_call.view.layout.slots.1 in
       omega arith
 
-  pub candidate_within : slot_offset slot 3 < node_words call.view.layout
+  pub candidate_within : slot_offset slot value_word < node_words call.view.layout
   candidate_within =
       let within : slot < call.view.layout.slots = comparing_within _ _ _ _ candidate_sound.here.2 in
       omega arith
@@ -225,12 +225,12 @@ candidates_end call hold directory left is on =
 -- it loads the value of the slot that has the name
 module _ {old now : Row} (call : Call) (hold : Hold) (directory : Directory) (slot : ℕ) {from : Turn Lookup Looked}
     {begun steps : ℕ} (on : LeadsTo old now call from (goes_to call (at.Value hold directory slot)) begun steps) where
-  pub value_can : {address : ℕ} → address ≡ call_address call (slot_offset slot 3)
+  pub value_can : {address : ℕ} → address ≡ call_address call (slot_offset slot value_word)
       → CanAct now.layout now.words (Load address)
   value_can is =
       look_can (record { call = call; at = at.Value hold directory slot }) on.may (ap (λ (a : ℕ). Load a) is)
 
-  pub value_looks : {after : Row} {address number later : ℕ} → address ≡ call_address call (slot_offset slot 3)
+  pub value_looks : {after : Row} {address number later : ℕ} → address ≡ call_address call (slot_offset slot value_word)
       → after ≡ record now { words = acted now.layout now.words (Load address) }
       → number ≡ got now.layout now.words (Load address) → later ≡ steps + 1
       → LooksFrom old after call from call (looked.Found (record {

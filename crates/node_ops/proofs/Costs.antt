@@ -72,12 +72,12 @@ use Rattle.permutation.specs.declared.store.StorePermutation.{StorePermutation}
 use Rattle.permutation.specs.Loads.{load_turned}
 use Rattle.permutation.specs.Stores.{store_turned}
 use Rattle.node_ops.specs.declared.part.Reading.{Reading}
-use Rattle.node_ops.specs.declared.part.Way.TheVariants as ways
 use Rattle.node_ops.specs.PartSteps.{IsPart, part_left, part_walked, part_ordered, part_held, part_looked, ordering_turned, seen_at, store_on, after_bitmap, after_word, with_word, reading_turned}
 use Rattle.node_ops.proofs.PartSound.{goes_call}
 use Rattle.node_ops.proofs.PartWalks.{IsOnWay, WalksOn, walks_on, walks_left}
 use Rattle.node_ops.specs.RunningSteps.{running_turned, running_left, wrapped, wrapped_part}
 use Rattle.node_ops.proofs.Landings.{CallAfter, CallStays, fill_keeps, finish_keeps}
+use Rattle.node_ops.proofs.PartTurns.{ordered_is}
 use Rattle.node_ops.specs.Costs.{hops_spared, lookup_landed, spared, EndsInWalk, IsGivenUp, PutsSpareSplits, TurnsSpare, WalksEndSo}
 
 -- what a look-up has spared
@@ -365,12 +365,10 @@ part_spares (part.Ordering call seen count load) x sound fewer = at (load_turned
     ordered : (order : Option (List ℕ)) → GoesBelow {A = Once Placed} running_left (part_left (part.Ordering call seen count load)) (wrapped_part (Go (part_ordered call seen count order)))
         → Spares (part_left (part.Ordering call seen count load) + (hops_spared call + 0)) (wrapped_part (Go (part_ordered call seen count order)))
     ordered (Some words) fewer = omega (arith, fewer)
-    ordered None fewer = elim (is_worn_word seen.version call.view.generation) as (λ b.
-        GoesBelow {A = Once Placed} running_left (part_left (part.Ordering call seen count load)) (wrapped_part (Go (cond b (part.Dating call seen count ways.Alone) (part.Locking call seen count (locked_word call.view.generation (kept_count seen.version call.view.generation))))))
-        → Spares (part_left (part.Ordering call seen count load) + (hops_spared call + 0)) (wrapped_part (Go (cond b (part.Dating call seen count ways.Alone) (part.Locking call seen count (locked_word call.view.generation (kept_count seen.version call.view.generation))))))) [
-          | true ↦ λ less. omega (arith, less)
-          | false ↦ λ less. omega (arith, less)
-        ] fewer
+    ordered None fewer =
+        ordered_is (λ (p : Part). GoesBelow {A = Once Placed} running_left (part_left (part.Ordering call seen count load)) (wrapped_part (Go p))
+        → Spares (part_left (part.Ordering call seen count load) + (hops_spared call + 0)) (wrapped_part (Go p))) call seen count (λ less. omega (arith, less))
+        (λ locked less. omega (arith, less)) fewer
 
     at : (turn : Turn LoadPermutation (Option (List ℕ))) → GoesBelow {A = Once Placed} running_left (part_left (part.Ordering call seen count load)) (wrapped_part (ordering_turned call seen count turn))
         → Spares (part_left (part.Ordering call seen count load) + (hops_spared call + 0)) (wrapped_part (ordering_turned call seen count turn))

@@ -13,7 +13,7 @@ use Rattle.data_node.proofs.SpotLemmas.{remove_absent}
 use Rattle.data_node.proofs.StoreLemmas.{means_cleared}
 use Rattle.call_stages.specs.declared.once.Once.{Once}
 use Rattle.call_stages.specs.declared.once.Placed.{Placed}
-use Rattle.call_stages.specs.Stages.{Held, Stage, Idle}
+use Rattle.call_stages.specs.Stages.{Held, Stage}
 use Rattle.call_stages.specs.declared.once.Once.TheVariants as once
 use Rattle.call_stages.specs.declared.view.View.{View}
 use Rattle.call_stages.specs.Footings.{Waits}
@@ -66,7 +66,7 @@ use Rattle.node_ops.specs.DelSteps.{IsDel, IsTakeOf, IsUnplaced, IsMerging, name
 use Rattle.node_ops.proofs.MergeFacts.{placed_still, goes_on_stage}
 use Rattle.node_ops.specs.RunningSteps.{running_turned, wrapped}
 use Rattle.node_ops.specs.CallStages.{nothing, knows, decided, fence_rest, seen_hit, del_stage, stage_after, reply_of, finish_stage, has_place, found_in, line_taken, del_footing, footing_after}
-use Rattle.node_ops.proofs.LookupLaw.{PlainStep, steps, Writes_found, written_found, Leads, keeps_live, lookup_leads}
+use Rattle.node_ops.proofs.LookupLaw.{MachineLeads, PlainStep, steps, Writes_found, written_found, Leads, keeps_live, lookup_leads}
 use Rattle.node_ops.proofs.FinishLaw.{Finishes, finish_leads}
 use Rattle.node_ops.proofs.PlainSteps.{hit_words_known, part_hit, Plain, IsSingle, IsPlainAfter, plain, looks_single}
 use Rattle.std.specs.Prelude.{IsSome}
@@ -74,8 +74,7 @@ use Rattle.data_list.specs.WalkStages.{live_sight}
 
 -- the kind of step of a turn of a delete
 abbrev Dels : Call → Stage → Action → ℕ → Turn Del (Once Placed) → Type 0
-Dels call stage action x (Go del) = PlainStep call.view.layout call.view.generation stage action x (del_stage del) None
-Dels call stage action x (Done answer) = Step call.view.layout call.view.generation stage action x Idle (Some answer)
+Dels = MachineLeads del_stage
 
 module _ (call : Call) (sound : IsCall call) where
   abbrev slots : ℕ

@@ -1,5 +1,5 @@
 -- What an answer says of the call that it ends.
-use Rattle.std.proofs.Common.{◌≡◌, ◌≢◌, ℕ, ◌+◌, ◌/◌, ◌≤◌, ◌==◌, true, false, cond, ltb, [], Option, Some, None, refl, sym, subst, ap, ◌∙◌, arith, List}
+use Rattle.std.proofs.Common.{◌≡◌, ◌≢◌, ℕ, ◌/◌, ◌≤◌, ◌==◌, true, false, cond, ltb, [], Option, Some, None, refl, sym, subst, ap, ◌∙◌, arith, List}
 use Rattle.std.specs.Prelude.{IsSomeAnd, ◌==◌}
 use Rattle.std.proofs.lemmas.Bool.{leb-true}
 use Rattle.pm_words.specs.declared.again.Again.{Again}
@@ -35,8 +35,6 @@ use Rattle.node_ops.specs.declared.lookup.LookupAt.{LookupAt}
 use Rattle.node_ops.specs.declared.lookup.LookupAt.TheVariants as look
 use Rattle.pm_words.specs.declared.fence.Fence.{Fence}
 use Rattle.node_ops.specs.declared.fill.Fill.{Fill}
-use Rattle.node_ops.specs.declared.fill.FillAt.{FillAt}
-use Rattle.node_ops.specs.declared.fill.FillAt.TheVariants as fill_at
 use Rattle.node_ops.specs.declared.finish.Finish.{Finish}
 use Rattle.node_ops.specs.declared.finish.FinishAt.{FinishAt}
 use Rattle.node_ops.specs.declared.finish.FinishAt.TheVariants as finish_at
@@ -54,7 +52,7 @@ use Rattle.node_ops.specs.Calls.{at_node}
 use Rattle.pm_words.specs.Fences.{fence_next}
 use Rattle.node_ops.specs.LookupSteps.{value_of, is_spent, candidate_turned, came_by, came_to, floored, walked_on, goes_to, ends, lookup_turned, lookup_at_turned, IsLookupAt}
 use Rattle.node_ops.specs.FinishSteps.{finish_asks, finish_turned, finish_at_turned, finish_fenced}
-use Rattle.node_ops.specs.FillSteps.{fill_turned, fill_at_turned, slot_fenced, print_fenced}
+use Rattle.node_ops.specs.FillSteps.{fill_turned}
 use Rattle.node_ops.specs.GetSteps.{get_looked}
 use Rattle.node_ops.specs.PutSteps.{put_looked, put_into, put_full, put_filled, put_finished, put_split}
 use Rattle.smo_log.specs.declared.take.Take.{Take}
@@ -90,29 +88,16 @@ use Rattle.node_ops.proofs.SplitFacts.{split_uncounted, split_unplaced}
 use Rattle.node_ops.proofs.MergeFacts.{placed_still, merging_stage, merge_placed, merge_limited, merge_uncounted, goes_on_stage}
 use Rattle.cat_history.specs.declared.op.Change.{Change}
 use Rattle.node_ops.specs.Endings.{place_for, limit_in, IsPutOp, IsDone, DoneIsCounted, IsSpent, SpentIsLate, NoFreeIsOfPuts, RefusedIsUncounted, GoesOn, TurnsKeepPlace, LastCountsNothing, PlacedIsInTime}
-use Rattle.index_law.proofs.Loose.{loose_unplaced}
 use Rattle.node_ops.proofs.OpLaw.{lookup_counts}
-use Rattle.call_stages.specs.Stages.{Known, Sight}
+use Rattle.call_stages.specs.Stages.{Sight}
 use Rattle.data_list.specs.WalkStages.{live_sight}
-use Rattle.node_ops.specs.CallStages.{timed, held_by, walk_by, behind_sight}
-use Rattle.node_ops.proofs.PlainSteps.{walk_by_loose}
-
-held_unplaced : (limit : Option ℕ) (n word : ℕ) (kept : Sight) (call : Call) (hold : Hold) (known : Known) → placed_in (held_by limit n word kept (timed call hold known)) ≡ None
-held_unplaced None _ _ _ _ _ _ = refl
-held_unplaced (Some limit) _ _ _ _ _ _ = refl
+use Rattle.node_ops.specs.CallStages.{behind_sight}
+use Rattle.node_ops.proofs.OnlyRead.{looks_only}
+use Rattle.node_ops.proofs.WriteTurns.{fill_turn_is}
 
 -- a look-up has no place
 pub lookup_placed : (kept : Sight) (call : Call) (at : LookupAt) → placed_in (lookup_at_stage kept call at) ≡ None
-lookup_placed kept call (look.Floor floor) = refl
-lookup_placed kept call (look.Walk walk) = loose_unplaced (walk_by call.limit walk) (walk_by_loose call.limit walk)
-lookup_placed kept call (look.Read seen) = refl
-lookup_placed kept call (look.Lock seen locked) = refl
-lookup_placed kept call (look.Clock locked) = refl
-lookup_placed kept call (look.Spent hold) = refl
-lookup_placed kept call (look.Bitmap hold) = held_unplaced call.limit _ _ _ call hold _
-lookup_placed kept call (look.Prints hold bitmap prints k) = held_unplaced call.limit _ _ _ call hold _
-lookup_placed kept call (look.Name hold directory left slot k) = held_unplaced call.limit _ _ _ call hold _
-lookup_placed kept call (look.Value hold directory slot) = held_unplaced call.limit _ _ _ call hold _
+lookup_placed kept call at = (looks_only kept call at).placed
 
 pub reached : (limit : Option ℕ) (clock : ℕ) → is_spent limit clock ≡ true → IsSomeAnd limit (λ most. most ≤ clock)
 reached None clock e = absurd (cc)
@@ -240,22 +225,7 @@ FillTurns (Go fill) = Unit {0}
 FillTurns (Done finish) = placed_in (finish_stage finish) ≡ None
 
 fill_turns : (fill : Fill) (x : ℕ) → FillTurns (fill_turned fill x)
-fill_turns fill x = at fill.at
-  where
-    slot_fence : (o : Option Fence) → FillTurns (slot_fenced fill o)
-    slot_fence (Some fence) = tt
-    slot_fence None = tt
-
-    print_fence : (o : Option Fence) → FillTurns (print_fenced fill o)
-    print_fence (Some fence) = tt
-    print_fence None = tt
-
-    at : (at : FillAt) → FillTurns (fill_at_turned fill at x)
-    at (fill_at.Word k) = elim (ltb (k + 1) 4) as (λ b. FillTurns (cond b (Go (record fill { at = fill_at.Word (k + 1) })) (Go (record fill { at = fill_at.Print })))) [ true ↦ tt | false ↦ tt ]
-    at fill_at.Print = tt
-    at (fill_at.FenceSlot fence) = slot_fence (fence_next fence x)
-    at (fill_at.FencePrint fence) = print_fence (fence_next fence x)
-    at fill_at.Bitmap = refl
+fill_turns fill x = fill_turn_is FillTurns fill fill.at x (λ next. tt) (λ is. refl)
 
 -- the end of a write: its change is counted, and then told at its place
 abbrev FinishTurns : Finish → ℕ → Turn Finish (Once Placed) → Type 0

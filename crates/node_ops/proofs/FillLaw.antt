@@ -31,7 +31,7 @@ use Rattle.node_ops.specs.Calls.{name_in, call_address}
 use Rattle.pm_words.specs.Locations.{node_words}
 use Rattle.node_ops.specs.LookupSteps.{value_of, IsHit}
 use Rattle.pm_words.specs.Fences.{line_of, fence_start, fence_asks, fence_next}
-use Rattle.pm_words.specs.Offsets.{bitmap_offset, print_offset, slot_offset}
+use Rattle.pm_words.specs.Offsets.{bitmap_offset, print_offset, slot_offset, value_word}
 use Rattle.node_ops.specs.FillSteps.{slot_line, print_line}
 use Rattle.node_ops.specs.FillSteps.{IsFill, IsFillAt, fill_word, bitmap_without, bitmap_after, fill_asks, fill_at_asks, fill_turned, fill_at_turned, slot_fenced, print_fenced}
 use Rattle.node_ops.specs.CallStages.{words_from, nothing, knows, decided, fence_rest, seen_hit, seen_fill, pair_words, slot_words, fill_stage, fill_at_held, finish_stage}
@@ -226,7 +226,7 @@ module _ (fill : Fill) (sound : IsFill fill) where
             let first : ltb k 3 ≡ true = lt-ltb k 3 below in
             facts.stored k (omega arith) ∙ pair_word words fill.value k three (omega arith) ∙ ap (λ b. cond b (get_or words k 0) fill.value) first) ∙ sym sound.call.packed.whole;
         value_is =
-            let here : slot_offset fill.slot 0 + 3 ≡ slot_offset fill.slot 3 = omega arith in
+            let here : slot_offset fill.slot 0 + 3 ≡ slot_offset fill.slot value_word = omega arith in
             ap s (sym here) ∙ facts.stored 3 (omega arith) ∙ pair_word words fill.value 3 three (omega arith);
         print_is = ap (λ w. get_or (prints_of w) (fill.slot % 8) 0) facts.print_is
             ∙ ap (λ bytes. get_or bytes (fill.slot % 8) 0) (prints_of-printed fill.prints fill.slot fill.call.print print_below)

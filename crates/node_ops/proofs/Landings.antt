@@ -1,5 +1,5 @@
 -- A call comes by its node and its hops from its walk, and keeps them.
-use Rattle.std.proofs.Common.{◌≡◌, ℕ, ◌+◌, ◌/◌, true, false, cond, ltb, Option, Some, None, refl, subst, ◌∙◌, arith, sym, List}
+use Rattle.std.proofs.Common.{◌≡◌, ℕ, ◌/◌, true, false, cond, ltb, Option, Some, None, refl, subst, ◌∙◌, arith, sym, List}
 use Rattle.std.specs.Prelude.{◌==◌}
 use Rattle.pm_words.specs.declared.again.Again.TheVariants.{Moved}
 use Rattle.pm_words.specs.declared.machine.Turn.{Turn}
@@ -25,10 +25,7 @@ use Rattle.node_ops.specs.declared.lookup.Looked.TheVariants as looked
 use Rattle.node_ops.specs.declared.lookup.Lookup.{Lookup}
 use Rattle.node_ops.specs.declared.lookup.LookupAt.{LookupAt}
 use Rattle.node_ops.specs.declared.lookup.LookupAt.TheVariants as look
-use Rattle.pm_words.specs.declared.fence.Fence.{Fence}
 use Rattle.node_ops.specs.declared.fill.Fill.{Fill}
-use Rattle.node_ops.specs.declared.fill.FillAt.{FillAt}
-use Rattle.node_ops.specs.declared.fill.FillAt.TheVariants as fill_at
 use Rattle.node_ops.specs.declared.finish.Finish.{Finish}
 use Rattle.node_ops.specs.declared.finish.FinishAt.{FinishAt}
 use Rattle.node_ops.specs.declared.finish.FinishAt.TheVariants as finish_at
@@ -43,10 +40,9 @@ use Rattle.node_ops.specs.declared.single_del.SingleDel.TheVariants as single_de
 use Rattle.node_ops.specs.declared.running.Running.{Running}
 use Rattle.node_ops.specs.declared.running.Running.TheVariants.{Getting, Putting, Deleting, Parting}
 use Rattle.node_ops.specs.Calls.{at_node}
-use Rattle.pm_words.specs.Fences.{fence_next}
 use Rattle.node_ops.specs.LookupSteps.{came_by, is_spent, candidate_turned, floored, walked_on, goes_to, ends, lookup_turned, lookup_at_turned}
-use Rattle.node_ops.specs.FinishSteps.{finish_turned, finish_at_turned, finish_fenced}
-use Rattle.node_ops.specs.FillSteps.{fill_turned, fill_at_turned, slot_fenced, print_fenced}
+use Rattle.node_ops.specs.FinishSteps.{finish_turned}
+use Rattle.node_ops.specs.FillSteps.{fill_turned}
 use Rattle.node_ops.specs.GetSteps.{get_looked}
 use Rattle.node_ops.specs.PutSteps.{put_call, put_looked, put_into, put_full, put_filled, put_finished, put_split}
 use Rattle.split_merge.specs.declared.splitting.Split.{Split}
@@ -70,10 +66,11 @@ use Rattle.permutation.specs.declared.load.LoadPermutation.{LoadPermutation}
 use Rattle.permutation.specs.declared.store.StorePermutation.{StorePermutation}
 use Rattle.permutation.specs.Loads.{load_turned}
 use Rattle.permutation.specs.Stores.{store_turned}
-use Rattle.node_ops.specs.declared.part.Way.TheVariants as ways
 use Rattle.node_ops.specs.PartSteps.{part_call, part_walked, part_ordered, part_held, part_looked, ordering_turned, seen_at, store_on, with_word, reading_turned}
 use Rattle.pm_words.specs.declared.again.Again.TheVariants as again
 use Rattle.node_ops.proofs.PartSound.{goes_call}
+use Rattle.node_ops.proofs.PartTurns.{ordered_is}
+use Rattle.node_ops.proofs.WriteTurns.{fill_turn_is, finish_turn_is}
 use Rattle.node_ops.specs.Landings.{lookup_walk, walk_in, LandsBy, Lands, TurnsLand}
 
 -- after a turn of a look-up that was on this walk, if on any
@@ -135,38 +132,14 @@ CallAfter call (Go fill) = fill.call ≡ call
 CallAfter call (Done finish) = finish.call ≡ call
 
 pub fill_keeps : (fill : Fill) (x : ℕ) → CallAfter fill.call (fill_turned fill x)
-fill_keeps fill x = at fill.at
-  where
-    slot_fence : (o : Option Fence) → CallAfter fill.call (slot_fenced fill o)
-    slot_fence (Some fence) = refl
-    slot_fence None = refl
-
-    print_fence : (o : Option Fence) → CallAfter fill.call (print_fenced fill o)
-    print_fence (Some fence) = refl
-    print_fence None = refl
-
-    at : (at : FillAt) → CallAfter fill.call (fill_at_turned fill at x)
-    at (fill_at.Word k) = elim (ltb (k + 1) 4) as (λ b. CallAfter fill.call (cond b (Go (record fill { at = fill_at.Word (k + 1) })) (Go (record fill { at = fill_at.Print })))) [ true ↦ refl | false ↦ refl ]
-    at fill_at.Print = refl
-    at (fill_at.FenceSlot fence) = slot_fence (fence_next fence x)
-    at (fill_at.FencePrint fence) = print_fence (fence_next fence x)
-    at fill_at.Bitmap = refl
+fill_keeps fill x = fill_turn_is (CallAfter fill.call) fill fill.at x (λ next. refl) (λ is. refl)
 
 abbrev pub CallStays : Call → Turn Finish (Once Placed) → Type 0
 CallStays call (Go finish) = finish.call ≡ call
 CallStays call (Done answer) = Unit {0}
 
 pub finish_keeps : (finish : Finish) (x : ℕ) → CallStays finish.call (finish_turned finish x)
-finish_keeps finish x = at finish.at
-  where
-    fenced : (line : ℕ) (o : Option Fence) → CallStays finish.call (finish_fenced finish line o)
-    fenced line (Some fence) = refl
-    fenced line None = refl
-
-    at : (at : FinishAt) → CallStays finish.call (finish_at_turned finish at x)
-    at (finish_at.Fence line fence) = fenced line (fence_next fence x)
-    at finish_at.Add = refl
-    at (finish_at.Unlock place) = tt
+finish_keeps finish x = finish_turn_is (CallStays finish.call) finish finish.at x (λ next. refl) (λ placed. tt)
 
 abbrev LandsAfter : Running → ℕ → Turn Running (Once Placed) → Type 0
 LandsAfter running x (Go next) = Lands (running_call running) x (walk_in running) (running_call next)
@@ -274,7 +247,7 @@ part_lands (part.Ordering call seen count load) x = at (load_turned load x)
   where
     ordered : (order : Option (List ℕ)) → part_call (part_ordered call seen count order) ≡ call
     ordered (Some words) = refl
-    ordered None = elim (is_worn_word seen.version call.view.generation) as (λ b. part_call (cond b (part.Dating call seen count ways.Alone) (part.Locking call seen count (locked_word call.view.generation (kept_count seen.version call.view.generation)))) ≡ call) [ true ↦ refl | false ↦ refl ]
+    ordered None = ordered_is (λ (p : Part). part_call p ≡ call) call seen count refl (λ locked. refl)
 
     at : (turn : Turn LoadPermutation (Option (List ℕ))) → LandsAfter (Parting (part.Ordering call seen count load)) x (wrapped_part (ordering_turned call seen count turn))
     at (Go next) = refl

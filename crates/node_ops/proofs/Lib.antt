@@ -1,4 +1,7 @@
 pub mod SeenLemmas
+pub mod OnlyRead
+pub mod WriteTurns
+pub mod PartTurns
 pub mod Measures
 pub mod LookupLaw
 pub mod LookupSound

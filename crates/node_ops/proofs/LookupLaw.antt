@@ -20,7 +20,7 @@ use Rattle.version_lock.specs.Versions.{kept_count, locked_word, is_worn_word}
 use Rattle.data_node.specs.Slots.{IsLive}
 use Rattle.data_node.specs.Bits.{without_live, lowest_live, candidate_bits}
 use Rattle.pm_words.specs.declared.layout.Layout.{Layout}
-use Rattle.pm_words.specs.Offsets.{version_offset, bitmap_offset, prints_offset, slot_offset}
+use Rattle.pm_words.specs.Offsets.{version_offset, bitmap_offset, prints_offset, slot_offset, value_word}
 use Rattle.data_node.specs.Lists.{three_words, key_of, IsBetween, number_of}
 use Rattle.data_node.specs.Spots.{Spot, IsLiveIn, name_words, IsTidy, Means}
 use Rattle.data_node.proofs.BitLemmas.{lowest_live-some, lowest_live-none, without_live-other}
@@ -125,7 +125,12 @@ pub data PlainStep (l : Layout) (g : ℕ) : Stage → Action → ℕ → Stage �
   reads_layer : {w : Word} {x : ℕ} → IsLayerPlace l w → PlainStep l g Idle (Load (address_of l (Cached w))) x Idle None
   loads_permutation : {stage : Stage} {n offset x : ℕ} → counted stage ≡ None → n < l.nodes → IsOfPermutation offset → PlainStep l g stage (Load (volatile_address l n offset)) x stage None
 
--- the kind of step of a turn
+-- the kind of step of a turn of a machine that has these stages, and may end its call
+abbrev pub MachineLeads : {M : Type 0} → (M → Stage) → Call → Stage → Action → ℕ → Turn M (Once Placed) → Type 0
+MachineLeads stage_in call stage action x (Go machine) = PlainStep call.view.layout call.view.generation stage action x (stage_in machine) None
+MachineLeads stage_in call stage action x (Done answer) = Step call.view.layout call.view.generation stage action x Idle (Some answer)
+
+-- and of a turn of a look-up
 abbrev pub Leads : Sight → Call → Stage → Action → ℕ → Turn Lookup Looked → Type 0
 Leads kept call stage action x (Go lookup) = PlainStep call.view.layout call.view.generation stage action x (lookup_at_stage kept lookup.call lookup.at) None
 Leads kept call stage action x (Done (looked.Early answer)) = Step call.view.layout call.view.generation stage action x Idle (Some answer)
@@ -409,10 +414,10 @@ module _ (kept : Sight) (call : Call) (sound : IsCall call) where
       ] refl
 
   value_leads : (hold : Hold) (directory : Directory) (slot x : ℕ) → slot < slots → IsLive directory.bitmap slot
-      → Leads kept call (lookup_at_stage kept call (look.Value hold directory slot)) (Load (call_address call (slot_offset slot 3))) x (finds hold directory (Some (record { slot = slot; value = x })))
+      → Leads kept call (lookup_at_stage kept call (look.Value hold directory slot)) (Load (call_address call (slot_offset slot value_word))) x (finds hold directory (Some (record { slot = slot; value = x })))
   value_leads hold directory slot x slot_within live =
       let known_now = knows ((bitmap_offset, directory.bitmap) ∷ (words_from prints_offset directory.prints ++ words_from (slot_offset slot 0) call.name)) in
-      decide (record { hold = hold; directory = directory; hit = Some (record { slot = slot; value = x }) }) known_now (slot_offset slot 3) x (omega arith) (omega arith)
+      decide (record { hold = hold; directory = directory; hit = Some (record { slot = slot; value = x }) }) known_now (slot_offset slot value_word) x (omega arith) (omega arith)
       (λ s tidy known e. known)
       (λ range s m in_range known e means.
       let stands : Stand s (slot_offset slot 0) call.name (length call.name) =

@@ -1,6 +1,6 @@
 -- What a delete is while it merges: it has its place, and no change that isn't counted.
-use Rattle.std.proofs.Common.{◌≡◌, ℕ, false, true, List, Option, Some, None, refl, sym, subst, ap, ◌∙◌}
-use Rattle.call_stages.specs.Stages.{Held, Stage, Idle, Saw, Wears, Reads, Holds, Eyes, Splits, Leaves, Meets, Joins, counted, pending_in, placed_in}
+use Rattle.std.proofs.Common.{◌≡◌, ℕ, Bool, List, Option, Some, None, refl, sym, ap, ◌∙◌}
+use Rattle.call_stages.specs.Stages.{Held, Grip, Pace, Stage, Idle, Saw, Wears, Reads, Holds, Eyes, Splits, Leaves, Meets, Joins, counted, pending_in, placed_in}
 use Rattle.call_stages.specs.Kinds.{IsStill}
 use Rattle.split_merge.specs.declared.uniting.Union.{Union}
 use Rattle.split_merge.specs.declared.joining.JoinAt.{JoinAt}
@@ -19,6 +19,7 @@ use Rattle.node_ops.specs.DelSteps.{goes_on, merges_at}
 use Rattle.node_ops.specs.CallStages.{has_place, del_stage, finish_stage, finish_at_held}
 use Rattle.node_ops.specs.Asked.{IsAbout}
 use Rattle.node_ops.specs.Endings.{limit_in}
+use Rattle.node_ops.proofs.OnlyRead.{uncounted}
 
 -- The stage is one of the merge of a node that is held as h says: it holds that node alone, or the next one too.
 abbrev pub IsOfMerge : Held → Stage → Type 0
@@ -63,69 +64,50 @@ of_merge h merge is = at merge.at
     at (merge_at.Part near locked bitmap) = stands_knowing h _ _ _
     at (merge_at.Leave near) = stands_knowing h _ _ _
 
+-- So what holds of its stages that hold something holds of it.
+merge_is : (P : Stage → Type 0) (h : Held) → ((n w : ℕ) (k : Held) → StandsFor h k → P (Holds n w k))
+    → ((n w : ℕ) (k : Held) (m v u : ℕ) (free : Bool) → StandsFor h k → P (Eyes n w k m v u free))
+    → ((n w : ℕ) (k : Held) (right : Grip) → StandsFor h k → P (Meets n w k right))
+    → ((k : Held) (left right : Grip) (pace : Pace) → StandsFor h k → P (Joins k left right pace))
+    → (s : Stage) → IsOfMerge h s → P s
+merge_is P h holds eyes meets joins (Holds n w k) is = holds n w k is
+merge_is P h holds eyes meets joins (Eyes n w k m v u free) is = eyes n w k m v u free is
+merge_is P h holds eyes meets joins (Meets n w k right) is = meets n w k right is
+merge_is P h holds eyes meets joins (Joins k left right pace) is = joins k left right pace is
+merge_is P h holds eyes meets joins Idle is = absurd is
+merge_is P h holds eyes meets joins (Saw n v w k) is = absurd is
+merge_is P h holds eyes meets joins (Wears n v) is = absurd is
+merge_is P h holds eyes meets joins (Reads n v sight told) is = absurd is
+merge_is P h holds eyes meets joins (Splits left fresh phase) is = absurd is
+merge_is P h holds eyes meets joins (Leaves left) is = absurd is
+
 -- it has the place and the limit of its call,
 pub merge_placed : (h : Held) (s : Stage) → IsOfMerge h s → placed_in s ≡ h.placed
-merge_placed h (Holds n w k) is = is.placed
-merge_placed h (Eyes n w k m v u free) is = is.placed
-merge_placed h (Meets n w k right) is = is.placed
-merge_placed h (Joins k left right pace) is = is.placed
-merge_placed h Idle is = absurd is
-merge_placed h (Saw n v w k) is = absurd is
-merge_placed h (Wears n v) is = absurd is
-merge_placed h (Reads n v sight told) is = absurd is
-merge_placed h (Splits left fresh phase) is = absurd is
-merge_placed h (Leaves left) is = absurd is
+merge_placed h s is =
+    merge_is (λ (t : Stage). placed_in t ≡ h.placed) h (λ n w k stands. stands.placed)
+    (λ n w k m v u free stands. stands.placed) (λ n w k right stands. stands.placed)
+    (λ k left right pace stands. stands.placed) s is
 
 pub merge_limited : (h : Held) (s : Stage) → IsOfMerge h s → limit_in s ≡ h.limit
-merge_limited h (Holds n w k) is = is.limit
-merge_limited h (Eyes n w k m v u free) is = is.limit
-merge_limited h (Meets n w k right) is = is.limit
-merge_limited h (Joins k left right pace) is = is.limit
-merge_limited h Idle is = absurd is
-merge_limited h (Saw n v w k) is = absurd is
-merge_limited h (Wears n v) is = absurd is
-merge_limited h (Reads n v sight told) is = absurd is
-merge_limited h (Splits left fresh phase) is = absurd is
-merge_limited h (Leaves left) is = absurd is
+merge_limited h s is =
+    merge_is (λ (t : Stage). limit_in t ≡ h.limit) h (λ n w k stands. stands.limit)
+    (λ n w k m v u free stands. stands.limit) (λ n w k right stands. stands.limit)
+    (λ k left right pace stands. stands.limit) s is
 
--- nothing to count,
-pub merge_uncounted : (h : Held) (s : Stage) → IsStill h → IsOfMerge h s → counted s ≡ None
-merge_uncounted h (Holds n w k) still is = subst (λ b. elim b [ true ↦ k.pending | false ↦ None ] ≡ None) (sym (is.ready ∙ still.ready)) refl
-merge_uncounted h (Eyes n w k m v u free) still is = refl
-merge_uncounted h (Meets n w k right) still is = refl
-merge_uncounted h (Joins k left right pace) still is = refl
-merge_uncounted h Idle still is = absurd is
-merge_uncounted h (Saw n v w k) still is = absurd is
-merge_uncounted h (Wears n v) still is = absurd is
-merge_uncounted h (Reads n v sight told) still is = absurd is
-merge_uncounted h (Splits left fresh phase) still is = absurd is
-merge_uncounted h (Leaves left) still is = absurd is
-
--- no change that its node shows,
+-- no change that its node shows, and none to count,
 pub merge_unpending : (h : Held) (s : Stage) → IsStill h → IsOfMerge h s → pending_in s ≡ None
-merge_unpending h (Holds n w k) still is = is.pending ∙ still.pending
-merge_unpending h (Eyes n w k m v u free) still is = refl
-merge_unpending h (Meets n w k right) still is = refl
-merge_unpending h (Joins k left right pace) still is = refl
-merge_unpending h Idle still is = absurd is
-merge_unpending h (Saw n v w k) still is = absurd is
-merge_unpending h (Wears n v) still is = absurd is
-merge_unpending h (Reads n v sight told) still is = absurd is
-merge_unpending h (Splits left fresh phase) still is = absurd is
-merge_unpending h (Leaves left) still is = absurd is
+merge_unpending h s still is =
+    merge_is (λ (t : Stage). pending_in t ≡ None) h (λ n w k stands. stands.pending ∙ still.pending)
+    (λ n w k m v u free stands. refl) (λ n w k right stands. refl) (λ k left right pace stands. refl) s is
+
+pub merge_uncounted : (h : Held) (s : Stage) → IsStill h → IsOfMerge h s → counted s ≡ None
+merge_uncounted h s still is = uncounted s (merge_unpending h s still is)
 
 -- and what it holds it holds for its name
 pub merge_about : (h : Held) (s : Stage) → IsOfMerge h s → IsAbout h.name s
-merge_about h (Holds n w k) is = is.name
-merge_about h (Eyes n w k m v u free) is = is.name
-merge_about h (Meets n w k right) is = is.name
-merge_about h (Joins k left right pace) is = is.name
-merge_about h Idle is = absurd is
-merge_about h (Saw n v w k) is = absurd is
-merge_about h (Wears n v) is = absurd is
-merge_about h (Reads n v sight told) is = absurd is
-merge_about h (Splits left fresh phase) is = absurd is
-merge_about h (Leaves left) is = absurd is
+merge_about h s is =
+    merge_is (IsAbout h.name) h (λ n w k stands. stands.name) (λ n w k m v u free stands. stands.name)
+    (λ n w k right stands. stands.name) (λ k left right pace stands. stands.name) s is
 
 -- once its change has its place
 pub placed_still : (call : Call) (old : Option ℕ) (place : ℕ) → IsStill (has_place call old place)

@@ -1,5 +1,5 @@
 -- A call stays one of its op, and makes no other change than the op's.
-use Rattle.std.proofs.Common.{◌≡◌, ℕ, ◌+◌, ◌/◌, ◌==◌, true, false, cond, ltb, List, Option, Some, None, IfSome, refl, sym, subst, ap, ◌∙◌, []}
+use Rattle.std.proofs.Common.{◌≡◌, ℕ, ◌/◌, ◌==◌, true, false, cond, ltb, List, Option, Some, None, IfSome, refl, sym, subst, ap, ◌∙◌, []}
 use Rattle.pm_words.specs.declared.layout.Layout.{Layout}
 use Rattle.pm_words.specs.declared.machine.Turn.{Turn}
 use Rattle.pm_words.specs.declared.machine.Turn.TheVariants.{Go, Done}
@@ -10,9 +10,8 @@ use Rattle.cat_history.specs.declared.op.Change.TheVariants as change
 use Rattle.data_node.specs.Bits.{lowest_clear}
 use Rattle.call_stages.specs.declared.once.Once.{Once}
 use Rattle.call_stages.specs.declared.once.Placed.{Placed}
-use Rattle.call_stages.specs.Stages.{Stage, Idle, Saw, Wears, Reads, Holds, Eyes, Splits, Leaves, Meets, Joins, IsLoose, counted, pending_in, placed_in}
+use Rattle.call_stages.specs.Stages.{Holds, counted, pending_in, placed_in}
 use Rattle.call_stages.specs.Kinds.{Told}
-use Rattle.index_law.proofs.Loose.{loose_counted}
 use Rattle.node_ops.specs.declared.call.Call.{Call}
 use Rattle.node_ops.specs.declared.lookup.Found.{Found}
 use Rattle.node_ops.specs.declared.lookup.Hit.{Hit}
@@ -20,11 +19,7 @@ use Rattle.node_ops.specs.declared.lookup.Looked.{Looked}
 use Rattle.node_ops.specs.declared.lookup.Looked.TheVariants as looked
 use Rattle.node_ops.specs.declared.lookup.Lookup.{Lookup}
 use Rattle.node_ops.specs.declared.lookup.LookupAt.{LookupAt}
-use Rattle.node_ops.specs.declared.lookup.LookupAt.TheVariants as look
-use Rattle.pm_words.specs.declared.fence.Fence.{Fence}
 use Rattle.node_ops.specs.declared.fill.Fill.{Fill}
-use Rattle.node_ops.specs.declared.fill.FillAt.{FillAt}
-use Rattle.node_ops.specs.declared.fill.FillAt.TheVariants as fill_at
 use Rattle.node_ops.specs.declared.finish.Finish.{Finish}
 use Rattle.node_ops.specs.declared.finish.FinishAt.{FinishAt}
 use Rattle.node_ops.specs.declared.finish.FinishAt.TheVariants as finish_at
@@ -39,10 +34,9 @@ use Rattle.node_ops.specs.declared.single_del.SingleDel.TheVariants as single_de
 use Rattle.node_ops.specs.declared.running.Running.{Running}
 use Rattle.node_ops.specs.declared.running.Running.TheVariants.{Getting, Putting, Deleting, Parting}
 use Rattle.node_ops.specs.Calls.{name_in}
-use Rattle.pm_words.specs.Fences.{fence_next}
 use Rattle.node_ops.specs.LookupSteps.{lookup_turned}
-use Rattle.node_ops.specs.FinishSteps.{finish_turned, finish_at_turned, finish_fenced}
-use Rattle.node_ops.specs.FillSteps.{fill_turned, fill_at_turned, slot_fenced, print_fenced}
+use Rattle.node_ops.specs.FinishSteps.{finish_turned}
+use Rattle.node_ops.specs.FillSteps.{fill_turned}
 use Rattle.node_ops.specs.GetSteps.{IsGet, get_call, get_turned}
 use Rattle.node_ops.specs.PutSteps.{IsPut, put_call, put_turned, put_looked, put_into, put_full, put_filled, put_finished, put_split}
 use Rattle.smo_log.specs.declared.take.Take.{Take}
@@ -61,8 +55,8 @@ use Rattle.split_merge.specs.declared.splitting.SplitDone.{SplitDone}
 use Rattle.split_merge.specs.Splits.{split_turned}
 use Rattle.split_merge.specs.SplitStages.{split_footing}
 use Rattle.split_merge.proofs.OfSplits.{stages_are_of_splits}
-use Rattle.node_ops.proofs.SplitFacts.{split_uncounted, split_unpending, split_about}
-use Rattle.node_ops.proofs.MergeFacts.{placed_still, merging_stage, merge_uncounted, merge_unpending, merge_about}
+use Rattle.node_ops.proofs.SplitFacts.{split_unpending, split_about}
+use Rattle.node_ops.proofs.MergeFacts.{placed_still, merging_stage, merge_unpending, merge_about}
 use Rattle.cat_history.specs.Records.{change_of}
 use Rattle.node_ops.specs.Asked.{Gives, TakesOut, IsOf, IsOfAfter, IsAbout, op_of_finish}
 use Rattle.node_ops.specs.Laws.{TurnsKeepOp, CountsOwnChange, HoldsOwnName, PendingIsOwnChange, OpIsTold}
@@ -72,16 +66,12 @@ use Rattle.node_ops.specs.declared.part.Part.TheVariants as part
 use Rattle.node_ops.specs.PartSteps.{IsPart, part_call, placed_turn, part_turned}
 use Rattle.node_ops.specs.CallStages.{part_stage}
 use Rattle.node_ops.proofs.PartSound.{part_stays}
-use Rattle.node_ops.proofs.PartStages.{reading_about, reading_counts, reading_pends}
+use Rattle.node_ops.proofs.PartStages.{reading_about, reading_pends}
 use Rattle.node_ops.proofs.CallSound.{get_stays, put_stays, del_stays}
-use Rattle.call_stages.specs.Stages.{Known, Sight}
-use Rattle.call_stages.specs.Watches.{Watching, Nothing, Watches}
-use Rattle.version_lock.specs.Versions.{kept_count, locked_word, is_worn_word}
-use Rattle.data_list.specs.WalkStages.{walk_watching, view_stage, watching_stage, live_sight}
-use Rattle.data_list.specs.declared.walk.Walk.{Walk}
-use Rattle.node_ops.specs.declared.lookup.Hold.{Hold}
-use Rattle.node_ops.specs.CallStages.{timed, held_by, walk_by}
-use Rattle.node_ops.proofs.PlainSteps.{walk_by_loose}
+use Rattle.call_stages.specs.Stages.{Sight}
+use Rattle.data_list.specs.WalkStages.{live_sight}
+use Rattle.node_ops.proofs.OnlyRead.{counted_pends, uncounted, looks_only}
+use Rattle.node_ops.proofs.WriteTurns.{fill_turn_is, finish_turn_is}
 
 -- what a finish leaves under the name is the same after a turn
 abbrev NewAfter : Option ℕ → Turn Finish (Once Placed) → Type 0
@@ -89,38 +79,14 @@ NewAfter new (Go finish) = finish.new ≡ new
 NewAfter new (Done answer) = Unit {0}
 
 finish_keeps : (finish : Finish) (x : ℕ) → NewAfter finish.new (finish_turned finish x)
-finish_keeps finish x = at finish.at
-  where
-    fenced : (line : ℕ) (o : Option Fence) → NewAfter finish.new (finish_fenced finish line o)
-    fenced line (Some fence) = refl
-    fenced line None = refl
-
-    at : (at : FinishAt) → NewAfter finish.new (finish_at_turned finish at x)
-    at (finish_at.Fence line fence) = fenced line (fence_next fence x)
-    at finish_at.Add = refl
-    at (finish_at.Unlock place) = tt
+finish_keeps finish x = finish_turn_is (NewAfter finish.new) finish finish.at x (λ next. refl) (λ placed. tt)
 
 abbrev ValueAfter : ℕ → Turn Fill Finish → Type 0
 ValueAfter value (Go fill) = fill.value ≡ value
 ValueAfter value (Done finish) = finish.new ≡ Some value
 
 fill_keeps : (fill : Fill) (x : ℕ) → ValueAfter fill.value (fill_turned fill x)
-fill_keeps fill x = at fill.at
-  where
-    slot_fence : (o : Option Fence) → ValueAfter fill.value (slot_fenced fill o)
-    slot_fence (Some fence) = refl
-    slot_fence None = refl
-
-    print_fence : (o : Option Fence) → ValueAfter fill.value (print_fenced fill o)
-    print_fence (Some fence) = refl
-    print_fence None = refl
-
-    at : (at : FillAt) → ValueAfter fill.value (fill_at_turned fill at x)
-    at (fill_at.Word k) = elim (ltb (k + 1) 4) as (λ b. ValueAfter fill.value (cond b (Go (record fill { at = fill_at.Word (k + 1) })) (Go (record fill { at = fill_at.Print })))) [ true ↦ refl | false ↦ refl ]
-    at fill_at.Print = refl
-    at (fill_at.FenceSlot fence) = slot_fence (fence_next fence x)
-    at (fill_at.FencePrint fence) = print_fence (fence_next fence x)
-    at fill_at.Bitmap = refl
+fill_keeps fill x = fill_turn_is (ValueAfter fill.value) fill fill.at x (λ next. refl) (λ is. refl)
 
 abbrev GivesAfter : ℕ → Turn Put (Once Placed) → Type 0
 GivesAfter value (Go put) = Gives value put
@@ -242,118 +208,23 @@ turns_keep_op l g op running x sound told leads is =
     let at_generation = subst (λ (n : ℕ). Told l n (running_asks running) x) (sym sound.generation) told in
     own_keep op running x sound.here (subst (λ (k : Layout). Told k (running_call running).view.generation (running_asks running) x) (sym sound.layout) at_generation) leads is
 
--- a stage that holds no node
-view_about : (name : List ℕ) (w : Watching) → IsAbout name (view_stage w)
-view_about name Nothing = tt
-view_about name (Watches n version sight) = tt
-
-saw_about : (name : List ℕ) (g : ℕ) (w : Watching) → IsAbout name (watching_stage g w)
-saw_about name g Nothing = tt
-saw_about name g (Watches n version sight) = elim (is_worn_word version g) as (λ b. IsAbout name (cond b (Wears n version) (Saw n version (locked_word g (kept_count version g)) sight))) [
-  | true ↦ tt
-  | false ↦ tt
-]
-
-walk_about : (name : List ℕ) (limit : Option ℕ) (walk : Walk) → IsAbout name (walk_by limit walk)
-walk_about name None walk = view_about name (walk_watching walk)
-walk_about name (Some limit) walk = saw_about name walk.generation (walk_watching walk)
-
-loose_pends : (s : Stage) → IsLoose s → pending_in s ≡ None
-loose_pends Idle loose = refl
-loose_pends (Saw n v w k) loose = refl
-loose_pends (Wears n v) loose = refl
-loose_pends (Reads n v sight told) loose = refl
-loose_pends (Holds n w h) loose = absurd loose
-loose_pends (Eyes n w h m v u free) loose = absurd loose
-loose_pends (Splits left fresh phase) loose = absurd loose
-loose_pends (Leaves left) loose = absurd loose
-loose_pends (Meets n w h right) loose = absurd loose
-loose_pends (Joins h left right pace) loose = absurd loose
-
 -- a look-up counts nothing, and holds its node for its call's name
-held_counts : (limit : Option ℕ) (n word : ℕ) (kept : Sight) (call : Call) (hold : Hold) (known : Known) → counted (held_by limit n word kept (timed call hold known)) ≡ None
-held_counts None _ _ _ _ _ _ = refl
-held_counts (Some limit) _ _ _ _ _ _ = refl
-
-held_about : (limit : Option ℕ) (n word : ℕ) (kept : Sight) (call : Call) (hold : Hold) (known : Known) → IsAbout (name_in call) (held_by limit n word kept (timed call hold known))
-held_about None _ _ _ _ _ _ = refl
-held_about (Some limit) _ _ _ _ _ _ = refl
-
-held_pends : (limit : Option ℕ) (n word : ℕ) (kept : Sight) (call : Call) (hold : Hold) (known : Known) → pending_in (held_by limit n word kept (timed call hold known)) ≡ None
-held_pends None _ _ _ _ _ _ = refl
-held_pends (Some limit) _ _ _ _ _ _ = refl
-
 pub lookup_counts : (kept : Sight) (call : Call) (at : LookupAt) → counted (lookup_at_stage kept call at) ≡ None
-lookup_counts kept call (look.Floor floor) = refl
-lookup_counts kept call (look.Walk walk) = loose_counted (walk_by call.limit walk) (walk_by_loose call.limit walk)
-lookup_counts kept call (look.Read seen) = refl
-lookup_counts kept call (look.Lock target locked) = refl
-lookup_counts kept call (look.Clock locked) = refl
-lookup_counts kept call (look.Spent hold) = refl
-lookup_counts kept call (look.Bitmap hold) = held_counts call.limit _ _ _ call hold _
-lookup_counts kept call (look.Prints hold bitmap prints k) = held_counts call.limit _ _ _ call hold _
-lookup_counts kept call (look.Name hold directory left slot k) = held_counts call.limit _ _ _ call hold _
-lookup_counts kept call (look.Value hold directory slot) = held_counts call.limit _ _ _ call hold _
+lookup_counts kept call at = uncounted (lookup_at_stage kept call at) (looks_only kept call at).pending
 
 lookup_about : (kept : Sight) (call : Call) (at : LookupAt) → IsAbout (name_in call) (lookup_at_stage kept call at)
-lookup_about kept call (look.Floor floor) = tt
-lookup_about kept call (look.Walk walk) = walk_about (name_in call) call.limit walk
-lookup_about kept call (look.Read seen) = tt
-lookup_about kept call (look.Lock target locked) = tt
-lookup_about kept call (look.Clock locked) = refl
-lookup_about kept call (look.Spent hold) = refl
-lookup_about kept call (look.Bitmap hold) = held_about call.limit _ _ _ call hold _
-lookup_about kept call (look.Prints hold bitmap prints k) = held_about call.limit _ _ _ call hold _
-lookup_about kept call (look.Name hold directory left slot k) = held_about call.limit _ _ _ call hold _
-lookup_about kept call (look.Value hold directory slot) = held_about call.limit _ _ _ call hold _
+lookup_about kept call at = (looks_only kept call at).about
+
+lookup_pends : (kept : Sight) (call : Call) (at : LookupAt) → pending_in (lookup_at_stage kept call at) ≡ None
+lookup_pends kept call at = (looks_only kept call at).pending
 
 counts_nothing : (P : Change → Type 0) (o : Option Change) → o ≡ None → IfSome o P
 counts_nothing P o is = subst (λ (c : Option Change). IfSome c P) (sym is) tt
-
-finish_counts : (P : Change → Type 0) (finish : Finish) (at : FinishAt) → P (change_to (name_in finish.call) finish.new) → IfSome (counted (Holds finish.call.node finish.hold.locked (finish_at_held finish at))) P
-finish_counts P finish (finish_at.Fence line fence) holds = tt
-finish_counts P finish finish_at.Add holds = holds
-finish_counts P finish (finish_at.Unlock place) holds = tt
 
 finish_about : (finish : Finish) (at : FinishAt) → IsAbout (name_in finish.call) (Holds finish.call.node finish.hold.locked (finish_at_held finish at))
 finish_about finish (finish_at.Fence line fence) = refl
 finish_about finish finish_at.Add = refl
 finish_about finish (finish_at.Unlock place) = refl
-
-pub counts_own_change : CountsOwnChange
-counts_own_change (op.Get name) (Getting (get.Looking lookup)) is = counts_nothing _ _ (lookup_counts (live_sight []) lookup.call lookup.at)
-counts_own_change (op.Get name) (Getting (get.Checking call hold old)) is = tt
-counts_own_change (op.Get name) (Putting put) is = absurd is
-counts_own_change (op.Get name) (Deleting del) is = absurd is
-counts_own_change (op.Get name) (Parting (part.Looking lookup count)) is = counts_nothing _ _ (lookup_counts (live_sight []) lookup.call lookup.at)
-counts_own_change (op.Get name) (Parting (part.Ordering call seen count load)) is = tt
-counts_own_change (op.Get name) (Parting (part.Locking call seen count locked)) is = tt
-counts_own_change (op.Get name) (Parting (part.Dating call seen count way)) is = tt
-counts_own_change (op.Get name) (Parting (part.Reading reading)) is = counts_nothing _ _ (reading_counts reading)
-counts_own_change (op.Put name value) (Getting get) is = absurd is
-counts_own_change (op.Put name value) (Putting (put.Single (single_put.Looking lookup number))) is = counts_nothing _ _ (lookup_counts (live_sight []) lookup.call lookup.at)
-counts_own_change (op.Put name value) (Putting (put.Single (single_put.Filling fill))) is = tt
-counts_own_change (op.Put name value) (Putting (put.Single (single_put.Replacing call hold bitmap hit number))) is = tt
-counts_own_change (op.Put name value) (Putting (put.Single (single_put.Finishing finish))) is =
-    finish_counts (λ c. Some (change.Put name value) ≡ Some c) finish finish.at
-    (ap Some (sym (ap (λ (n : Option ℕ). change_to (name_in finish.call) n) is.1 ∙ ap (λ (n : List ℕ). change.Put n value) is.0)))
-counts_own_change (op.Put name value) (Putting (put.Splitting call hold bitmap number split)) is =
-    counts_nothing _ _ (split_uncounted _ _ refl (stages_are_of_splits (found_full call hold bitmap) split))
-counts_own_change (op.Put name value) (Deleting del) is = absurd is
-counts_own_change (op.Put name value) (Parting p) is = absurd is
-counts_own_change (op.Del name) (Getting get) is = absurd is
-counts_own_change (op.Del name) (Putting put) is = absurd is
-counts_own_change (op.Del name) (Deleting (del.Single (single_del.Looking lookup))) is = counts_nothing _ _ (lookup_counts (live_sight []) lookup.call lookup.at)
-counts_own_change (op.Del name) (Deleting (del.Single (single_del.Next call hold bitmap hit))) is = tt
-counts_own_change (op.Del name) (Deleting (del.Single (single_del.Taking call hold bitmap hit take))) is = tt
-counts_own_change (op.Del name) (Deleting (del.Single (single_del.Refusing call hold bitmap hit))) is = tt
-counts_own_change (op.Del name) (Deleting (del.Single (single_del.Clearing call hold bitmap hit line))) is = tt
-counts_own_change (op.Del name) (Deleting (del.Merging call hold old place merge)) is =
-    counts_nothing _ _ (merge_uncounted _ _ (placed_still call old place) (merging_stage call old place merge))
-counts_own_change (op.Del name) (Deleting (del.Single (single_del.Finishing finish line))) is =
-    finish_counts (λ c. Some (change.Del name) ≡ Some c) finish finish.at
-    (ap Some (sym (ap (λ (n : Option ℕ). change_to (name_in finish.call) n) is.1 ∙ ap (λ (n : List ℕ). change.Del n) is.0)))
-counts_own_change (op.Del name) (Parting p) is = absurd is
 
 pub holds_own_name : HoldsOwnName
 holds_own_name (op.Get name) (Getting (get.Looking lookup)) is = subst (λ n. IsAbout n (lookup_at_stage (live_sight []) lookup.call lookup.at)) is (lookup_about (live_sight []) lookup.call lookup.at)
@@ -387,18 +258,6 @@ holds_own_name (op.Del name) (Deleting (del.Merging call hold old place merge)) 
 holds_own_name (op.Del name) (Deleting (del.Single (single_del.Finishing finish line))) is =
     subst (λ n. IsAbout n (Holds finish.call.node finish.hold.locked (finish_at_held finish finish.at))) is.0 (finish_about finish finish.at)
 holds_own_name (op.Del name) (Parting p) is = absurd is
-
-lookup_pends : (kept : Sight) (call : Call) (at : LookupAt) → pending_in (lookup_at_stage kept call at) ≡ None
-lookup_pends kept call (look.Floor floor) = refl
-lookup_pends kept call (look.Walk walk) = loose_pends (walk_by call.limit walk) (walk_by_loose call.limit walk)
-lookup_pends kept call (look.Read seen) = refl
-lookup_pends kept call (look.Lock target locked) = refl
-lookup_pends kept call (look.Clock locked) = refl
-lookup_pends kept call (look.Spent hold) = refl
-lookup_pends kept call (look.Bitmap hold) = held_pends call.limit _ _ _ call hold _
-lookup_pends kept call (look.Prints hold bitmap prints k) = held_pends call.limit _ _ _ call hold _
-lookup_pends kept call (look.Name hold directory left slot k) = held_pends call.limit _ _ _ call hold _
-lookup_pends kept call (look.Value hold directory slot) = held_pends call.limit _ _ _ call hold _
 
 finish_pends : (P : Change → Type 0) (finish : Finish) (at : FinishAt) → P (change_to (name_in finish.call) finish.new) → IfSome (finish_at_held finish at).pending P
 finish_pends P finish (finish_at.Fence line fence) holds = holds
@@ -439,6 +298,10 @@ pending_is_own (op.Del name) (Deleting (del.Single (single_del.Finishing finish 
     finish_pends (λ c. Some (change.Del name) ≡ Some c) finish finish.at
     (ap Some (sym (ap (λ (n : Option ℕ). change_to (name_in finish.call) n) is.1 ∙ ap (λ (n : List ℕ). change.Del n) is.0)))
 pending_is_own (op.Del name) (Parting p) is = absurd is
+
+-- and what it counts is pending
+pub counts_own_change : CountsOwnChange
+counts_own_change op running is = counted_pends (λ change. change_of op ≡ Some change) (stage_of running) (pending_is_own op running is)
 
 finish_unplaced : (finish : Finish) (at : FinishAt) → IfSome (finish_at_held finish at).pending (λ c. (finish_at_held finish at).placed ≡ None)
 finish_unplaced finish (finish_at.Fence line fence) = refl

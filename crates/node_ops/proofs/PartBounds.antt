@@ -29,7 +29,6 @@ use Rattle.data_list.specs.Keys.{IsNameOf, key_words, name_kept}
 use Rattle.data_list.specs.Walks.{high_of}
 use Rattle.data_list.proofs.KeyLemmas.{name_kept_so}
 use Rattle.shapes.proofs.NameLists.{all_by, filter-alike}
-use Rattle.version_lock.specs.Versions.{is_worn_word, kept_count, locked_word}
 use Rattle.call_stages.specs.declared.once.Once.{Once}
 use Rattle.call_stages.specs.declared.once.Once.TheVariants as once
 use Rattle.call_stages.specs.declared.once.Placed.{Placed}
@@ -50,7 +49,6 @@ use Rattle.index_law.proofs.Rows.{facts-version, version_in-here}
 use Rattle.index_law.proofs.Switch.{between_inside, rise_from}
 use Rattle.node_ops.specs.declared.call.Call.{Call}
 use Rattle.node_ops.specs.declared.lookup.Looked.{Looked}
-use Rattle.node_ops.specs.declared.lookup.Looked.TheVariants as looked
 use Rattle.node_ops.specs.declared.lookup.Lookup.{Lookup}
 use Rattle.node_ops.specs.declared.part.PartWords.{PartWords}
 use Rattle.node_ops.specs.declared.part.Reading.{Reading}
@@ -68,13 +66,14 @@ use Rattle.node_ops.specs.LookupSteps.{lookup_turned}
 use Rattle.node_ops.specs.GetSteps.{get_turned}
 use Rattle.node_ops.specs.PutSteps.{put_turned}
 use Rattle.node_ops.specs.DelSteps.{del_turned}
-use Rattle.node_ops.specs.PartSteps.{goes_on, low_value, sorted_by, part_call, part_dated, part_held, part_locked, part_looked, part_ordered, part_walked, ordering_turned, seen_at, store_on, with_word, reading_at_asks, reading_turned, IsFreely, IsPart, IsReading, IsThere}
+use Rattle.node_ops.specs.PartSteps.{goes_on, low_value, sorted_by, part_call, part_dated, part_held, part_locked, part_looked, part_ordered, ordering_turned, store_on, with_word, reading_at_asks, reading_turned, IsFreely, IsPart, IsReading, IsThere}
 use Rattle.node_ops.specs.RunningSteps.{running_asks, running_turned, wrapped, wrapped_part}
 use Rattle.node_ops.specs.Parts.{from_name, IsBehind, HaveWords, HeldEnd, HasEnd, IsToldVersion, PartsEnd, EndsAt, EndsAreHeld, EndsStay, PartsEndThere, EndsAreRanges, Relies, end_after, end_of, part_end, way_end}
 use Rattle.node_ops.proofs.LookupLaw.{key_is}
 use Rattle.node_ops.proofs.PartLaw.{keeps_behind, sorting_leads, sorts_on}
 use Rattle.node_ops.proofs.PartStages.{reading_counts}
 use Rattle.node_ops.proofs.PartTelling.{done_words, ends_reading, given_words}
+use Rattle.node_ops.proofs.PartTurns.{looked_is, ordered_is, goes_is}
 
 -- the words of nodes have 64 bits
 pub have_words : (w : World) → Lawful w → HaveWords (facts w)
@@ -251,12 +250,9 @@ loaded_end reading ways.Alone is = ap (λ (w : Way). way_end w reading.call read
 
 -- it knows as much of that after a turn
 way_same : (reading : Reading) (at : ReadingAt) → way_end (goes_on reading at).way (goes_on reading at).call (goes_on reading at).behind ≡ way_end reading.way reading.call reading.behind
-way_same reading (at.Load slot word) = refl
-way_same reading at.Clock = loaded_end reading reading.way refl
-way_same reading at.Bitmap = loaded_end reading reading.way refl
-way_same reading at.Check = loaded_end reading reading.way refl
-way_same reading (at.Store store) = loaded_end reading reading.way refl
-way_same reading at.Unlock = loaded_end reading reading.way refl
+way_same reading at =
+    goes_is (λ (r : Reading). way_end r.way r.call r.behind ≡ way_end reading.way reading.call reading.behind) reading at (λ slot word. refl)
+    (loaded_end reading reading.way refl)
 
 -- the list and its ranges, after an action that changes no node's words
 module _ (w : World) (i : ℕ) (p : Party) (lawful : Lawful w) (there : get_elem? w.parties i ≡ some p) (none : counted p.stage ≡ None) where
@@ -321,20 +317,11 @@ module _ (w : World) (i : ℕ) (p : Party) (lawful : Lawful w) (there : get_elem
   reading_stay reading at.Unlock x stage layout sound has = tt
 
   looked_endless : (f : Facts) (count : ℕ) (turn : Turn Lookup Looked) → HasEnd w.layout f (end_after (wrapped_part (part_looked count turn)))
-  looked_endless f count (Go next) = at (seen_at next.at)
-    where
-      at : (o : Option Sighting) → HasEnd w.layout f (part_end (part_walked next count o))
-      at (Some seen) = tt
-      at None = tt
-  looked_endless f count (Done (looked.Early answer)) = tt
-  looked_endless f count (Done (looked.Found found)) = tt
+  looked_endless f count turn = looked_is (λ (t : Turn Running (Once Placed)). HasEnd w.layout f (end_after t)) count turn (λ next. tt) (λ call seen. tt) (λ answer. tt)
 
   ordered_endless : (f : Facts) (call : Call) (seen : Sighting) (count : ℕ) (order : Option (List ℕ)) → HasEnd w.layout f (part_end (part_ordered call seen count order))
   ordered_endless f call seen count (Some words) = tt
-  ordered_endless f call seen count None = elim (is_worn_word seen.version call.view.generation) as (λ b. HasEnd w.layout f (part_end (cond b (part.Dating call seen count ways.Alone) (part.Locking call seen count (locked_word call.view.generation (kept_count seen.version call.view.generation)))))) [
-    | true ↦ tt
-    | false ↦ tt
-  ]
+  ordered_endless f call seen count None = ordered_is (λ (p : Part). HasEnd w.layout f (part_end p)) call seen count tt (λ locked. tt)
 
   ordering_endless : (f : Facts) (call : Call) (seen : Sighting) (count : ℕ) (turn : Turn LoadPermutation (Option (List ℕ))) → HasEnd w.layout f (end_after (wrapped_part (ordering_turned call seen count turn)))
   ordering_endless f call seen count (Go load) = tt

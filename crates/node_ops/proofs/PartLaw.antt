@@ -21,7 +21,6 @@ use Rattle.data_list.specs.declared.target.Next.{Next}
 use Rattle.data_list.specs.declared.target.Sighting.{Sighting}
 use Rattle.data_list.specs.WalkStages.{leads_on, live_sight, sight_in}
 use Rattle.cat_key.proofs.Packing.{length-words_of}
-use Rattle.version_lock.specs.Versions.{is_worn_word, kept_count, locked_word}
 use Rattle.call_stages.specs.declared.once.Once.{Once}
 use Rattle.call_stages.specs.declared.once.Once.TheVariants as once
 use Rattle.call_stages.specs.declared.once.Placed.{Placed}
@@ -72,6 +71,7 @@ use Rattle.node_ops.proofs.PartOrder.{live_order_moves, live_order_sorted}
 use Rattle.node_ops.proofs.PartSound.{IsReadingBut, but, entry_here, entry_other, with_it, with_sound, within, words_made, words_same}
 use Rattle.node_ops.proofs.PartWalks.{WalksOn, IsOnWay, walks_on}
 use Rattle.node_ops.proofs.Endings.{LooksEnd, looks_end, early_placed}
+use Rattle.node_ops.proofs.PartTurns.{ordered_is}
 
 module _ (s : Spot) where
   words_say : (entry : List ℕ) (slot n : ℕ) (others : List (ℕ × ℕ)) → Seen s (words_loaded entry slot n others) → (k : ℕ) → k < n → s (slot_offset slot k) ≡ get_or entry k 0
@@ -367,10 +367,7 @@ module _ (start : Call) (stage : Stage) (action : Action) (x count : ℕ) where
 -- it loads the permutation
 ordered_stage : (call : Call) (seen : Sighting) (count : ℕ) (order : Option (List ℕ)) → part_stage (part_ordered call seen count order) ≡ Reads call.node seen.version (sight_in seen) None
 ordered_stage call seen count (Some words) = refl
-ordered_stage call seen count None = elim (is_worn_word seen.version call.view.generation) as (λ b. part_stage (cond b (part.Dating call seen count ways.Alone) (part.Locking call seen count (locked_word call.view.generation (kept_count seen.version call.view.generation)))) ≡ Reads call.node seen.version (sight_in seen) None) [
-  | true ↦ refl
-  | false ↦ refl
-]
+ordered_stage call seen count None = ordered_is (λ (p : Part). part_stage p ≡ Reads call.node seen.version (sight_in seen) None) call seen count refl (λ locked. refl)
 
 ordering_stage : (call : Call) (seen : Sighting) (count : ℕ) (turn : Turn LoadPermutation (Option (List ℕ))) (x : ℕ) (action : Action)
     → PlainStep call.view.layout call.view.generation (Reads call.node seen.version (sight_in seen) None) action x (Reads call.node seen.version (sight_in seen) None) None

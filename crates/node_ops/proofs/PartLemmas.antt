@@ -4,13 +4,18 @@ use Rattle.std.specs.Int.{bit_at}
 use Rattle.std.proofs.Math.Seq.{take-suc}
 use Rattle.std.proofs.lemmas.Bool.{eq-eqb, ne_eqb, ltb-true}
 use Rattle.std.proofs.lemmas.List.Sums.{fold-append}
+use Rattle.pm_words.specs.Turns.{GoesBelow}
+use Rattle.call_stages.specs.declared.once.Once.{Once}
 use Rattle.node_ops.specs.declared.call.Call.{Call}
 use Rattle.node_ops.specs.declared.part.Reading.{Reading}
+use Rattle.node_ops.specs.declared.part.ReadingAt.{ReadingAt}
 use Rattle.node_ops.specs.declared.part.ReadingAt.TheVariants as at
+use Rattle.node_ops.specs.declared.part.Part.{Part}
 use Rattle.node_ops.specs.declared.part.Part.TheVariants as part
+use Rattle.node_ops.specs.declared.part.PartWords.{PartWords}
 use Rattle.node_ops.specs.declared.part.Way.{Way}
 use Rattle.node_ops.specs.declared.part.Way.TheVariants as ways
-use Rattle.node_ops.specs.PartSteps.{load_from, next_at, lists, listing_in, after_at, part_left, after_bitmap, after_word, end_left, goes_on, low_value, reading_left, sorted_by, with_word}
+use Rattle.node_ops.specs.PartSteps.{IsPart, IsReadingAt, part_turned, reading_turned, load_from, next_at, lists, listing_in, after_at, part_left, after_bitmap, after_word, end_left, goes_on, low_value, reading_left, sorted_by, with_word}
 use Rattle.node_ops.proofs.PartSound.{goes_call}
 
 -- the next slot is this one, if it is live
@@ -86,3 +91,18 @@ pub word_goes : (reading : Reading) (slot word got : ℕ) → slot < reading.cal
 word_goes reading slot word got within small =
     subst (λ (call : Call). reading_left call.view.layout.slots (after_word reading slot word got).way (after_word reading slot word got).at < 4 * (reading.call.view.layout.slots - slot) + end_left reading.way - word)
     (sym (goes_call (record reading { entries = with_word reading.entries slot word got }) (after_at reading slot word))) (word_fewer reading slot word got within small)
+
+-- and so has each of these turns of it
+pub bitmap_turns : (p : Part) (reading : Reading) (got : ℕ) → p ≡ part.Reading reading → reading.at ≡ at.Bitmap → GoesBelow {A = Once PartWords} part_left (part_left p) (part_turned p got)
+bitmap_turns p reading got is here =
+    subst (λ (q : Part). GoesBelow {A = Once PartWords} part_left (part_left q) (part_turned q got)) (sym is)
+    (subst (λ (now : ReadingAt). GoesBelow {A = Once PartWords} part_left (reading_left reading.call.view.layout.slots reading.way now) (reading_turned reading now got)) (sym here)
+    (bitmap_goes reading got))
+
+pub word_turns : (p : Part) (reading : Reading) (slot word got : ℕ) → p ≡ part.Reading reading → reading.at ≡ at.Load slot word → IsPart p → GoesBelow {A = Once PartWords} part_left (part_left p) (part_turned p got)
+word_turns p reading slot word got is here sound =
+    let whole = subst IsPart is sound in
+    let loads = subst (IsReadingAt reading) here whole.here in
+    subst (λ (q : Part). GoesBelow {A = Once PartWords} part_left (part_left q) (part_turned q got)) (sym is)
+    (subst (λ (now : ReadingAt). GoesBelow {A = Once PartWords} part_left (reading_left reading.call.view.layout.slots reading.way now) (reading_turned reading now got)) (sym here)
+    (word_goes reading slot word got loads.0 loads.2))

@@ -19,7 +19,6 @@ use Rattle.node_ops.specs.LookupSteps.{lookup_turned}
 use Rattle.node_ops.specs.GetSteps.{get_turned}
 use Rattle.node_ops.specs.PutSteps.{put_turned}
 use Rattle.node_ops.specs.DelSteps.{del_turned}
-use Rattle.version_lock.specs.Versions.{is_worn_word, kept_count, locked_word}
 use Rattle.data_list.specs.declared.target.Sighting.{Sighting}
 use Rattle.permutation.specs.declared.load.LoadPermutation.{LoadPermutation}
 use Rattle.permutation.specs.declared.store.StorePermutation.{StorePermutation}
@@ -29,7 +28,7 @@ use Rattle.node_ops.specs.declared.part.Reading.{Reading}
 use Rattle.node_ops.specs.declared.part.ReadingAt.{ReadingAt}
 use Rattle.node_ops.specs.declared.part.Way.{Way}
 use Rattle.node_ops.specs.declared.part.Way.TheVariants as ways
-use Rattle.node_ops.specs.PartSteps.{part_turned, part_count, part_looked, part_walked, part_ordered, part_held, part_locked, ordering_turned, seen_at, early_of, listed_at, reading_turned, reading_at_asks, words_placed, low_value, sorted_by, goes_on, next_at, after_at, with_word, store_on}
+use Rattle.node_ops.specs.PartSteps.{part_turned, part_count, part_looked, part_ordered, part_held, part_locked, ordering_turned, early_of, listed_at, reading_turned, reading_at_asks, words_placed, low_value, sorted_by, goes_on, next_at, after_at, with_word, store_on}
 use Rattle.node_ops.specs.RunningSteps.{running_turned, wrapped, wrapped_part, count_in}
 use Rattle.node_ops.specs.Parts.{GivesVersion, ListedIsTold, ListedIsAnswered, DoneIsListed, CountStays}
 use Rattle.std.proofs.Common.{◌==◌, cond, sym, ◌∙◌}
@@ -37,6 +36,7 @@ use Rattle.std.specs.Prelude.{IsSomeAnd}
 use Rattle.std.proofs.lemmas.Bool.{eqb-true, eq-eqb}
 use Rattle.pm_words.specs.declared.again.Again.TheVariants as again
 use Rattle.node_ops.specs.PartSteps.{part_words}
+use Rattle.node_ops.proofs.PartTurns.{looked_is, ordered_is, goes_is}
 
 pub listed_is_told : ListedIsTold
 listed_is_told (part.Looking lookup count) words is x same = absurd (let none : None ≡ Some words = is in cc)
@@ -133,20 +133,11 @@ alone_stays wrap none (Go machine) = none machine
 alone_stays wrap none (Done answer) = tt
 
 looked_count : (count : ℕ) (turn : Turn Lookup Looked) → CountAfter (Some count) (wrapped_part (part_looked count turn))
-looked_count count (Go lookup) = at (seen_at lookup.at)
-  where
-    at : (o : Option Sighting) → Some (part_count (part_walked lookup count o)) ≡ Some count
-    at (Some seen) = refl
-    at None = refl
-looked_count count (Done (looked.Early answer)) = tt
-looked_count count (Done (looked.Found found)) = tt
+looked_count count turn = looked_is (CountAfter (Some count)) count turn (λ next. refl) (λ call seen. refl) (λ answer. tt)
 
 ordered_count : (call : Call) (seen : Sighting) (count : ℕ) (order : Option (List ℕ)) → part_count (part_ordered call seen count order) ≡ count
 ordered_count call seen count (Some words) = refl
-ordered_count call seen count None = elim (is_worn_word seen.version call.view.generation) as (λ b. part_count (cond b (part.Dating call seen count ways.Alone) (part.Locking call seen count (locked_word call.view.generation (kept_count seen.version call.view.generation)))) ≡ count) [
-  | true ↦ refl
-  | false ↦ refl
-]
+ordered_count call seen count None = ordered_is (λ (p : Part). part_count p ≡ count) call seen count refl (λ locked. refl)
 
 ordering_count : (call : Call) (seen : Sighting) (count : ℕ) (turn : Turn LoadPermutation (Option (List ℕ))) → CountAfter (Some count) (wrapped_part (ordering_turned call seen count turn))
 ordering_count call seen count (Go load) = refl
@@ -158,12 +149,7 @@ loaded_count reading (ways.Held words) = refl
 loaded_count reading ways.Alone = refl
 
 goes_count : (reading : Reading) (at : ReadingAt) → (goes_on reading at).count ≡ reading.count
-goes_count reading (at.Load slot word) = refl
-goes_count reading at.Clock = loaded_count (record reading { old = low_value reading reading.call.view.layout.slots }) reading.way
-goes_count reading at.Bitmap = loaded_count (record reading { old = low_value reading reading.call.view.layout.slots }) reading.way
-goes_count reading at.Check = loaded_count (record reading { old = low_value reading reading.call.view.layout.slots }) reading.way
-goes_count reading (at.Store store) = loaded_count (record reading { old = low_value reading reading.call.view.layout.slots }) reading.way
-goes_count reading at.Unlock = loaded_count (record reading { old = low_value reading reading.call.view.layout.slots }) reading.way
+goes_count reading at = goes_is (λ (r : Reading). r.count ≡ reading.count) reading at (λ slot word. refl) (loaded_count (record reading { old = low_value reading reading.call.view.layout.slots }) reading.way)
 
 store_count : (reading : Reading) (turn : Turn StorePermutation (Unit {0})) → (store_on reading turn).count ≡ reading.count
 store_count reading (Go store) = refl

@@ -40,6 +40,7 @@ use Rattle.call_stages.specs.declared.once.Once.TheVariants as once
 use Rattle.pm_words.specs.declared.again.Again.TheVariants as again
 use Rattle.node_ops.specs.PartSteps.{no_entry, entry_in, entry_name, with_word, load_from, next_at, live_order, sorted_in, reading_from, part_walked, part_ordered, part_held, part_locked, ordering_turned, seen_at, part_words, part_looked, placed_of, placed_turn, low_value, sorted_by, all_loaded, goes_on, after_at, after_word, part_call, part_asks, store_on, reading_turned, part_turned, IsFreely, HasRoom, IsStoring, IsSorted, IsReadingAt, IsReading, IsWordBy, IsThere, IsOrdering, IsPart, sorted_slots}
 use Rattle.node_ops.proofs.LookupSound.{SoundLooked, lock_word, lookup_stays, Stays}
+use Rattle.node_ops.proofs.PartTurns.{goes_is}
 use Rattle.node_ops.proofs.PartOrder.{live_order_few, live_order_within}
 use Rattle.node_ops.proofs.PartWalks.{WalksOn, IsOnWay, walks_on}
 
@@ -75,6 +76,10 @@ pub record IsReadingBut (reading : Reading) : Type 0 where
   pub many : length reading.entries ≡ 64
   pub wide : (slot : ℕ) → slot < 64 → length (entry_in reading.entries slot) ≡ 4
 
+-- so it is one wherever it stands, whatever it knows of its low name
+reads_at : (reading : Reading) (old : Option ℕ) (at : ReadingAt) → IsReadingBut reading → IsReadingAt (record reading { old = old; at = at }) at → IsReading (record reading { old = old; at = at })
+reads_at reading old at sound here = record { call = sound.call; reads = sound.reads; behind = sound.behind; room = sound.room; locked = sound.locked; many = sound.many; wide = sound.wide; here = here }
+
 -- once all live slots are loaded
 all_sound : (reading : Reading) → IsReadingBut reading → IsReading (all_loaded reading)
 all_sound reading sound = by reading.way refl
@@ -83,8 +88,8 @@ all_sound reading sound = by reading.way refl
     then_reading = record reading { old = low_value reading reading.call.view.layout.slots }
 
     by : (way : Way) → reading.way ≡ way → IsReading (sorted_by then_reading way)
-    by (ways.Served words) is = record { call = sound.call; reads = sound.reads; behind = sound.behind; room = sound.room; locked = sound.locked; many = sound.many; wide = sound.wide; here = (subst IsFreely (sym is) tt, refl) }
-    by ways.Alone is = record { call = sound.call; reads = sound.reads; behind = sound.behind; room = sound.room; locked = sound.locked; many = sound.many; wide = sound.wide; here = (subst IsFreely (sym is) tt, refl) }
+    by (ways.Served words) is = reads_at reading then_reading.old at.Check sound (subst IsFreely (sym is) tt, refl)
+    by ways.Alone is = reads_at reading then_reading.old at.Check sound (subst IsFreely (sym is) tt, refl)
     by (ways.Held words) is = record {
       call = sound.call;
       reads = sound.reads;
@@ -107,16 +112,7 @@ next_sound : (reading : Reading) (slot more : ℕ) → slot + more ≡ reading.c
 next_sound reading slot zero is sound = all_sound reading sound
 next_sound reading slot (suc more) is sound =
     elim (bit_at reading.bitmap slot == 1) as (λ b. (bit_at reading.bitmap slot == 1) ≡ b → IsReading (goes_on reading (cond b (at.Load slot 0) (load_from reading.bitmap (slot + 1) more)))) [
-      | true ↦ λ here. record {
-        call = sound.call;
-        reads = sound.reads;
-        behind = sound.behind;
-        room = sound.room;
-        locked = sound.locked;
-        many = sound.many;
-        wide = sound.wide;
-        here = (omega arith, eqb-true (bit_at reading.bitmap slot) 1 here, omega arith);
-      }
+      | true ↦ λ here. reads_at reading reading.old (at.Load slot 0) sound (omega arith, eqb-true (bit_at reading.bitmap slot) 1 here, omega arith)
       | false ↦ λ here. next_sound reading (slot + 1) more (omega arith) sound
     ] refl
 
@@ -271,32 +267,15 @@ locking_stays call seen count locked x there locking =
 store_stays : (reading : Reading) (store : StorePermutation) (x : ℕ) → IsReadingBut reading → IsStoring reading store → IsSorted reading → IsReading (store_on reading (store_turned store x))
 store_stays reading store x sound storing sorted =
     elim (ltb store.stored 8) as (λ b. ltb store.stored 8 ≡ b → IsReading (store_on reading (cond b (Go (record store { stored = store.stored + 1 })) (Done tt)))) [
-      | true ↦ λ low. record {
-        call = sound.call;
-        reads = sound.reads;
-        behind = sound.behind;
-        room = sound.room;
-        locked = sound.locked;
-        many = sound.many;
-        wide = sound.wide;
-        here = (
-          record {
-            sound = record { layout = storing.sound.layout; node = storing.sound.node; lock = storing.sound.lock; few = let less : store.stored < 8 = ltb-true _ _ low in omega arith };
-            from = ap (λ (s : StorePermutation). record s { stored = store.stored + 1 }) storing.from;
-          },
-          record { made = sorted.made; old = sorted.old },
-        );
-      }
-      | false ↦ λ none. record {
-        call = sound.call;
-        reads = sound.reads;
-        behind = sound.behind;
-        room = sound.room;
-        locked = sound.locked;
-        many = sound.many;
-        wide = sound.wide;
-        here = record { made = sorted.made; old = sorted.old };
-      }
+      | true ↦ λ low.
+          reads_at reading reading.old (at.Store (record store { stored = store.stored + 1 })) sound (
+            record {
+              sound = record { layout = storing.sound.layout; node = storing.sound.node; lock = storing.sound.lock; few = let less : store.stored < 8 = ltb-true _ _ low in omega arith };
+              from = ap (λ (s : StorePermutation). record s { stored = store.stored + 1 }) storing.from;
+            },
+            record { made = sorted.made; old = sorted.old },
+          )
+      | false ↦ λ none. reads_at reading reading.old at.Unlock sound (record { made = sorted.made; old = sorted.old })
     ] refl
 
 pub but : (reading : Reading) → IsReading reading → IsReadingBut reading
@@ -309,12 +288,7 @@ loaded_call reading (ways.Held words) = refl
 loaded_call reading ways.Alone = refl
 
 pub goes_call : (reading : Reading) (at : ReadingAt) → (goes_on reading at).call ≡ reading.call
-goes_call reading (at.Load slot word) = refl
-goes_call reading at.Clock = loaded_call (record reading { old = low_value reading reading.call.view.layout.slots }) reading.way
-goes_call reading at.Bitmap = loaded_call (record reading { old = low_value reading reading.call.view.layout.slots }) reading.way
-goes_call reading at.Check = loaded_call (record reading { old = low_value reading reading.call.view.layout.slots }) reading.way
-goes_call reading (at.Store store) = loaded_call (record reading { old = low_value reading reading.call.view.layout.slots }) reading.way
-goes_call reading at.Unlock = loaded_call (record reading { old = low_value reading reading.call.view.layout.slots }) reading.way
+goes_call reading at = goes_is (λ (r : Reading). r.call ≡ reading.call) reading at (λ slot word. refl) (loaded_call (record reading { old = low_value reading reading.call.view.layout.slots }) reading.way)
 
 same_call : (call start : Call) → call ≡ start → call ≡ record start { node = call.node; hops = call.hops }
 same_call call start is = subst (λ (c : Call). c ≡ record start { node = c.node; hops = c.hops }) (sym is) refl

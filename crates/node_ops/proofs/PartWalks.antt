@@ -38,27 +38,27 @@ steps_on call (Go walk) read = tt
 steps_on call (Done (walked.Again why)) read = tt
 steps_on call (Done (walked.Target target)) read = subst (λ (o : Option ℕ). WalksOn (came_by o call target)) (sym read) tt
 
--- a look-up that walks has more left than one that has come to its node
+-- what holds of a look-up that walks, by its two walks
+walking_is : (P : LookupAt → Type 0) → ((floor : Floor) → P (look.Floor floor)) → ((walk : Walk) → P (look.Walk walk))
+    → (at : LookupAt) → IsWalkingAt at → P at
+walking_is P floors walks (look.Floor floor) walking = floors floor
+walking_is P floors walks (look.Walk walk) walking = walks walk
+walking_is P floors walks (look.Read seen) walking = absurd walking
+walking_is P floors walks (look.Lock seen locked) walking = absurd walking
+walking_is P floors walks (look.Clock locked) walking = absurd walking
+walking_is P floors walks (look.Spent hold) walking = absurd walking
+walking_is P floors walks (look.Bitmap hold) walking = absurd walking
+walking_is P floors walks (look.Prints hold bitmap prints k) walking = absurd walking
+walking_is P floors walks (look.Name hold directory left slot k) walking = absurd walking
+walking_is P floors walks (look.Value hold directory slot) walking = absurd walking
+
+-- it has more left than one that has come to its node
 pub walks_left : (call : Call) (at : LookupAt) → IsWalkingAt at → 3 * call.view.layout.slots + 11 < lookup_at_left call.view.layout.slots at
-walks_left call (look.Floor floor) walking = omega arith
-walks_left call (look.Walk walk) walking = omega arith
-walks_left call (look.Read seen) walking = absurd walking
-walks_left call (look.Lock seen locked) walking = absurd walking
-walks_left call (look.Clock locked) walking = absurd walking
-walks_left call (look.Spent hold) walking = absurd walking
-walks_left call (look.Bitmap hold) walking = absurd walking
-walks_left call (look.Prints hold bitmap prints k) walking = absurd walking
-walks_left call (look.Name hold directory left slot k) walking = absurd walking
-walks_left call (look.Value hold directory slot) walking = absurd walking
+walks_left call at walking =
+    walking_is (λ (a : LookupAt). 3 * call.view.layout.slots + 11 < lookup_at_left call.view.layout.slots a) (λ floor. omega arith)
+    (λ walk. omega arith) at walking
 
 pub walks_on : (call : Call) (at : LookupAt) (x : ℕ) → call.limit ≡ None → IsWalkingAt at → WalksOn (lookup_at_turned call at x)
-walks_on call (look.Floor floor) x read walking = floors_on call (floor_turned floor x)
-walks_on call (look.Walk walk) x read walking = steps_on call (walk_turned walk x) read
-walks_on call (look.Read seen) x read walking = absurd walking
-walks_on call (look.Lock seen locked) x read walking = absurd walking
-walks_on call (look.Clock locked) x read walking = absurd walking
-walks_on call (look.Spent hold) x read walking = absurd walking
-walks_on call (look.Bitmap hold) x read walking = absurd walking
-walks_on call (look.Prints hold bitmap prints k) x read walking = absurd walking
-walks_on call (look.Name hold directory left slot k) x read walking = absurd walking
-walks_on call (look.Value hold directory slot) x read walking = absurd walking
+walks_on call at x read walking =
+    walking_is (λ (a : LookupAt). WalksOn (lookup_at_turned call a x)) (λ floor. floors_on call (floor_turned floor x))
+    (λ walk. steps_on call (walk_turned walk x) read) at walking

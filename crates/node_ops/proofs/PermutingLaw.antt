@@ -10,7 +10,6 @@ use Rattle.pm_words.specs.declared.machine.Turn.TheVariants.{Go, Done}
 use Rattle.pm_words.specs.declared.again.Again.TheVariants as again
 use Rattle.data_list.specs.declared.target.Sighting.{Sighting}
 use Rattle.data_list.specs.WalkStages.{sight_in}
-use Rattle.version_lock.specs.Versions.{is_worn_word, kept_count, locked_word}
 use Rattle.call_stages.specs.declared.once.Once.{Once}
 use Rattle.call_stages.specs.declared.once.Once.TheVariants as once
 use Rattle.call_stages.specs.declared.once.Placed.{Placed}
@@ -25,13 +24,13 @@ use Rattle.permutation.specs.Sortings.{Keeps, Sorts, Sorting, Unsorted}
 use Rattle.permutation.specs.Stores.{store_turned, words_first}
 use Rattle.node_ops.specs.declared.call.Call.{Call}
 use Rattle.node_ops.specs.declared.lookup.Looked.{Looked}
-use Rattle.node_ops.specs.declared.lookup.Looked.TheVariants as looked
 use Rattle.node_ops.specs.declared.lookup.Lookup.{Lookup}
 use Rattle.node_ops.specs.declared.part.Reading.{Reading}
 use Rattle.node_ops.specs.declared.part.ReadingAt.{ReadingAt}
 use Rattle.node_ops.specs.declared.part.ReadingAt.TheVariants as at
 use Rattle.node_ops.specs.declared.part.Way.{Way}
 use Rattle.node_ops.specs.declared.part.Way.TheVariants as ways
+use Rattle.node_ops.specs.declared.part.Part.{Part}
 use Rattle.node_ops.specs.declared.part.Part.TheVariants as part
 use Rattle.node_ops.specs.declared.running.Running.{Running}
 use Rattle.node_ops.specs.declared.running.Running.TheVariants.{Getting, Putting, Deleting, Parting}
@@ -40,12 +39,13 @@ use Rattle.node_ops.specs.LookupSteps.{lookup_turned}
 use Rattle.node_ops.specs.GetSteps.{get_turned}
 use Rattle.node_ops.specs.PutSteps.{put_turned}
 use Rattle.node_ops.specs.DelSteps.{del_turned}
-use Rattle.node_ops.specs.PartSteps.{goes_on, low_value, sorted_by, next_at, after_at, with_word, part_asks, part_held, part_locked, part_looked, part_ordered, part_walked, ordering_turned, seen_at, store_on, reading_at_asks, part_turned, IsOrdering}
+use Rattle.node_ops.specs.PartSteps.{goes_on, low_value, sorted_by, next_at, after_at, with_word, part_asks, part_held, part_locked, part_looked, part_ordered, ordering_turned, store_on, reading_at_asks, part_turned, IsOrdering}
 use Rattle.node_ops.specs.Permuting.{Permutes, Rereads, TurnsPermute, TurnsReread, sorts, leaves, has_none, stays, begins, goes_on as reads_on, part_sorting, reading_sorting, part_reading, way_reading, sorting_of, sorting_after, reading_of, reading_after}
 use Rattle.node_ops.specs.RunningSteps.{running_asks, running_call, running_turned, wrapped, wrapped_part}
 use Rattle.node_ops.proofs.Sparing.{SparedStep, any_of}
 use Rattle.node_ops.proofs.CallLaw.{after_stage, footing_stage, SparesIn, SparesNow, StoresPermutation, turns_go, stores_uncounted}
 use Rattle.node_ops.proofs.PartLaw.{StoresNone}
+use Rattle.node_ops.proofs.PartTurns.{looked_is, ordered_is, goes_is}
 
 -- it has stored nothing as it goes on to its node's words
 loaded_unsorted : (reading : Reading) (way : Way) → reading_sorting (sorted_by reading way) (sorted_by reading way).at ≡ Unsorted
@@ -54,28 +54,14 @@ loaded_unsorted reading (ways.Held words) = refl
 loaded_unsorted reading ways.Alone = refl
 
 goes_unsorted : (reading : Reading) (at : ReadingAt) → reading_sorting (goes_on reading at) (goes_on reading at).at ≡ Unsorted
-goes_unsorted reading (at.Load slot word) = refl
-goes_unsorted reading at.Clock = loaded_unsorted (record reading { old = low_value reading reading.call.view.layout.slots }) reading.way
-goes_unsorted reading at.Bitmap = loaded_unsorted (record reading { old = low_value reading reading.call.view.layout.slots }) reading.way
-goes_unsorted reading at.Check = loaded_unsorted (record reading { old = low_value reading reading.call.view.layout.slots }) reading.way
-goes_unsorted reading (at.Store store) = loaded_unsorted (record reading { old = low_value reading reading.call.view.layout.slots }) reading.way
-goes_unsorted reading at.Unlock = loaded_unsorted (record reading { old = low_value reading reading.call.view.layout.slots }) reading.way
+goes_unsorted reading at = goes_is (λ (r : Reading). reading_sorting r r.at ≡ Unsorted) reading at (λ slot word. refl) (loaded_unsorted (record reading { old = low_value reading reading.call.view.layout.slots }) reading.way)
 
 looked_unsorted : (count : ℕ) (turn : Turn Lookup Looked) → sorting_after (wrapped_part (part_looked count turn)) ≡ Unsorted
-looked_unsorted count (Go next) = at (seen_at next.at)
-  where
-    at : (o : Option Sighting) → part_sorting (part_walked next count o) ≡ Unsorted
-    at (Some seen) = refl
-    at None = refl
-looked_unsorted count (Done (looked.Early answer)) = refl
-looked_unsorted count (Done (looked.Found found)) = refl
+looked_unsorted count turn = looked_is (λ (t : Turn Running (Once Placed)). sorting_after t ≡ Unsorted) count turn (λ next. refl) (λ call seen. refl) (λ answer. refl)
 
 ordered_unsorted : (call : Call) (seen : Sighting) (count : ℕ) (order : Option (List ℕ)) → part_sorting (part_ordered call seen count order) ≡ Unsorted
 ordered_unsorted call seen count (Some words) = refl
-ordered_unsorted call seen count None = elim (is_worn_word seen.version call.view.generation) as (λ b. part_sorting (cond b (part.Dating call seen count ways.Alone) (part.Locking call seen count (locked_word call.view.generation (kept_count seen.version call.view.generation)))) ≡ Unsorted) [
-  | true ↦ refl
-  | false ↦ refl
-]
+ordered_unsorted call seen count None = ordered_is (λ (p : Part). part_sorting p ≡ Unsorted) call seen count refl (λ locked. refl)
 
 ordering_unsorted : (call : Call) (seen : Sighting) (count : ℕ) (turn : Turn LoadPermutation (Option (List ℕ))) → sorting_after (wrapped_part (ordering_turned call seen count turn)) ≡ Unsorted
 ordering_unsorted call seen count (Go load) = refl
@@ -157,19 +143,10 @@ alone_unread wrap none (Go machine) = none machine
 alone_unread wrap none (Done answer) = refl
 
 looked_unread : (count : ℕ) (turn : Turn Lookup Looked) → reading_after (wrapped_part (part_looked count turn)) ≡ None
-looked_unread count (Go next) = at (seen_at next.at)
-  where
-    at : (o : Option Sighting) → part_reading (part_walked next count o) ≡ None
-    at (Some seen) = refl
-    at None = refl
-looked_unread count (Done (looked.Early answer)) = refl
-looked_unread count (Done (looked.Found found)) = refl
+looked_unread count turn = looked_is (λ (t : Turn Running (Once Placed)). reading_after t ≡ None) count turn (λ next. refl) (λ call seen. refl) (λ answer. refl)
 
 ordered_unread : (call : Call) (seen : Sighting) (count : ℕ) → part_reading (part_ordered call seen count None) ≡ None
-ordered_unread call seen count = elim (is_worn_word seen.version call.view.generation) as (λ b. part_reading (cond b (part.Dating call seen count ways.Alone) (part.Locking call seen count (locked_word call.view.generation (kept_count seen.version call.view.generation)))) ≡ None) [
-  | true ↦ refl
-  | false ↦ refl
-]
+ordered_unread call seen count = ordered_is (λ (p : Part). part_reading p ≡ None) call seen count refl (λ locked. refl)
 
 -- a turn of the load of a permutation
 ordering_rereads : (l : Layout) (call : Call) (seen : Sighting) (count : ℕ) (load : LoadPermutation) (at : LoadPermutationAt) (x : ℕ) → call.view.layout ≡ l → IsOrdering call seen (record load { at = at })
@@ -213,12 +190,9 @@ loaded_reading reading (ways.Held words) is = sym (ap (way_reading reading.call 
 loaded_reading reading ways.Alone is = refl
 
 goes_reading : (reading : Reading) (at : ReadingAt) → part_reading (part.Reading (goes_on reading at)) ≡ part_reading (part.Reading reading)
-goes_reading reading (at.Load slot word) = refl
-goes_reading reading at.Clock = loaded_reading (record reading { old = low_value reading reading.call.view.layout.slots }) reading.way refl
-goes_reading reading at.Bitmap = loaded_reading (record reading { old = low_value reading reading.call.view.layout.slots }) reading.way refl
-goes_reading reading at.Check = loaded_reading (record reading { old = low_value reading reading.call.view.layout.slots }) reading.way refl
-goes_reading reading (at.Store store) = loaded_reading (record reading { old = low_value reading reading.call.view.layout.slots }) reading.way refl
-goes_reading reading at.Unlock = loaded_reading (record reading { old = low_value reading reading.call.view.layout.slots }) reading.way refl
+goes_reading reading at =
+    goes_is (λ (r : Reading). part_reading (part.Reading r) ≡ part_reading (part.Reading reading)) reading at (λ slot word. refl)
+    (loaded_reading (record reading { old = low_value reading reading.call.view.layout.slots }) reading.way refl)
 
 stored_reading : (reading : Reading) (turn : Turn StorePermutation (Unit {0})) → part_reading (part.Reading (store_on reading turn)) ≡ part_reading (part.Reading reading)
 stored_reading reading (Go store) = refl

@@ -1,5 +1,5 @@
 -- The parts of a put that make several turns one after another, as turns of the whole.
-use Rattle.std.proofs.Common.{◌≡◌, ℕ, ◌+◌, ◌-◌, ◌<◌, ◌≤◌, true, false, cond, ltb, refl, ap, sym, subst, ◌∙◌}
+use Rattle.std.proofs.Common.{◌≡◌, ℕ, ◌+◌, ◌<◌, ◌≤◌, refl, ap, sym, ◌∙◌}
 use Rattle.std.proofs.Common.{arith}
 use Rattle.std.specs.Prelude.{Option, Some, None}
 use Rattle.pm_words.specs.Images.{Row}
@@ -8,7 +8,6 @@ use Rattle.pm_words.specs.Turns.{GoesBelow, turn_of}
 use Rattle.pm_words.specs.declared.action.Action.{Action}
 use Rattle.pm_words.specs.declared.machine.Turn.{Turn}
 use Rattle.pm_words.specs.declared.machine.Turn.TheVariants.{Go, Done}
-use Rattle.pm_words.specs.Fences.{fence_next}
 use Rattle.data_node.specs.Bits.{lowest_clear}
 use Rattle.call_stages.specs.declared.once.Once.{Once}
 use Rattle.call_stages.specs.declared.once.Placed.{Placed}
@@ -24,7 +23,6 @@ use Rattle.node_ops.specs.declared.lookup.Hit.{Hit}
 use Rattle.node_ops.specs.declared.lookup.Hold.{Hold}
 use Rattle.node_ops.specs.declared.fill.Fill.{Fill}
 use Rattle.node_ops.specs.declared.fill.FillAt.{FillAt}
-use Rattle.node_ops.specs.declared.fill.FillAt.TheVariants as fill_at
 use Rattle.node_ops.specs.declared.finish.Finish.{Finish}
 use Rattle.node_ops.specs.declared.put.Put.{Put}
 use Rattle.node_ops.specs.declared.put.Put.TheVariants.{Single}
@@ -33,12 +31,13 @@ use Rattle.node_ops.specs.declared.single_put.SinglePut.TheVariants.{Looking, Fi
 use Rattle.node_ops.specs.Calls.{IsCall}
 use Rattle.node_ops.specs.LookupSteps.{IsFoundBy, lookup_asks, lookup_turned, lookup_left, lookup_takes}
 use Rattle.node_ops.specs.FillSteps.{filled, fill_asks, fill_turned, fill_left, fill_takes}
-use Rattle.node_ops.specs.FillSteps.{fill_at_left, fill_at_turned, fills_on, print_fenced, slot_fenced}
+use Rattle.node_ops.specs.FillSteps.{fill_at_left, fill_at_turned}
 use Rattle.node_ops.specs.FinishSteps.{finish_asks, finish_turned, finish_left, finish_takes}
 use Rattle.node_ops.specs.PutSteps.{put_asks, put_turned, put_left, put_takes}
 use Rattle.node_ops.specs.PutSteps.{IsReplacing, put_filled, put_finished, put_full, put_into, put_looked}
 use Rattle.node_ops.specs.PutSteps.{replaced, replaced_hit}
 use Rattle.node_ops.specs.Bursts.{LookupBursts}
+use Rattle.node_ops.proofs.WriteTurns.{fill_turn_is}
 use Rattle.node_ops.proofs.CallBursts.{looked_call, looked_found, looking_bursts}
 
 -- a turn of what a put does leaves the put fewer actions where it leaves that fewer
@@ -61,33 +60,11 @@ put_looked_below call value bound (Done (looked_as.Found found)) below = put_int
 put_filled_below : (fill : Fill) (at : FillAt) (number : ℕ)
     → GoesBelow {A = Finish} fill_left (fill_at_left at) (fill_at_turned fill at number)
     → GoesBelow {A = Once Placed} put_left (fill_at_left at + 18) (put_filled (fill_at_turned fill at number))
-put_filled_below fill (fill_at.Word k) number =
-    elim (ltb (k + 1) 4) as (λ b.
-    GoesBelow {A = Finish} fill_left (38 - k)
-    (cond b (fills_on fill (fill_at.Word (k + 1))) (fills_on fill fill_at.Print))
-    → GoesBelow {A = Once Placed} put_left (38 - k + 18)
-    (put_filled (cond b (fills_on fill (fill_at.Word (k + 1))) (fills_on fill fill_at.Print)))) [
-      | true ↦ λ below. omega arith
-      | false ↦ λ below. omega arith
-    ]
-put_filled_below fill fill_at.Print number = λ below. omega arith
-put_filled_below fill (fill_at.FenceSlot fence) number =
-    elim (fence_next fence number) as (λ o.
-    GoesBelow {A = Finish} fill_left (fill_at_left (fill_at.FenceSlot fence)) (slot_fenced fill o)
-    → GoesBelow {A = Once Placed} put_left (fill_at_left (fill_at.FenceSlot fence) + 18)
-    (put_filled (slot_fenced fill o))) [
-      | Some next ↦ λ below. omega arith
-      | None ↦ λ below. omega arith
-    ]
-put_filled_below fill (fill_at.FencePrint fence) number =
-    elim (fence_next fence number) as (λ o.
-    GoesBelow {A = Finish} fill_left (fill_at_left (fill_at.FencePrint fence)) (print_fenced fill o)
-    → GoesBelow {A = Once Placed} put_left (fill_at_left (fill_at.FencePrint fence) + 18)
-    (put_filled (print_fenced fill o))) [
-      | Some next ↦ λ below. omega arith
-      | None ↦ λ below. omega arith
-    ]
-put_filled_below fill fill_at.Bitmap number = λ below. omega arith
+put_filled_below fill at number =
+    fill_turn_is (λ (turn : Turn Fill Finish). GoesBelow {A = Finish} fill_left (fill_at_left at) turn
+    → GoesBelow {A = Once Placed} put_left (fill_at_left at + 18) (put_filled turn)) fill at number
+    (λ next below. omega arith)
+    (λ is below. let one : fill_at_left at ≡ 1 = ap fill_at_left is in omega arith)
 
 put_finished_below : (bound : ℕ) (turn : Turn Finish (Once Placed))
     → GoesBelow {A = Once Placed} finish_left bound turn

@@ -81,67 +81,27 @@ seen_hit call bitmap (Some hit) = (bitmap_offset, bitmap) ∷ words_from (slot_o
 
 -- the node is held, with the clock loaded and below the limit
 abbrev pub timed : Call → Hold → Known → Held
-timed call hold known = record {
-  name = name_in call;
+timed call hold known = record (just_held (name_in call)) {
   limit = call.limit;
   known = known;
-  dirty = [];
-  hand = None;
   time = Some hold.clock;
-  old = None;
-  pending = None;
-  ready = false;
-  placed = None;
-  merged = false;
 }
 
 -- and it is known what the name has
 abbrev pub decided : Call → Hold → Option ℕ → Known → Held
-decided call hold old known = record {
-  name = name_in call;
-  limit = call.limit;
-  known = known;
-  dirty = [];
-  hand = None;
-  time = Some hold.clock;
-  old = Some old;
-  pending = None;
-  ready = false;
-  placed = None;
-  merged = false;
-}
+decided call hold old known = record (timed call hold known) { old = Some old }
 
 -- and the node's words show this change
 abbrev pub changes : Call → Hold → Option ℕ → Change → Bool → Held
 changes call hold old change ready =
-    record {
-      name = name_in call;
-      limit = call.limit;
-      known = nothing;
-      dirty = [];
-      hand = None;
-      time = Some hold.clock;
-      old = Some old;
-      pending = Some change;
-      ready = ready;
-      placed = None;
-      merged = false;
-    }
+    record (timed call hold nothing) { old = Some old; pending = Some change; ready = ready }
 
 -- and the change has its place
 abbrev pub has_place : Call → Option ℕ → ℕ → Held
-has_place call old place = record {
-  name = name_in call;
+has_place call old place = record (just_held (name_in call)) {
   limit = call.limit;
-  known = nothing;
-  dirty = [];
-  hand = None;
-  time = None;
   old = Some old;
-  pending = None;
-  ready = false;
   placed = Some place;
-  merged = false;
 }
 
 -- the words that a fence of this line has still to make durable: the rest of it

@@ -9,7 +9,7 @@ use Rattle.pm_words.specs.declared.action.Action.TheVariants.{Load, Store, Excha
 use Rattle.pm_words.specs.declared.again.Again.TheVariants.{Moved}
 use Rattle.pm_words.specs.declared.machine.Turn.{Turn}
 use Rattle.pm_words.specs.declared.machine.Turn.TheVariants.{Go, Done}
-use Rattle.pm_words.specs.Offsets.{version_offset, bitmap_offset, slot_offset}
+use Rattle.pm_words.specs.Offsets.{version_offset, bitmap_offset, slot_offset, value_word}
 use Rattle.version_lock.specs.Versions.{generation_of, kept_count, locked_word, IsFree, IsWorn, is_worn_word}
 use Rattle.data_node.specs.declared.slots.TheConstants.{PRINT_WORDS}
 use Rattle.data_node.specs.Slots.{IsLive}
@@ -59,7 +59,7 @@ lookup_at_asks call (at.Spent hold) = Store (call_address call version_offset) (
 lookup_at_asks call (at.Bitmap hold) = Load (call_address call bitmap_offset)
 lookup_at_asks call (at.Prints hold bitmap prints k) = Load (call_address call (8 + k))
 lookup_at_asks call (at.Name hold directory left slot k) = Load (call_address call (slot_offset slot k))
-lookup_at_asks call (at.Value hold directory slot) = Load (call_address call (slot_offset slot 3))
+lookup_at_asks call (at.Value hold directory slot) = Load (call_address call (slot_offset slot value_word))
 
 abbrev pub lookup_asks : Lookup → Action
 lookup_asks lookup = lookup_at_asks lookup.call lookup.at

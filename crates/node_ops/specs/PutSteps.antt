@@ -38,7 +38,7 @@ use Rattle.split_merge.specs.Splits.{IsSplit, LeadsIn, split_from, split_asks, s
 use Rattle.node_ops.specs.Calls.{IsCall, call_address}
 use Rattle.version_lock.specs.Versions.{IsLockWord}
 use Rattle.pm_words.specs.Fences.{line_of, fence_start}
-use Rattle.pm_words.specs.Offsets.{slot_offset}
+use Rattle.pm_words.specs.Offsets.{slot_offset, value_word}
 use Rattle.node_ops.specs.LookupSteps.{IsHit, IsLookup, lookup_asks, lookup_turned, lookup_left}
 use Rattle.node_ops.specs.FillSteps.{IsFill, fill_asks, fill_turned, fill_left}
 use Rattle.node_ops.specs.FinishSteps.{IsFinish, finish_asks, finish_turned, finish_left}
@@ -54,7 +54,7 @@ put_call (Splitting call hold bitmap value split) = call
 abbrev pub put_asks : Put → Action
 put_asks (Single (Looking lookup value)) = lookup_asks lookup
 put_asks (Single (Filling fill)) = fill_asks fill
-put_asks (Single (Replacing call hold bitmap hit value)) = Store (call_address call (slot_offset hit.slot 3)) value
+put_asks (Single (Replacing call hold bitmap hit value)) = Store (call_address call (slot_offset hit.slot value_word)) value
 put_asks (Single (Finishing finish)) = finish_asks finish
 put_asks (Splitting call hold bitmap value split) = split_asks split
 
@@ -108,7 +108,7 @@ replaced call hold hit value = record {
   hold = hold;
   old = Some hit.value;
   new = Some value;
-  at = finish_at.Fence (line_of (slot_offset hit.slot 3)) fence_start;
+  at = finish_at.Fence (line_of (slot_offset hit.slot value_word)) fence_start;
 }
 
 -- why the call is to be made again, once the split has ended

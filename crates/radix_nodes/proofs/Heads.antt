@@ -1,5 +1,5 @@
 -- The words of a cell's head, stored one after another into zeros.
-use Rattle.std.proofs.Common.{◌≡◌, ℕ, zero, suc, ◌+◌, ◌<◌, ◌≤◌, inl, inr, List, length, length-set, slice_index, slice_set, replicate, refl, sym, ap, ◌∙◌, arith}
+use Rattle.std.proofs.Common.{◌≡◌, ℕ, zero, suc, ◌+◌, ◌<◌, ◌≤◌, inl, inr, List, length, length-set, slice_index, slice_set, replicate, refl, sym, subst, ap, ◌∙◌, arith}
 use Rattle.std.proofs.lemmas.Bool.{cases_eq}
 use Rattle.std.proofs.lemmas.List.{get_or-set_same, get_or-set_other}
 
@@ -29,6 +29,10 @@ copied_step c words at lt so =
       ]),
       (λ o le. get_or-set_other words at o (c at) 0 (λ e. omega arith) ∙ so.2 o (omega arith)),
     )
+
+-- and with the next one, as it was read
+pub copied_on : (c : ℕ → ℕ) (words : List ℕ) (at word : ℕ) → at < 264 → word ≡ c at → Copied c words at → Copied c (slice_set words at word) (at + 1)
+copied_on c words at word lt is so = subst (λ n. Copied c (slice_set words at n) (at + 1)) (sym is) (copied_step c words at lt so)
 
 -- a depth, and so many words of a prefix
 abbrev pub HeadedSo : ℕ → (ℕ → ℕ) → List ℕ → ℕ → Type 0

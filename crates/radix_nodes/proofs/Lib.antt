@@ -2,7 +2,7 @@ pub mod Powers
 pub mod EntryForms
 pub mod IndexForm
 mod CellWords
-mod Heads
+pub mod Heads
 mod Lookups
 pub mod KeyBytes
 mod Storing

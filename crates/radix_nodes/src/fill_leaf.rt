@@ -5,6 +5,7 @@ ghost use Rattle.std.specs.Prelude.{◌≡◌, ◌<◌};
 use crate::filling::Filling;
 use crate::key::Key;
 use cat_key::WORDS;
+use pm_words::codes::reference::LEAF;
 use pm_words::{Action, Layout, Machine, Turn};
 
 /// Stores the words of a leaf that nothing leads to, and makes them durable.
@@ -34,7 +35,7 @@ impl Machine for FillLeaf {
     ghost left = { fill_leaf_left };
 
     fn action(&self) -> Action {
-        let offset = self.at.offset(1);
+        let offset = self.at.offset(LEAF);
         let word = self.layout.leaf_word(self.number, offset);
         self.at.action(self.layout.cached(word), self.word(offset))
     }

@@ -12,7 +12,7 @@ use crate::cell::{Branch, CELL_WORDS, Cell, ENTRY, byte_set};
 use crate::key::Key;
 use crate::lookup::child_word;
 use cat_key::WORDS;
-use pm_words::codes::reference::{FORM_4, FORM_16};
+use pm_words::codes::reference::{FORM_4, FORM_16, FORM_48, FORM_256};
 use pm_words::offsets::cell::{DEPTH, FIRST, FIRST_OF_4, PLACES, PREFIX};
 
 /// The cell of the next form with the same depth, prefix and children.
@@ -60,7 +60,7 @@ fn bare(cell: &Cell, kind: u64) -> Cell
 fn grown_to_16(cell: &Cell) -> Cell
     ensures { result ≡ in_16 cell.now 4 }
 {
-    let mut grown = bare(cell, 3);
+    let mut grown = bare(cell, FORM_16);
     for entry in 0..4 {
         grown.set(FIRST + entry, cell.word(FIRST_OF_4 + entry));
     }
@@ -71,7 +71,7 @@ fn grown_to_16(cell: &Cell) -> Cell
 fn grown_to_48(cell: &Cell) -> Cell
     ensures { result ≡ in_48 cell.now 16 }
 {
-    let mut grown = bare(cell, 4);
+    let mut grown = bare(cell, FORM_48);
     for entry in 0..16 {
         take_in(&mut grown, entry, cell.word(FIRST + entry));
     }
@@ -97,7 +97,7 @@ fn take_in(cell: &mut Cell, place: u64, entry: u64)
 fn grown_to_256(cell: &Cell) -> Cell
     ensures { result ≡ whole_in_256 cell.now }
 {
-    let mut grown = bare(cell, 5);
+    let mut grown = bare(cell, FORM_256);
     for byte in 0..256 {
         grown.set(FIRST + byte, child_word(cell, byte));
     }

@@ -4,7 +4,7 @@ use Rattle.std.specs.Int.{bit_at}
 use Rattle.std.proofs.lemmas.Bool.{cases_eq, lt-ltb, le-ltb, ltb-true, ltb-false, and_parts, and_from, eq-eqb, eqb-true}
 use Rattle.std.proofs.lemmas.Nat.Bits.{bit_at-zero}
 use Rattle.cat_history.specs.Maps.{Map}
-use Rattle.pm_words.specs.Offsets.{bitmap_offset, next_offset, slot_offset}
+use Rattle.pm_words.specs.Offsets.{bitmap_offset, next_offset, slot_offset, value_word}
 use Rattle.data_node.specs.Bits.{without_live}
 use Rattle.data_node.specs.Slots.{IsLive, IsClear, prints_of}
 use Rattle.data_node.specs.Spots.{Spot, Means, updated}
@@ -147,7 +147,7 @@ module _ (union : Union) (sound : IsUnion union) where
     there = λ slot within live. record {
       live = subst (λ b. IsLive b slot) (sym (updated-other s (8 + word) (joined_prints union word) bitmap_offset (λ e. omega arith))) live;
       name = name_words-updated s (8 + word) (joined_prints union word) slot (λ k below e. omega arith);
-      value = updated-other s (8 + word) (joined_prints union word) (slot_offset slot 3) (λ e. omega arith);
+      value = updated-other s (8 + word) (joined_prints union word) (slot_offset slot value_word) (λ e. omega arith);
       print = elim (cases_eq (slot / 8) word) [
         | inl same ↦
             ap (λ o. slice_index (prints_of (updated s (8 + word) (joined_prints union word) (8 + o))) (slot % 8)) same

@@ -10,7 +10,7 @@ use Rattle.std.proofs.Math.Pow.{pow-lt}
 use Rattle.cat_key.specs.Names.{IsName, AreNameWords, words_of, bytes_of, fingerprint_of}
 use Rattle.cat_key.proofs.Packing.{bytes_of-words_of}
 use Rattle.cat_history.specs.Maps.{Map, at}
-use Rattle.pm_words.specs.Offsets.{bitmap_offset, next_offset, print_offset, slot_offset}
+use Rattle.pm_words.specs.Offsets.{bitmap_offset, next_offset, print_offset, slot_offset, value_word}
 use Rattle.data_node.specs.Slots.{AreAllLive, IsLive, prints_of}
 use Rattle.data_node.specs.Spots.{Spot, Means, Finds, updated, IsLiveIn, name_words, value_in, print_in_spot}
 use Rattle.data_node.specs.Lists.{key_of, anchor_in, three_words, StaysIn, anchor_words}
@@ -386,7 +386,7 @@ module _ (plan : Plan) (sound : IsPlan plan) (is : IsHalf plan) (words : AreWord
       after_print slot = ap (λ word. slice_index (prints_of word) (slot % 8)) (beside (print_offset slot) (λ e. omega arith))
 
       after_value : (slot : ℕ) → value_in after slot ≡ value_in s slot
-      after_value slot = beside (slot_offset slot 3) (λ e. omega arith)
+      after_value slot = beside (slot_offset slot value_word) (λ e. omega arith)
 
       after_bits : after bitmap_offset ≡ bits_of (take half order)
       after_bits = updated-same s bitmap_offset plan.keep ∙ is.keep

@@ -392,9 +392,9 @@ module _ (join : Join) (sound : IsJoin join) (g : ℕ) (h : Held) (answer : Once
       let low = slots in
       record {
         own = (told_past (prints_now union (stored_in union)) 8 (own_prints union) (near_seen union.own union.right) s own).0;
-        right = told_at (head_word union) 1 15 [] t head 0 (omega arith);
+        right = told_at (head_word union) bitmap_offset 15 [] t head 0 (omega arith);
         head = λ offset least most. let place : 1 + (offset - 1) ≡ offset = omega arith in
-            subst (λ o. t o ≡ head_word union o) place (told_at (head_word union) 1 15 [] t head (offset - 1) (omega arith));
+            subst (λ o. t o ≡ head_word union o) place (told_at (head_word union) bitmap_offset 15 [] t head (offset - 1) (omega arith));
         prints = λ slot within from.
             let some : union.pairs.targets ≢ 0 = (λ none. targets_none union slot none (is_target union sound.union slot within from)) in
             let stored : stored_in union ≡ own_prints union = ap (λ b. cond b 0 (own_prints union)) (ne_eqb union.pairs.targets 0 some) in
@@ -461,10 +461,10 @@ module _ (join : Join) (sound : IsJoin join) (g : ℕ) (h : Held) (answer : Once
           ] refl
 
   -- the line is of the merge that leaves the right node out, and has its anchor
-  line_anchored : (s t : Spot) → Tells (fields (entry_in union) 7) s → Tells (head_seen union) t → AreNameWords (t 3 ∷ t 4 ∷ t 5 ∷ []) → anchor_in s ≡ anchor_in t
+  line_anchored : (s t : Spot) → Tells (fields (entry_in union) 7) s → Tells (head_seen union) t → AreNameWords (t anchor_offset ∷ t (anchor_offset + 1) ∷ t (anchor_offset + 2) ∷ []) → anchor_in s ≡ anchor_in t
   unfolding anchor_in
   line_anchored s t line head named =
-      let word : (k : ℕ) → k < 15 → t (1 + k) ≡ head_word union (1 + k) = told_at (head_word union) 1 15 [] t head in
+      let word : (k : ℕ) → k < 15 → t (1 + k) ≡ head_word union (1 + k) = told_at (head_word union) bitmap_offset 15 [] t head in
       let first = word 2 (omega arith) in
       let second = word 3 (omega arith) in
       let third = word 4 (omega arith) in
@@ -478,7 +478,7 @@ module _ (join : Join) (sound : IsJoin join) (g : ℕ) (h : Held) (answer : Once
   at_switch : (x : ℕ) → Leads_to (footing at.Switch) (join_at_asks union at.Switch) x (joins_on join (at.FenceSwitch fence_start))
   at_switch x = on (footing at.Switch) (join_at_asks union at.Switch) x (at.FenceSwitch fence_start)
       (on_nodes (record { unready = refl; durable = refl; open_state = λ s told. told.0; anchor = of_merge.anchor }, of_merge) (inl refl)
-      (merges (joins (sound.union.head 2) refl (inl (omega arith, omega arith)) (λ t told. told_at (head_word union) 1 15 [] t told 1 (omega arith)) (λ s told. (updated-same s next_offset (behind_in union), tt))))
+      (merges (joins (sound.union.head next_offset) refl (inl (omega arith, omega arith)) (λ t told. told_at (head_word union) bitmap_offset 15 [] t told 1 (omega arith)) (λ s told. (updated-same s next_offset (behind_in union), tt))))
       (deals_join refl refl)) (record { word = omega arith; value = tt })
 
   at_fence_switch : (fence : Fence) (x : ℕ) → IsFence fence → x < 2 ^ 64

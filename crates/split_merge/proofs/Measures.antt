@@ -7,6 +7,7 @@ use Rattle.pm_words.specs.declared.fence.FenceAt.{FenceAt}
 use Rattle.pm_words.specs.declared.fence.FenceAt.TheVariants as fence_at
 use Rattle.smo_log.specs.declared.open.OpenAt.TheVariants as open_at
 use Rattle.pm_words.specs.Fences.{IsFence, fence_start, fence_next, fence_at_next, fence_at_left}
+use Rattle.pm_words.specs.Offsets.{kind_offset}
 use Rattle.split_merge.specs.declared.moving.Move.{Move}
 use Rattle.split_merge.specs.declared.moving.MoveAt.TheVariants as at
 use Rattle.split_merge.specs.Plans.{next_in, entry_in}
@@ -27,7 +28,7 @@ fresh_fewer move first fence x inside most is = leads fence.at
           | true ↦ λ more. omega arith
           | false ↦ λ last.
               elim (ltb (first + 8) (filled_end move.plan)) as (λ b. ltb (first + 8) (filled_end move.plan) ≡ b → GoesBelow {A = Unit {0}} move_left (3 * (272 - first) + (15 - 2 * fence.word) + 160)
-              (moves_on move (cond b (at.FenceFresh (first + 8) fence_start) (at.Open (record { layout = move.plan.layout; line = move.plan.line; entry = entry_in move.plan; at = open_at.Field 1 }))))) [
+              (moves_on move (cond b (at.FenceFresh (first + 8) fence_start) (at.Open (record { layout = move.plan.layout; line = move.plan.line; entry = entry_in move.plan; at = open_at.Field kind_offset }))))) [
                 | true ↦ λ another. let below = ltb-true _ _ another in omega arith
                 | false ↦ λ all. omega arith
               ] refl

@@ -4,6 +4,7 @@ use Rattle.std.proofs.lemmas.Bool.{cases_eq, eqb-true, eqb-false, ltb-true, ltb-
 use Rattle.std.proofs.lemmas.List.{get_or-set_same, get_or-set_other}
 use Rattle.pm_words.specs.declared.machine.Turn.{Turn}
 use Rattle.pm_words.specs.declared.machine.Turn.TheVariants.{Go, Done}
+use Rattle.pm_words.specs.Offsets.{bitmap_offset}
 use Rattle.version_lock.specs.Versions.{IsFree, IsWorn, is_free_word, is_worn_word}
 use Rattle.version_lock.proofs.WordTests.{taken_word, worn_word}
 use Rattle.data_node.specs.Bits.{live_count}
@@ -52,7 +53,7 @@ module _ (merge : Merge) (sound : IsMerge merge) (heard : MergeHeard) where
   at_lock : (near : Near) (version locked x : ℕ) → IsMergeAt merge.view merge.node merge.word merge.line (at.Lock near version locked) → x ≡ heard.found → Has (at.Lock near version locked)
       → Heed (merge_at_turned merge (at.Lock near version locked) x)
   at_lock near version locked x here is has =
-      elim (x == version) as (λ b. (x == version) ≡ b → Has (cond b (at.Head near locked no_head 1) (at.Leave near))) [
+      elim (x == version) as (λ b. (x == version) ≡ b → Has (cond b (at.Head near locked no_head bitmap_offset) (at.Leave near))) [
         | true ↦ λ same. (
           record {
             some = λ none. here.1 (has.1 ∙ none);
@@ -86,7 +87,7 @@ module _ (merge : Merge) (sound : IsMerge merge) (heard : MergeHeard) where
       after = slice_set head count x
 
       bitmap_is : slice_index after 1 ≡ heard.bitmap
-      bitmap_is = elim (cases_eq count 1) [
+      bitmap_is = elim (cases_eq count bitmap_offset) [
         | inl first ↦ ap (λ k. slice_index after k) (sym first) ∙ get_or-set_same head count x 0 (let size = here.1.words.size in let high = here.3 in omega arith) ∙ is first
         | inr other ↦ get_or-set_other head count 1 x 0 (λ e. other (sym e)) ∙ has.2 (let low = here.2 in omega arith)
       ]

@@ -125,9 +125,9 @@ module _ (merge : Merge) (sound : IsMerge merge) (h : Held) (may : MayJoin h) (a
   at_lock : (near : Near) (version locked x : ℕ) → near.right < l.nodes → Leads (footing (at.Lock near version locked)) (merge_at_asks merge (at.Lock near version locked)) x (merges_on merge (finds near version locked x))
   at_lock near version locked x here =
       elim (x == version) as (λ b. (x == version) ≡ b → Leads (footing (at.Lock near version locked)) (merge_at_asks merge (at.Lock near version locked)) x
-      (merges_on merge (cond b (at.Head near locked no_head 1) (at.Leave near)))) [
+      (merges_on merge (cond b (at.Head near locked no_head bitmap_offset) (at.Leave near)))) [
         | true ↦ λ is. on_nodes tt (inl refl) (merges (meets here (eqb-true _ _ is) (record { untimed = may.may.untimed; unmerged = may.may.unmerged }) (λ s knows. knows.seen.1.0)))
-            (eyed_far n w (knows_near near h) near.right version locked (merge_at_stage h merge (at.Head near locked no_head 1)))
+            (eyed_far n w (knows_near near h) near.right version locked (merge_at_stage h merge (at.Head near locked no_head bitmap_offset)))
         | false ↦ λ other. on_nodes tt (inl refl) (looks (loses here (eqb-false _ _ other)))
             (eyed_far n w (knows_near near h) near.right version locked (Holds n w (knows_near near h)))
       ] refl

@@ -5,7 +5,7 @@ use Rattle.std.proofs.lemmas.List.{length-replicate, get_or-set_same, get_or-set
 use Rattle.pm_words.specs.declared.layout.Layout.{Layout}
 use Rattle.pm_words.specs.declared.machine.Turn.{Turn}
 use Rattle.pm_words.specs.declared.machine.Turn.TheVariants.{Go, Done}
-use Rattle.pm_words.specs.Offsets.{next_offset}
+use Rattle.pm_words.specs.Offsets.{bitmap_offset, next_offset}
 use Rattle.version_lock.specs.Versions.{generation_of, is_free_word, is_worn_word}
 use Rattle.version_lock.proofs.WordTests.{free_word, fresh_word}
 use Rattle.index_law.proofs.Versions.{own_lock, lock_fits}
@@ -58,7 +58,7 @@ module _ (merge : Merge) (sound : IsMerge merge) where
         | false ↦ λ taken. tt
       ] refl
 
-  pub first_head : (near : Near) → AreHead view near no_head 1
+  pub first_head : (near : Near) → AreHead view near no_head bitmap_offset
   first_head near = record {
     words = fresh_words 16;
     few = λ more. absurd (omega arith);
@@ -79,13 +79,13 @@ module _ (merge : Merge) (sound : IsMerge merge) where
       let value = get_or-set_same head count x 0 (omega arith) in
       record {
         words = words_set 16 head count x are.words high fits;
-        few = λ more. elim (cases_eq count 1) [
+        few = λ more. elim (cases_eq count bitmap_offset) [
           | inl first ↦ subst (λ w. AreFew l.slots near.own w) (sym (ap (λ k. slice_index (slice_set head count x) k) (sym first) ∙ value)) (few first)
-          | inr other ↦ subst (λ w. AreFew l.slots near.own w) (sym (get_or-set_other head count 1 x 0 (λ e. other (sym e)))) (are.few (omega arith))
+          | inr other ↦ subst (λ w. AreFew l.slots near.own w) (sym (get_or-set_other head count bitmap_offset x 0 (λ e. other (sym e)))) (are.few (omega arith))
         ];
-        behind = elim (cases_eq count 2) [
+        behind = elim (cases_eq count next_offset) [
           | inl here ↦ subst (λ w. w < l.nodes) (sym (ap (λ k. slice_index (slice_set head count x) k) (sym here) ∙ value)) (leads here)
-          | inr other ↦ subst (λ w. w < l.nodes) (sym (get_or-set_other head count 2 x 0 (λ e. other (sym e)))) are.behind
+          | inr other ↦ subst (λ w. w < l.nodes) (sym (get_or-set_other head count next_offset x 0 (λ e. other (sym e)))) are.behind
         ];
       }
 
@@ -144,8 +144,8 @@ module _ (merge : Merge) (sound : IsMerge merge) where
   turned_here (at.Version near) x here told leads =
       same_merge (saw_version merge near x) (version_here near x here.0 here.1 (told.known near.right here.0.right refl))
   turned_here (at.Lock near version locked) x here told leads =
-      elim (x == version) as (λ b. Stays (merges_on merge (cond b (at.Head near locked no_head 1) (at.Leave near)))) [
-        | true ↦ same_merge (at.Head near locked no_head 1) (found_here near version locked here.0 here.1 here.2, first_head near, omega arith, omega arith)
+      elim (x == version) as (λ b. Stays (merges_on merge (cond b (at.Head near locked no_head bitmap_offset) (at.Leave near)))) [
+        | true ↦ same_merge (at.Head near locked no_head bitmap_offset) (found_here near version locked here.0 here.1 here.2, first_head near, omega arith, omega arith)
         | false ↦ same_merge (at.Leave near) tt
       ]
   turned_here (at.Head near locked head count) x here told leads =

@@ -96,32 +96,29 @@ vanishes most from last offset (inl within) =
     let high : offset < from + (most - from) = within.1 in
     inl (omega arith)
 
--- a line that is being opened, or made READY, is of its caller
+-- a line that is being opened is of its caller, and isn't READY
+opened_is : (line : ℕ) (entry : Entry) (at : OpenAt)
+    → ((open_at_held line entry at).caller ≡ caller_of line) × ((open_at_held line entry at).number ≡ index_of line)
+    × ((open_at_held line entry at).ready ≡ false)
+opened_is line entry (open_at.Field zero) = (refl, refl, refl)
+opened_is line entry (open_at.Field (suc n)) = (refl, refl, refl)
+opened_is line entry (open_at.FenceFields fence) = (refl, refl, refl)
+opened_is line entry open_at.State = (refl, refl, refl)
+opened_is line entry (open_at.FenceState fence) = (refl, refl, refl)
+
 pub open_caller : (line : ℕ) (entry : Entry) (at : OpenAt) → (open_at_held line entry at).caller ≡ caller_of line
-open_caller line entry (open_at.Field zero) = refl
-open_caller line entry (open_at.Field (suc n)) = refl
-open_caller line entry (open_at.FenceFields fence) = refl
-open_caller line entry open_at.State = refl
-open_caller line entry (open_at.FenceState fence) = refl
+open_caller line entry at = (opened_is line entry at).0
 
 pub open_number : (line : ℕ) (entry : Entry) (at : OpenAt) → (open_at_held line entry at).number ≡ index_of line
-open_number line entry (open_at.Field zero) = refl
-open_number line entry (open_at.Field (suc n)) = refl
-open_number line entry (open_at.FenceFields fence) = refl
-open_number line entry open_at.State = refl
-open_number line entry (open_at.FenceState fence) = refl
+open_number line entry at = (opened_is line entry at).1
 
+pub open_unready : (line : ℕ) (entry : Entry) (at : OpenAt) → (open_at_held line entry at).ready ≡ false
+open_unready line entry at = (opened_is line entry at).2
+
+-- one that is made READY is of its number
 pub ready_number : (line : ℕ) (entry : Entry) (at : ReadyAt) → (ready_at_held line entry at).number ≡ index_of line
 ready_number line entry ready_at.State = refl
 ready_number line entry (ready_at.Fence fence) = refl
-
--- none of these is READY
-pub open_unready : (line : ℕ) (entry : Entry) (at : OpenAt) → (open_at_held line entry at).ready ≡ false
-open_unready line entry (open_at.Field zero) = refl
-open_unready line entry (open_at.Field (suc n)) = refl
-open_unready line entry (open_at.FenceFields fence) = refl
-open_unready line entry open_at.State = refl
-open_unready line entry (open_at.FenceState fence) = refl
 
 pub no_ready : {b : Bool} → b ≡ false → b ≡ true → ⊥
 no_ready unready ready = let no : false ≡ true = sym unready ∙ ready in cc
@@ -297,7 +294,7 @@ module _ (move : Move) (sound : IsMove move) (g : ℕ) (known : Known) (cuts : C
   deals_fencing dirty dirty' hand hand' =
       deals_on (full_left plan known) (fresh_of plan (fresh_seen plan) dirty hand) (full_left plan known) (fresh_of plan (fresh_seen plan) dirty' hand') (Filling false) (Filling false) no_debt (λ e e'. cc) tt tt
 
-  open_is : IsOpen (record { layout = plan.layout; line = plan.line; entry = entry_in plan; at = open_at.Field 1 })
+  open_is : IsOpen (record { layout = plan.layout; line = plan.line; entry = entry_in plan; at = open_at.Field kind_offset })
   open_is = record { layout = sound.plan.layout; line = sound.plan.line; entry = sound.plan.entry; here = (omega arith, omega arith) }
 
   at_fence_fresh : (first : ℕ) (fence : Fence) (x : ℕ) → first < filled_end plan → first % 8 ≡ 0 → IsFence fence → x < 2 ^ 64
@@ -332,12 +329,12 @@ module _ (move : Move) (sound : IsMove move) (g : ℕ) (known : Known) (cuts : C
             | false ↦ λ last.
                 let end : fence.word ≡ 7 = (let low : fence.word < 8 = is.word in let high : 8 ≤ fence.word + 1 = ltb-false _ _ last in omega arith) in
                 elim (ltb (first + 8) (filled_end plan)) as (λ b. ltb (first + 8) (filled_end plan) ≡ b → Leads_to before action x
-                (moves_on move (cond b (at.FenceFresh (first + 8) fence_start) (at.Open (record { layout = plan.layout; line = plan.line; entry = entry_in plan; at = open_at.Field 1 }))))) [
+                (moves_on move (cond b (at.FenceFresh (first + 8) fence_start) (at.Open (record { layout = plan.layout; line = plan.line; entry = entry_in plan; at = open_at.Field kind_offset }))))) [
                   | true ↦ λ another. on before action x (at.FenceFresh (first + 8) fence_start)
                       (on_nodes tt (inl refl) (splits (drains_fresh (sound.plan.fresh, within) value refl (shrinks (filled_end plan) (first + fence.word) (first + 8 + 0) (omega arith))))
                       (deals_fencing ((first + fence.word, filled_end plan - (first + fence.word)) ∷ []) ((first + 8 + 0, filled_end plan - (first + 8 + 0)) ∷ []) (Some (first + fence.word, y)) None))
                       (ltb-true _ _ another, omega arith, record { word = omega arith; value = tt })
-                  | false ↦ λ all. on before action x (at.Open (record { layout = plan.layout; line = plan.line; entry = entry_in plan; at = open_at.Field 1 }))
+                  | false ↦ λ all. on before action x (at.Open (record { layout = plan.layout; line = plan.line; entry = entry_in plan; at = open_at.Field kind_offset }))
                       (on_nodes tt (inl refl) (splits (drains_fresh (sound.plan.fresh, within) value refl (vanishes (filled_end plan) (first + fence.word) (let past : filled_end plan ≤ first + 8 = ltb-false _ _ all in omega arith))))
                       (deals_fencing ((first + fence.word, filled_end plan - (first + fence.word)) ∷ []) [] (Some (first + fence.word, y)) None))
                       (open_is, refl, refl, refl)

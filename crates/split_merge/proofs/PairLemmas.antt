@@ -72,19 +72,24 @@ module _ (own right slots : ℕ) where
         | false ↦ λ is live. let before = targets_are n (omega arith) slot live in (let b = before.0 in omega arith, before.1)
       ] refl live
 
-  pub are_targets : (n : ℕ) → n ≤ 64 → (slot : ℕ) → slot < n → does slot → IsLive (targets_at own right slots n) slot
-  are_targets zero few slot within is = absurd (omega arith)
-  are_targets (suc n) few slot within is =
-      elim (gets_at own right slots n) as (λ b. gets_at own right slots n ≡ b → IsLive (cond b (with_live (targets_at own right slots n) n) (targets_at own right slots n)) slot) [
+  -- each slot that gets a name is live in a bitmap to which those are added in turn
+  gets_live : (made : ℕ → ℕ) → ((n : ℕ) → made (suc n) ≡ cond (gets_at own right slots n) (with_live (made n) n) (made n)) → (n : ℕ) → n ≤ 64 → (slot : ℕ) → slot < n → does slot → IsLive (made n) slot
+  gets_live made adds zero few slot within is = absurd (omega arith)
+  gets_live made adds (suc n) few slot within is =
+      subst (λ bitmap. IsLive bitmap slot) (sym (adds n))
+      (elim (gets_at own right slots n) as (λ b. gets_at own right slots n ≡ b → IsLive (cond b (with_live (made n) n) (made n)) slot) [
         | true ↦ λ here. elim (cases_eq slot n) [
-          | inl same ↦ subst (IsLive (with_live (targets_at own right slots n) n)) (sym same) (with_live-same (targets_at own right slots n) n (omega arith))
-          | inr other ↦ with_live-other (targets_at own right slots n) n slot (omega arith) other ∙ are_targets n (omega arith) slot (omega arith) is
+          | inl same ↦ subst (IsLive (with_live (made n) n)) (sym same) (with_live-same (made n) n (omega arith))
+          | inr other ↦ with_live-other (made n) n slot (omega arith) other ∙ gets_live made adds n (omega arith) slot (omega arith) is
         ]
         | false ↦ λ here. elim (cases_eq slot n) [
           | inl same ↦ let yes : gets_at own right slots n ≡ true = subst does same is in absurd (let no : true ≡ false = sym yes ∙ here in cc)
-          | inr other ↦ are_targets n (omega arith) slot (omega arith) is
+          | inr other ↦ gets_live made adds n (omega arith) slot (omega arith) is
         ]
-      ] refl
+      ] refl)
+
+  pub are_targets : (n : ℕ) → n ≤ 64 → (slot : ℕ) → slot < n → does slot → IsLive (targets_at own right slots n) slot
+  are_targets n few slot within is = gets_live (targets_at own right slots) (λ k. refl) n few slot within is
 
   pub targets_fit : (n : ℕ) → n ≤ 64 → targets_at own right slots n < 2 ^ 64
   targets_fit zero few = omega arith
@@ -240,18 +245,7 @@ module _ (own right slots : ℕ) where
       ]
 
   pub grown_target : (n : ℕ) → n ≤ 64 → (slot : ℕ) → slot < n → does slot → IsLive (grown_at own right slots n) slot
-  grown_target zero most slot within is = absurd (omega arith)
-  grown_target (suc n) most slot within is =
-      elim (gets_at own right slots n) as (λ b. gets_at own right slots n ≡ b → IsLive (cond b (with_live (grown_at own right slots n) n) (grown_at own right slots n)) slot) [
-        | true ↦ λ here. elim (cases_eq slot n) [
-          | inl same ↦ subst (IsLive (with_live (grown_at own right slots n) n)) (sym same) (with_live-same (grown_at own right slots n) n (omega arith))
-          | inr other ↦ with_live-other (grown_at own right slots n) n slot (omega arith) other ∙ grown_target n (omega arith) slot (omega arith) is
-        ]
-        | false ↦ λ here. elim (cases_eq slot n) [
-          | inl same ↦ let yes : gets_at own right slots n ≡ true = subst does same is in absurd (let no : true ≡ false = sym yes ∙ here in cc)
-          | inr other ↦ grown_target n (omega arith) slot (omega arith) is
-        ]
-      ] refl
+  grown_target n most slot within is = gets_live (grown_at own right slots) (λ k. refl) n most slot within is
 
   pub grown_is : (n : ℕ) → n ≤ 64 → (slot : ℕ) → IsLive (grown_at own right slots n) slot → IsLive own slot ⊎ ((slot < n) × does slot)
   grown_is zero most slot live = inl live

@@ -255,6 +255,10 @@ module _ (split : Split) (sound : IsSplit split) (h : Held) (may : MayBegin spli
       of (Done was.NoFree) step = back step again.NoFree
       of (Done (was.Again why)) step = back step.0 why
 
+  -- the full node with one word more, and in hand that word as this one
+  abbrev with_word : List ℕ → ℕ → ℕ → ℕ → Grip
+  with_word full count x v = record (read_grip split h (slice_set full (8 + count) x) (suc count)) { hand = Some (8 + count, v) }
+
   at_read : (share : Share) (full : List ℕ) (count x : ℕ) → AreWords full → count < word_count split.view
       → Leads (footing (at.Read share full count)) (split_at_asks split (at.Read share full count)) x (has_read split share full count x)
   at_read share full count x words more =
@@ -293,31 +297,13 @@ module _ (split : Split) (sound : IsSplit split) (h : Held) (may : MayBegin spli
       step : Steps (footing (at.Read share full count)) (split_at_asks split (at.Read share full count)) x (footing (at.Read share (slice_set full (8 + count) x) (suc count))) None
       step =
           subst (λ v. Steps (footing (at.Read share full count)) (split_at_asks split (at.Read share full count)) x (record {
-            stage = Splits (record {
-              name = h.name;
-              old = h.old;
-              node = n;
-              lock = w;
-              seen = read_seen (slice_set full (8 + count) x) (suc count) h;
-              dirty = [];
-              hand = Some (8 + count, v);
-              copied = [];
-            }) (fresh_grip share.fresh share.locked) (Filling false);
+            stage = Splits (with_word full count x v) (fresh_grip share.fresh share.locked) (Filling false);
             line = Some (empty_line share.line);
             debt = no_debt;
           }) None) (sym value)
           (on_nodes tt (inl refl) (splits (glances_left (has_word (8 + count) (omega arith)) tells))
           (deals_far (Splits (read_grip split h full count) (fresh_grip share.fresh share.locked) (Filling false))
-          (Splits (record {
-            name = h.name;
-            old = h.old;
-            node = n;
-            lock = w;
-            seen = read_seen (slice_set full (8 + count) x) (suc count) h;
-            dirty = [];
-            hand = Some (8 + count, x);
-            copied = [];
-          }) (fresh_grip share.fresh share.locked) (Filling false))
+          (Splits (with_word full count x x) (fresh_grip share.fresh share.locked) (Filling false))
           (splits_far (read_grip split h full count) (fresh_grip share.fresh share.locked))))
 
   at_move : (moving : Move) (x : ℕ) → IsMove moving → IsPlanOf split.view n w moving.plan → x < 2 ^ 64

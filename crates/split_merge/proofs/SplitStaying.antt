@@ -65,7 +65,7 @@ pub first_words : (next : ℕ) → next < 2 ^ 64 → AreWords (full_from next)
 first_words next fits = read_words (replicate 272 0) next_offset next (record { size = length-replicate {A = ℕ} 272 0; fits = zeros 272 }) (omega arith) fits
 
 pub first_next : (next : ℕ) → slice_index (full_from next) 2 ≡ next
-first_next next = let size = length-replicate {A = ℕ} 272 0 in get_or-set_same (replicate 272 0) 2 next 0 (omega arith)
+first_next next = let size = length-replicate {A = ℕ} 272 0 in get_or-set_same (replicate 272 0) next_offset next 0 (omega arith)
 
 -- the plan that is made of words
 module _ (split : Split) (sound : IsSplit split) (share : Share) (is : IsShare split.view share) (full : List ℕ) (words : AreWords full) (next : slice_index full 2 < split.view.layout.nodes) where
@@ -222,7 +222,7 @@ module _ (split : Split) (sound : IsSplit split) where
   at_read share full count x is words next more fits =
       let most : split.view.layout.slots ≤ 64 = sound.view.layout.slots.1 in
       let has = read_words full (8 + count) x words (omega arith) fits in
-      let leads = subst (λ n. n < split.view.layout.nodes) (sym (get_or-set_other full (8 + count) 2 x 0 (λ e. omega arith))) next in
+      let leads = subst (λ n. n < split.view.layout.nodes) (sym (get_or-set_other full (8 + count) next_offset x 0 (λ e. omega arith))) next in
       elim (ltb (count + 1) (word_count split.view)) as (λ b. ltb (count + 1) (word_count split.view) ≡ b → SplitStays split
       (cond b (splits_on split (at.Read share (slice_set full (8 + count) x) (count + 1))) (splits_on split (at.Move (move_from (plan_of split share (slice_set full (8 + count) x))))))) [
         | true ↦ λ another. on (at.Read share (slice_set full (8 + count) x) (count + 1)) (is, has, leads, ltb-true (count + 1) (word_count split.view) another)

@@ -11,6 +11,7 @@ use Rattle.smo_log.specs.declared.open.OpenAt.TheVariants as open_at
 use Rattle.smo_log.specs.declared.state.ReadyAt.TheVariants as ready_at
 use Rattle.smo_log.specs.declared.state.Ready.{Ready}
 use Rattle.pm_words.specs.Fences.{IsFence, IsFenceAt, fence_start, fence_next, fence_at_next}
+use Rattle.pm_words.specs.Offsets.{kind_offset}
 use Rattle.smo_log.specs.Opens.{IsOpen, open_asks, open_turned, open_held, OpenNotes}
 use Rattle.smo_log.specs.States.{IsReady, ready_asks, ready_turned, ready_held, ReadyNotes}
 use Rattle.smo_log.proofs.LineLaw.{opens_are_notes, readies_are_notes}
@@ -56,7 +57,7 @@ module _ (move : Move) (sound : IsMove move) where
   starts : IsFence fence_start
   starts = record { word = omega arith; value = tt }
 
-  open_is : IsOpen (record { layout = plan.layout; line = plan.line; entry = entry_in plan; at = open_at.Field 1 })
+  open_is : IsOpen (record { layout = plan.layout; line = plan.line; entry = entry_in plan; at = open_at.Field kind_offset })
   open_is = record { layout = sound.plan.layout; line = sound.plan.line; entry = sound.plan.entry; here = (omega arith, omega arith) }
 
   at_fence_fresh : (first : ℕ) (fence : Fence) (x : ℕ) → first < filled_end plan → first % 8 ≡ 0 → IsFence fence → x < 2 ^ 64
@@ -71,9 +72,9 @@ module _ (move : Move) (sound : IsMove move) where
             | true ↦ λ more. on (at.FenceFresh first (record { word = fence.word + 1; at = fence_at.Load })) (inside, whole, record { word = ltb-true _ _ more; value = tt })
             | false ↦ λ last.
                 elim (ltb (first + 8) (filled_end plan)) as (λ b. ltb (first + 8) (filled_end plan) ≡ b → Stays
-                (moves_on move (cond b (at.FenceFresh (first + 8) fence_start) (at.Open (record { layout = plan.layout; line = plan.line; entry = entry_in plan; at = open_at.Field 1 }))))) [
+                (moves_on move (cond b (at.FenceFresh (first + 8) fence_start) (at.Open (record { layout = plan.layout; line = plan.line; entry = entry_in plan; at = open_at.Field kind_offset }))))) [
                   | true ↦ λ another. on (at.FenceFresh (first + 8) fence_start) (ltb-true _ _ another, omega arith, starts)
-                  | false ↦ λ all. on (at.Open (record { layout = plan.layout; line = plan.line; entry = entry_in plan; at = open_at.Field 1 })) (open_is, refl, refl, refl)
+                  | false ↦ λ all. on (at.Open (record { layout = plan.layout; line = plan.line; entry = entry_in plan; at = open_at.Field kind_offset })) (open_is, refl, refl, refl)
                 ] refl
           ] refl
 

@@ -6,7 +6,7 @@ use Rattle.std.proofs.lemmas.Bool.{cases_eq, lt-ltb, ltb-true, ltb-false}
 use Rattle.std.proofs.lemmas.Nat.{le_bytes_8}
 use Rattle.cat_key.specs.Names.{bytes_of, fingerprint_of}
 use Rattle.cat_history.specs.Maps.{Map}
-use Rattle.pm_words.specs.Offsets.{bitmap_offset, slot_offset}
+use Rattle.pm_words.specs.Offsets.{bitmap_offset, slot_offset, value_word}
 use Rattle.data_node.specs.Bits.{live_count}
 use Rattle.data_node.specs.Slots.{IsLive, prints_of}
 use Rattle.data_node.specs.Spots.{Spot, Means, updated, IsLiveIn, print_in_spot}
@@ -101,7 +101,7 @@ module _ (union : Union) (sound : IsUnion union) where
     same_words : (slot : ℕ) → IsSameSlot u slot s slot
     same_words slot = record {
       name = (λ i. other_word (slot_offset slot 0) (omega arith) i ∷ other_word (slot_offset slot 1) (omega arith) i ∷ other_word (slot_offset slot 2) (omega arith) i ∷ []);
-      value = other_word (slot_offset slot 3) (omega arith);
+      value = other_word (slot_offset slot value_word) (omega arith);
     }
 
     print_same : (slot : ℕ) → print_in_spot u slot ≡ print_in_spot s slot

@@ -1,7 +1,8 @@
 -- What a merge makes of the words of both nodes is in order.
-use Rattle.std.proofs.Common.{ℕ, ◌^◌, ◌<◌, List, slice_index, slice_set, inl, inr, refl, sym, subst, ◌∙◌, arith}
+use Rattle.std.proofs.Common.{ℕ, ◌+◌, ◌^◌, ◌<◌, List, slice_index, slice_set, inl, inr, refl, sym, subst, ◌∙◌, arith}
 use Rattle.std.proofs.lemmas.Bool.{cases_eq}
 use Rattle.std.proofs.lemmas.List.{length-set, get_or-set_same, get_or-set_other}
+use Rattle.pm_words.specs.Offsets.{anchor_offset}
 use Rattle.split_merge.specs.declared.merging.Merge.{Merge}
 use Rattle.split_merge.specs.declared.merging.Near.{Near}
 use Rattle.split_merge.specs.Unions.{IsUnion}
@@ -22,7 +23,7 @@ pub union_made : (merge : Merge) (near : Near) (locked : ℕ) (head prints : Lis
     → IsUnion (union_of merge near locked head others)
 union_made merge near locked head prints count others held are =
     let words = held.heads.words in
-    let anchor = anchor_is (slice_index head 3) (slice_index head 4) (slice_index head 5) (words.fits 3) (words.fits 4) (words.fits 5) in
+    let anchor = anchor_is (slice_index head anchor_offset) (slice_index head (anchor_offset + 1)) (slice_index head (anchor_offset + 2)) (words.fits anchor_offset) (words.fits (anchor_offset + 1)) (words.fits (anchor_offset + 2)) in
     let named = anchor.named in
     let some = held.beside.some in
     record {

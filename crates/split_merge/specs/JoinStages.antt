@@ -40,7 +40,7 @@ own_seen union stored = words_onto (prints_now union stored) 8 (own_prints union
 
 -- the right node's words before its slots
 abbrev pub head_seen : Union → List (ℕ × ℕ)
-head_seen union = words_onto (head_word union) 1 15 []
+head_seen union = words_onto (head_word union) bitmap_offset 15 []
 
 -- so many words of a slot of the left node are those of one of the right node; and others
 abbrev pub words_copied : ℕ → ℕ → ℕ → List (ℕ × ℕ) → List (ℕ × ℕ)

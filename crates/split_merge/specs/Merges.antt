@@ -48,7 +48,7 @@ abbrev pub no_head : List ℕ
 no_head = replicate 16 0
 
 abbrev pub finds : Near → ℕ → ℕ → ℕ → MergeAt
-finds near version locked word = if word == version then at.Head near locked no_head 1 else at.Leave near
+finds near version locked word = if word == version then at.Head near locked no_head bitmap_offset else at.Leave near
 
 -- with this bitmap of the neighbour both have too many names
 abbrev pub crowded : Merge → Near → ℕ → ℕ

@@ -5,7 +5,7 @@ use Rattle.std.specs.Int.{w64, from_le_bytes}
 use Rattle.std.specs.List.{range_with_len}
 use Rattle.pm_words.specs.Layouts.{IsLayout}
 use Rattle.pm_words.specs.Codes.{split_kind}
-use Rattle.pm_words.specs.Offsets.{next_offset, slot_offset}
+use Rattle.pm_words.specs.Offsets.{next_offset, slot_offset, value_word}
 use Rattle.version_lock.specs.Versions.{IsLockWord}
 use Rattle.data_node.specs.Bits.{with_live}
 use Rattle.data_node.specs.Spots.{Spot, print_in_spot, name_words}
@@ -24,7 +24,7 @@ spot_of full offset = slice_index full offset
 abbrev pub entry_at : List ℕ → ℕ → List ℕ
 entry_at full slot =
     spot_of full (slot_offset slot 0) ∷ spot_of full (slot_offset slot 1) ∷ spot_of full (slot_offset slot 2) ∷ spot_of
-    full (slot_offset slot 3) ∷ []
+    full (slot_offset slot value_word) ∷ []
 
 unfoldable pub entries_of : List ℕ → List (List ℕ)
 entries_of full = map (entry_at full) (range_with_len 0 64)

@@ -37,7 +37,7 @@ split_from view node word = record { view = view; node = node; word = word; at =
 
 -- the full node's words of which only where it leads is loaded
 abbrev pub full_from : ℕ → List ℕ
-full_from next = slice_set (replicate 272 0) 2 next
+full_from next = slice_set (replicate 272 0) next_offset next
 
 -- how many words from the fingerprints on a node has
 abbrev pub word_count : View → ℕ

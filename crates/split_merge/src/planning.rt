@@ -123,7 +123,11 @@ impl Plan {
         Entry {
             kind: SPLIT,
             node: self.fresh,
-            anchor: [self.word(3), self.word(4), self.word(5)],
+            anchor: [
+                self.word(node::ANCHOR),
+                self.word(node::ANCHOR + 1),
+                self.word(node::ANCHOR + 2),
+            ],
             left: self.node,
         }
     }

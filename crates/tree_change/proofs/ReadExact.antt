@@ -1,7 +1,6 @@
 -- Reading a cell ends, and answers its words as they stand.
-use Rattle.std.proofs.Common.{◌≡◌, ℕ, zero, suc, ◌+◌, ◌-◌, ◌<◌, ◌≤◌, true, false, cond, ltb, List, length, length-set, slice_index, slice_set, replicate, inl, inr, refl, sym, subst, ap, ◌∙◌, arith}
-use Rattle.std.proofs.lemmas.Bool.{cases_eq, ltb-true, ltb-false}
-use Rattle.std.proofs.lemmas.List.{get_or-set_same, get_or-set_other, length-replicate}
+use Rattle.std.proofs.Common.{◌≡◌, ℕ, zero, suc, ◌+◌, ◌-◌, ◌<◌, ◌≤◌, true, false, cond, ltb, List, slice_set, replicate, refl, sym, subst, arith}
+use Rattle.std.proofs.lemmas.Bool.{ltb-true, ltb-false}
 use Rattle.std.specs.Prelude.{IsSomeAnd}
 use Rattle.pm_words.specs.declared.layout.Layout.{Layout}
 use Rattle.pm_words.specs.declared.machine.Turn.{Turn}
@@ -9,6 +8,7 @@ use Rattle.pm_words.specs.declared.machine.Turn.TheVariants.{Go, Done}
 use Rattle.pm_words.specs.Turns.{GoesBelow}
 use Rattle.pm_words.specs.Locations.{kind_words}
 use Rattle.radix_nodes.specs.declared.cell.Cell as cells
+use Rattle.radix_nodes.proofs.Heads.{Copied, copied_start, copied_step}
 use Rattle.tree_law.specs.Words.{LayerWords, kind_of, cell_in}
 use Rattle.tree_floor.specs.Floors.{IsCellOf}
 use Rattle.tree_change.specs.declared.read_cell.ReadCell.{ReadCell}
@@ -39,11 +39,6 @@ kind_bounds (suc (suc (suc (suc zero)))) low high = (omega arith, omega arith)
 kind_bounds (suc (suc (suc (suc (suc zero))))) low high = (omega arith, omega arith)
 kind_bounds (suc (suc (suc (suc (suc (suc kind)))))) low high = absurd (omega arith)
 
-zeros : (n o : ℕ) → slice_index (replicate n 0) o ≡ 0
-zeros zero o = refl
-zeros (suc n) zero = refl
-zeros (suc n) (suc o) = zeros n o
-
 -- Told the words of the layer, it has those before its own, and zeros behind.
 module _ (l : Layout) (x : ℕ) (w : LayerWords) (cell_is : IsCellOf l x) where
   abbrev all : ℕ
@@ -53,10 +48,8 @@ module _ (l : Layout) (x : ℕ) (w : LayerWords) (cell_is : IsCellOf l x) where
   make words offset = record { layout = l; reference = x; cell = record { kind = kind_of x; words = words }; offset = offset }
 
   record Knows (words : List ℕ) (offset : ℕ) : Type 0 where
-    pub whole : length words ≡ 264
     pub here : offset ≤ all
-    pub stands : (o : ℕ) → o < offset → slice_index words o ≡ cell_in w x o
-    pub behind : (o : ℕ) → offset ≤ o → slice_index words o ≡ 0
+    pub copied : Copied (cell_in w x) words offset
 
   record IsAt (read : ReadCell) : Type 0 where
     pub words : List ℕ
@@ -69,27 +62,17 @@ module _ (l : Layout) (x : ℕ) (w : LayerWords) (cell_is : IsCellOf l x) where
   Goes bound turn = GoesOn (read_turn w) IsAt read_left (IsReadOf w x) bound turn
 
   begins : Knows (replicate 264 0) 0
-  begins = record { whole = length-replicate {A = ℕ} 264 0; here = omega arith; stands = λ o lt. absurd (omega arith); behind = λ o le. zeros 264 o }
+  begins = record { here = omega arith; copied = copied_start (cell_in w x) (replicate 264 0) refl }
 
   reads_on : (words : List ℕ) (offset : ℕ) → offset < all → Knows words offset → Knows (slice_set words offset (cell_in w x offset)) (offset + 1)
   reads_on words offset within knows =
-      let y = cell_in w x offset in
       let most : all ≤ 264 = (kind_bounds (kind_of x) cell_is.low cell_is.high).1 in
-      let whole : length words ≡ 264 = knows.whole in
-      record {
-        whole = length-set words offset y ∙ whole;
-        here = omega arith;
-        stands = λ o lt. elim (cases_eq o offset) [
-          | inl same ↦ ap (slice_index (slice_set words offset y)) same ∙ get_or-set_same words offset y 0 (omega arith) ∙ ap (cell_in w x) (sym same)
-          | inr other ↦ get_or-set_other words offset o y 0 other ∙ knows.stands o (omega (arith, other))
-        ];
-        behind = λ o le. get_or-set_other words offset o y 0 (λ e. omega arith) ∙ knows.behind o (omega arith);
-      }
+      record { here = omega arith; copied = copied_step (cell_in w x) words offset (omega arith) knows.copied }
 
   ends : (words : List ℕ) (offset : ℕ) → all ≤ offset → Knows words offset → IsReadOf w x (record { kind = kind_of x; words = words })
   ends words offset past knows =
       let here : offset ≤ all = knows.here in
-      record { stands = (refl, λ o lt. sym (knows.stands o (omega arith))); behind = λ o le. knows.behind o (omega arith) }
+      record { stands = (refl, λ o lt. sym (knows.copied.1 o (omega arith))); behind = λ o le. knows.copied.2 o (omega arith) }
 
   goes_at : (words : List ℕ) (offset : ℕ) → offset < all → Knows words offset → Goes (all - offset) (read_turn w (make words offset))
   goes_at words offset within knows =

@@ -108,7 +108,7 @@ impl Take {
         requires number { number < leaf_count self.old.layout }
         ensures { AdvancesTo (take_seeks self.old number) self.new result }
     {
-        if number + 1 < self.layout.nodes() + 4 {
+        if number + 1 < self.layout.leaf_count() {
             self.at = TakeAt::Seek { number: number + 1 };
             return None;
         }

@@ -192,5 +192,13 @@ pub first_loads : (floor : Floor) (here : FloorAt) → IsFloor (record floor { a
     → HasLayerWord floor.layout (floor_word here)
 first_loads floor here is = floor_only_loads (record floor { at = here }) is
 
+pub cell_address : (l : Layout) (cell offset told word address : ℕ) → told ≡ offset
+    → word ≡ word_number l (Cell (kind_of cell) (number_of cell) told) → address ≡ cached_address l word
+    → Load address ≡ Load (layer_address l (cell_word cell offset))
+cell_address l cell offset told word address told_is word_is is =
+    ap (λ (a : ℕ). Load a)
+    (is ∙ ap (λ (w : ℕ). cached_address l w)
+    (word_is ∙ ap (λ (o : ℕ). word_number l (Cell (kind_of cell) (number_of cell) o)) told_is))
+
 pub root_address : (l : Layout) (address : ℕ) → address ≡ cached_address l 8 → address ≡ layer_address l RootWord
 root_address l address is = omega (arith, is)

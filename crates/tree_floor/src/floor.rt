@@ -4,10 +4,10 @@ ghost use Rattle.std.specs.Prelude.{◌≡◌};
 ghost use Rattle.tree_row.specs.tree_law.specs.FloorWalks.{node_told};
 
 use crate::scan::{BYTES, Scan, Scanned, better_of, child_of, entry_count, first_entry};
-use crate::words::{KEY_WORDS, ROOT, byte_of, is_at_most, is_prefix, word_of};
+use crate::words::{KEY_WORDS, ROOT, byte_of, is_at_most, is_prefix, key_with, word_of};
 use cat_key::WORDS;
-use pm_words::codes::reference::KIND;
-use pm_words::offsets::cell::DEPTH;
+use pm_words::codes::reference::{KIND, LEAF};
+use pm_words::offsets::cell::{DEPTH, PREFIX};
 use pm_words::offsets::leaf;
 use pm_words::{Action, Layout, Machine, Memory, Steps, Turn};
 use radix_nodes::{KEY_BYTES, Key};
@@ -149,9 +149,7 @@ impl Floor {
         match self.at {
             FloorAt::Root => self.enters(got),
             FloorAt::Key { leaf, words, word } => {
-                let mut words = words;
-                words[word as usize] = got;
-                self.has_key_word(leaf, words, word + 1)
+                self.has_key_word(leaf, key_with(words, word, got), word + 1)
             }
             FloorAt::Node { .. } => Some(node_told(self.layout.nodes(), got)),
             FloorAt::Depth { cell } => self.has_depth(cell, got),
@@ -160,11 +158,7 @@ impl Floor {
                 depth,
                 words,
                 word,
-            } => {
-                let mut words = words;
-                words[word as usize] = got;
-                self.has_prefix_word(cell, depth, words, word + 1)
-            }
+            } => self.has_prefix_word(cell, depth, key_with(words, word, got), word + 1),
             FloorAt::Scanning {
                 cell,
                 depth,
@@ -231,7 +225,7 @@ impl Floor {
                 word: 0,
                 ..
             } => {
-                let prefix = self.loads_key(word_of(self.layout, cell, 1), memory, steps);
+                let prefix = self.loads_key(word_of(self.layout, cell, PREFIX), memory, steps);
                 self.has_prefix(cell, depth, prefix)
             }
             FloorAt::Scanning {
@@ -338,10 +332,10 @@ impl Floor {
     {
         let kind = reference / KIND;
         let number = reference % KIND;
-        if number >= self.layout.nodes() + 4 {
+        if number >= self.layout.leaf_count() {
             return Some(0);
         }
-        if kind == 1 {
+        if kind == LEAF {
             let at = if self.last {
                 FloorAt::Node { leaf: number }
             } else {

@@ -12,4 +12,4 @@ mod words;
 
 pub use floor::{Floor, FloorAt};
 pub use scan::{BYTES, Scan, Scanned, entry_count, first_entry};
-pub use words::{KEY_WORDS, ROOT, byte_of, is_prefix, is_same, word_of};
+pub use words::{KEY_WORDS, ROOT, byte_of, is_prefix, is_same, key_with, word_of};

@@ -1,6 +1,7 @@
 //! Words of the tree, and keys as their words are read.
 
-ghost use Rattle.std.specs.Prelude.{◌≡◌, ◌==◌, ◌*◌, ◌<◌, nat_le};
+ghost use Rattle.std.specs.Prelude.{◌≡◌, ◌==◌, ◌*◌, ◌<◌, nat_le, slice_set};
+ghost use Rattle.cat_key.specs.declared.TheConstants.{WORDS};
 ghost use Rattle.pm_words.specs.Layouts.{IsLayout};
 ghost use Rattle.pm_words.specs.Locations.{Cell, word_number, image_words, kind_words};
 ghost use Rattle.radix_nodes.specs.Keys.{key_bytes};
@@ -30,6 +31,17 @@ pub fn word_of(layout: Layout, cell: u64, offset: u64) -> u64
     ensures within { result < image_words layout }
 {
     layout.cell_word(cell / KIND, cell % KIND, offset)
+}
+
+/// A key's words with this one among them.
+#[inline(always)]
+pub fn key_with(words: Key, word: u64, got: u64) -> Key
+    requires { word < WORDS }
+    ensures { result ≡ slice_set words word got }
+{
+    let mut words = words;
+    words[word as usize] = got;
+    words
 }
 
 /// Whether the one key is at most the other.

@@ -7,11 +7,11 @@ ghost use Rattle.tree_look.specs.Looks.{byte_parted};
 
 use crate::find::{Find, Findings};
 use cat_key::WORDS;
-use pm_words::codes::reference::KIND;
+use pm_words::codes::reference::{KIND, LEAF};
 use pm_words::offsets::cell::DEPTH;
 use pm_words::{Action, Layout, Machine, Turn};
 use radix_nodes::{KEY_BYTES, Key, shared_bytes};
-use tree_floor::{KEY_WORDS, ROOT, byte_of, is_prefix, is_same, word_of};
+use tree_floor::{KEY_WORDS, ROOT, byte_of, is_prefix, is_same, key_with, word_of};
 
 /// Goes the way of a key from the root to its end, and tells where that is. Nobody may write meanwhile.
 #[derive(Clone, Copy)]
@@ -166,9 +166,7 @@ impl Look {
         match self.at {
             LookAt::Root => self.lands(got),
             LookAt::Key { leaf, words, word } => {
-                let mut words = words;
-                words[word as usize] = got;
-                self.has_key_word(leaf, words, word + 1)
+                self.has_key_word(leaf, key_with(words, word, got), word + 1)
             }
             LookAt::Depth { cell } => self.has_depth(cell, got),
             LookAt::Prefix {
@@ -176,11 +174,7 @@ impl Look {
                 depth,
                 words,
                 word,
-            } => {
-                let mut words = words;
-                words[word as usize] = got;
-                self.has_prefix_word(cell, depth, words, word + 1)
-            }
+            } => self.has_prefix_word(cell, depth, key_with(words, word, got), word + 1),
             LookAt::Finding { cell, depth, find } => {
                 let byte = byte_of(self.key, depth);
                 self.has_found(cell, depth, find.told(cell / KIND, byte, got))
@@ -202,10 +196,10 @@ impl Look {
     {
         let kind = reference / KIND;
         let number = reference % KIND;
-        if number >= self.layout.nodes() + 4 {
+        if number >= self.layout.leaf_count() {
             return Some(Looked::Wrong);
         }
-        if kind == 1 {
+        if kind == LEAF {
             return self.goes_to(LookAt::Key {
                 leaf: number,
                 words: [0; WORDS],

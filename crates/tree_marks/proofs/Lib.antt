@@ -1,3 +1,2 @@
-mod ReadLemmas
 mod MarkLemmas
 pub mod RestLaw

@@ -1,5 +1,5 @@
 -- The words of the layer in a row, and what actions make of them.
-use Rattle.std.proofs.Common.{◌≡◌, ◌≢◌, ℕ, ◌^◌, ◌<◌, ◌≤◌, ◌&&◌, ◌⊎◌, true, false, cond, ltb, leb, List, length, slice_index, slice_set, inl, inr, refl, sym, subst, ap, ap₂, ◌∙◌, arith, lt-ltb, le-leb}
+use Rattle.std.proofs.Common.{◌≡◌, ◌≢◌, ℕ, zero, suc, ◌^◌, ◌<◌, ◌≤◌, ◌&&◌, ◌⊎◌, true, false, cond, ltb, leb, List, length, slice_index, slice_set, inl, inr, refl, sym, subst, ap, ap₂, ◌∙◌, arith, lt-ltb, le-leb}
 use Rattle.std.proofs.lemmas.Bool.{and_parts, ltb-true, leb-true, cases_eq}
 use Rattle.std.proofs.lemmas.List.{get_or-set_other}
 use Rattle.pm_words.specs.declared.layout.Layout.{Layout}
@@ -29,6 +29,27 @@ has_from l (CellWord kind n o) e =
     let number = and_parts (leb 2 kind && leb kind 5) (ltb n (leaf_count l)) offset.0 in
     let kinds = and_parts (leb 2 kind) (leb kind 5) number.0 in
     (leb-true _ _ kinds.0, leb-true _ _ kinds.1, ltb-true _ _ number.1, ltb-true _ _ offset.1)
+
+-- no kind of cell has more words than the last
+kind_ends : (kind : ℕ) → kind_words kind ≤ 264
+kind_ends zero = omega arith
+kind_ends (suc zero) = omega arith
+kind_ends (suc (suc zero)) = omega arith
+kind_ends (suc (suc (suc zero))) = omega arith
+kind_ends (suc (suc (suc (suc zero)))) = omega arith
+kind_ends (suc (suc (suc (suc (suc zero))))) = omega arith
+kind_ends (suc (suc (suc (suc (suc (suc kind)))))) = omega arith
+
+-- so behind those no cell has any, whatever is read of a row or an image
+pub cell_ends : (l : Layout) (kind n o word : ℕ) → 264 ≤ o → cond (has_layer_word l (CellWord kind n o)) word 0 ≡ 0
+cell_ends l kind n o word le = elim (has_layer_word l (CellWord kind n o)) as (λ a. has_layer_word l (CellWord kind n o) ≡ a → cond a word 0 ≡ 0) [
+  | true ↦ λ e.
+      let has = has_from l (CellWord kind n o) e in
+      let within : o < kind_words kind = has.3 in
+      let most = kind_ends kind in
+      absurd (omega arith)
+  | false ↦ λ e. refl
+] refl
 
 named_apart : (p q : LayerWord) → q ≢ p → image_word q ≢ image_word p
 named_apart RootWord RootWord apart e = apart refl

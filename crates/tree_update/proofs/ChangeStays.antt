@@ -1,5 +1,5 @@
 -- A change stays one, and asks for less and less, whatever it is told.
-use Rattle.std.proofs.Common.{◌≡◌, ◌≢◌, ℕ, ◌+◌, ◌-◌, ◌*◌, ◌/◌, ◌%◌, ◌^◌, ◌<◌, ◌≤◌, ◌==◌, ◌||◌, Bool, true, false, cond, ltb, leb, inl, inr, slice_index, Option, Some, None, refl, sym, subst, ap, ◌∙◌, arith}
+use Rattle.std.proofs.Common.{◌≡◌, ◌≢◌, ℕ, ◌+◌, ◌-◌, ◌*◌, ◌/◌, ◌%◌, ◌^◌, ◌<◌, ◌≤◌, ◌==◌, ◌||◌, Bool, true, false, cond, ltb, leb, inl, inr, slice_index, List, Option, Some, None, refl, sym, subst, ap, ◌∙◌, arith}
 use Rattle.std.proofs.lemmas.Bool.{cases_eq, eqb-true, eqb-false, leb-false}
 use Rattle.pm_words.specs.declared.layout.Layout.{Layout}
 use Rattle.pm_words.specs.declared.machine.Turn.{Turn}
@@ -147,6 +147,12 @@ larger_low cell made byte reference kinds is =
     let low = kinds.0 in
     let high = kinds.1 in
     (omega arith, omega arith)
+
+pub larger_read : (l : Layout) (key : List ℕ) (word : ℕ) (read : ReadCell) (spot : Spot) (byte leaf got : ℕ) (cell made : cells.Cell) → IsChangeAt l key word (at.ReadingCell read spot byte leaf) → Done cell ≡ read_turned read got → made ≡ larger_of cell byte (2 ^ 16 + leaf)
+    → (2 ≤ made.kind) × (made.kind ≤ 5)
+larger_read l key word read spot byte leaf got cell made here is made_is =
+    let kind = read_kind read got cell is ∙ here.2.kind in
+    larger_low cell made byte (2 ^ 16 + leaf) (subst (λ k. 2 ≤ k) (sym kind) here.0.cell.low, subst (λ k. k ≤ 4) (sym kind) here.2.most) made_is
 
 pub pair_low : (made : cells.Cell) (depth : ℕ) (prefix : ℕ → ℕ) (one two : Branch) → made ≡ pair_of depth prefix one two → (2 ≤ made.kind) × (made.kind ≤ 5)
 pair_low made depth prefix one two is =

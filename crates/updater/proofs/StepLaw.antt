@@ -173,21 +173,29 @@ module _ (work : Work) where
       subst (λ words. ChangeStep l (record { key = words; word = change.word }) (stage_of change) (change_asks change) x (change_after turn)) key
       (subst (λ (k : Layout). ChangeStep k (aim_of change) (stage_of change) (change_asks change) x (change_after turn)) same step)
 
+  abbrev stage_changed : ℕ → Entry → Turn Change Ended → RowStage
+  stage_changed line entry (Go next) = Changes (line_of line entry) next.word (stage_of next)
+  stage_changed line entry (Done answer) = work_at_stage t (changed t line entry)
+
+  at_change : (line : ℕ) (entry : Entry) (change : Change) (x : ℕ) (turn : Turn Change Ended) → SoundAfter change.layout (aim_of change) turn
+      → ChangeStep l (rows.aim_of (line_of line entry) change.word) (stage_of change) (change_asks change) x (change_after turn)
+      → RowStep r (Changes (line_of line entry) change.word (stage_of change)) (change_asks change) x (stage_changed line entry turn)
+  at_change line entry change x (Go next) sound step =
+      subst (λ word. RowStep r (Changes (line_of line entry) change.word (stage_of change)) (change_asks change) x (Changes (line_of line entry) word (stage_of next))) (sym (ap (λ (aim : Aim). aim.word) sound.1)) (steps.changes step)
+  at_change line entry change x (Done answer) sound step =
+      subst (λ next. RowStep r (Changes (line_of line entry) change.word (stage_of change)) (change_asks change) x next) (change_after_is line entry) (steps.has_changed step)
+
   at_setting : (line : ℕ) (entry : Entry) (change : Change) (x : ℕ) (turn : Turn Change Ended) → SoundAfter change.layout (aim_of change) turn
       → ChangeStep l (rows.aim_of (line_of line entry) change.word) (stage_of change) (change_asks change) x (change_after turn)
       → RowStep r (Changes (line_of line entry) change.word (stage_of change)) (change_asks change) x (work_stage (has_set work line entry (set_of turn)))
-  at_setting line entry change x (Go next) sound step =
-      subst (λ word. RowStep r (Changes (line_of line entry) change.word (stage_of change)) (change_asks change) x (Changes (line_of line entry) word (stage_of next))) (sym (ap (λ (aim : Aim). aim.word) sound.1)) (steps.changes step)
-  at_setting line entry change x (Done answer) sound step =
-      subst (λ next. RowStep r (Changes (line_of line entry) change.word (stage_of change)) (change_asks change) x next) (change_after_is line entry) (steps.has_changed step)
+  at_setting line entry change x (Go next) sound step = at_change line entry change x (Go next) sound step
+  at_setting line entry change x (Done answer) sound step = at_change line entry change x (Done answer) sound step
 
   at_unsetting : (line : ℕ) (entry : Entry) (change : Change) (x : ℕ) (turn : Turn Change Ended) → SoundAfter change.layout (aim_of change) turn
       → ChangeStep l (rows.aim_of (line_of line entry) change.word) (stage_of change) (change_asks change) x (change_after turn)
       → RowStep r (Changes (line_of line entry) change.word (stage_of change)) (change_asks change) x (work_stage (has_unset work line entry (unset_of turn)))
-  at_unsetting line entry change x (Go next) sound step =
-      subst (λ word. RowStep r (Changes (line_of line entry) change.word (stage_of change)) (change_asks change) x (Changes (line_of line entry) word (stage_of next))) (sym (ap (λ (aim : Aim). aim.word) sound.1)) (steps.changes step)
-  at_unsetting line entry change x (Done answer) sound step =
-      subst (λ next. RowStep r (Changes (line_of line entry) change.word (stage_of change)) (change_asks change) x next) (change_after_is line entry) (steps.has_changed step)
+  at_unsetting line entry change x (Go next) sound step = at_change line entry change x (Go next) sound step
+  at_unsetting line entry change x (Done answer) sound step = at_change line entry change x (Done answer) sound step
 
   at_clearing : (k : Layout) (line x : ℕ) → k ≡ l → line < line_count l → RowStep r (Clears line) (Store (numbered_address k line state_offset) empty_state) x (work_at_stage t (after_line t line))
   at_clearing k line x same here = subst (λ (k : Layout). RowStep r (Clears line) (Store (numbered_address k line state_offset) empty_state) x (work_at_stage t (after_line t line))) (sym same)

@@ -1,7 +1,7 @@
 -- A turn of the updater, step by step.
 use Rattle.std.specs.Prelude.{◌≡◌, ◌≢◌, ℕ, ◌+◌, ◌-◌, ◌*◌, ◌^◌, ◌<◌, ◌≤◌, ◌==◌, ◌&&◌, not, nat_lt, nat_le, Bool, true}
 use Rattle.std.specs.Prelude.{if◌then◌else◌, [], ◌∷◌, length, slice_index}
-use Rattle.pm_words.specs.Codes.{free_status, gone_status, ready_state, merge_kind}
+use Rattle.pm_words.specs.Codes.{free_status, gone_status, ready_state, merge_kind, untaken_lock}
 use Rattle.pm_words.specs.declared.layout.Layout.{Layout}
 use Rattle.pm_words.specs.declared.action.Action.{Action}
 use Rattle.pm_words.specs.declared.action.Action.TheVariants.{Load, Store}
@@ -43,7 +43,7 @@ use Rattle.updater.specs.declared.terms.Found.{Found}
 use Rattle.updater.specs.declared.work.Work.{Work}
 use Rattle.updater.specs.declared.work.WorkAt.{WorkAt}
 use Rattle.updater.specs.declared.work.WorkAt.TheVariants as at
-use Rattle.updater.specs.Takings.{updater_address, untaken}
+use Rattle.updater.specs.Takings.{updater_address}
 
 abbrev pub work_from : Layout → ℕ → ℕ → ℕ → Work
 work_from layout generation stamp release = record {
@@ -67,7 +67,7 @@ work_at_asks terms (at.Stamp node) = Load (stamp_address terms.layout node)
 work_at_asks terms (at.Version node) = Load (version_address terms.layout node)
 work_at_asks terms (at.Releasing release) = release_asks release
 work_at_asks terms (at.Counting node none) = Load (status_address terms.layout node)
-work_at_asks terms (at.Leaving none) = Store (updater_address terms.layout) untaken
+work_at_asks terms (at.Leaving none) = Store (updater_address terms.layout) untaken_lock
 
 abbrev pub work_asks : Work → Action
 work_asks work = work_at_asks work.terms work.at

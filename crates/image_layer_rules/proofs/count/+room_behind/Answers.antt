@@ -1,7 +1,7 @@
 use Rattle.std.proofs.Common.{rules, ◌+◌, ◌-◌, ◌<◌, arith}
 use Rattle.tree_law.specs.Words.{reference_of}
 use Rattle.image_layer_rules.specs.Counts.{HasMore, LeavesRoom}
-use Rattle.image_layer_rules.proofs.CellLemmas.{child_read, cell_later, cell_small, goes_on}
+use Rattle.image_layer_rules.proofs.CellLemmas.{child_read, cell_later, cell_small, reads_on}
 use Rattle.image_layer_rules.proofs.WalkLemmas.{to_cell}
 use Rattle.image_layer_rules.proofs.CountLemmas.{room_goes, room_ends, room_left}
 use Rattle.image_layer_rules.proofs.count.+room_behind.Goals as goal
@@ -16,11 +16,9 @@ loop-byte-init t c fuel enough = omega arith
 
 pub room_behind-requires : goal.room_behind-requires
 room_behind-requires t c =
-    let l = c.args.image.now.layout in
-    let image = c.args.image.now.words in
-    let x = c.args.reference in
-    let same = child_read l image x c.read_cell-cell.result c.read_cell-cell.ensures.kind c.read_cell-cell.ensures.words c.loop-byte.byte c.child_of-child.result c.child_of-child.ensures in
-    let on = goes_on c.args.image.now.layout c.args.image.now.words c.args.reference c.if-reference-eq0.false c.if-reference-eq-LEAF.false c.requires.right c.args.least c.cell_word-next.result c.cell_word-next.ensures c.requires.least c.loop-byte.byte c.child_of-child.result same in
+    let on =
+    reads_on c.args.image.now.layout c.args.image.now.words c.args.reference c.if-reference-eq0.false c.if-reference-eq-LEAF.false c.requires.right c.read_cell-cell.result c.read_cell-cell.ensures.kind
+    c.read_cell-cell.ensures.words c.args.least c.cell_word-next.result c.cell_word-next.ensures c.requires.least c.loop-byte.byte c.child_of-child.result c.child_of-child.ensures in
     let later = on.later in
     let measure = c.decreases in
     let less : 24 - (c.cell_word-next.result + 1) < t = omega arith in

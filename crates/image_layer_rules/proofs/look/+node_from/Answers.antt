@@ -4,7 +4,7 @@ use Rattle.tree_law.specs.Trees.{byte_at}
 use Rattle.tree_law.specs.Words.{reference_of}
 use Rattle.tree_floor.proofs.KeyNumbers.{byte_is_of_number}
 use Rattle.image_layer_rules.specs.Faults.{image_tree}
-use Rattle.image_layer_rules.proofs.CellLemmas.{child_read, cell_later, cell_small, goes_on}
+use Rattle.image_layer_rules.proofs.CellLemmas.{child_read, cell_later, cell_small, reads_on}
 use Rattle.image_layer_rules.proofs.WalkLemmas.{to_cell}
 use Rattle.image_layer_rules.proofs.LookLemmas.{leads_on}
 use Rattle.image_layer_rules.proofs.look.+node_from.Goals as goal
@@ -21,11 +21,9 @@ overflow_add-depth t c =
 
 pub node_from-requires : goal.node_from-requires
 node_from-requires t c =
-    let l = c.args.image.now.layout in
-    let image = c.args.image.now.words in
-    let x = c.args.reference in
-    let same = child_read l image x c.read_cell-cell.result c.read_cell-cell.ensures.kind c.read_cell-cell.ensures.words c.key_byte.result c.child_of-child.result c.child_of-child.ensures in
-    let on = goes_on c.args.image.now.layout c.args.image.now.words c.args.reference c.if-reference-eq0.false c.if-reference-eq-LEAF.false c.requires.right c.args.least c.cell_word-depth.result c.cell_word-depth.ensures c.requires.least c.key_byte.result c.child_of-child.result same in
+    let on =
+    reads_on c.args.image.now.layout c.args.image.now.words c.args.reference c.if-reference-eq0.false c.if-reference-eq-LEAF.false c.requires.right c.read_cell-cell.result c.read_cell-cell.ensures.kind
+    c.read_cell-cell.ensures.words c.args.least c.cell_word-depth.result c.cell_word-depth.ensures c.requires.least c.key_byte.result c.child_of-child.result c.child_of-child.ensures in
     let later = on.later in
     let measure = c.decreases in
     let less : 24 - (c.cell_word-depth.result + 1) < t = omega arith in

@@ -3,7 +3,7 @@ use Rattle.std.proofs.lemmas.Bool.{cases_eq, false≢true}
 use Rattle.tree_law.specs.Words.{number_of, reference_of}
 use Rattle.image_layer_rules.specs.Faults.{image_tree}
 use Rattle.image_layer_rules.specs.Covers.{IsStrayFrom}
-use Rattle.image_layer_rules.proofs.CellLemmas.{child_read, cell_right, cell_small, goes_on}
+use Rattle.image_layer_rules.proofs.CellLemmas.{child_read, cell_right, cell_small, reads_on}
 use Rattle.image_layer_rules.proofs.WalkLemmas.{to_leaf, to_cell}
 use Rattle.image_layer_rules.proofs.StrayLemmas.{stray_here, stray_only, stray_below, none_stray_below}
 use Rattle.image_layer_rules.proofs.stray.+is_stray_from.Goals as goal
@@ -24,11 +24,9 @@ overflow_add-next t c =
 
 pub is_stray_from-requires : goal.is_stray_from-requires
 is_stray_from-requires t c =
-    let l = c.args.image.now.layout in
-    let image = c.args.image.now.words in
-    let x = c.args.reference in
-    let same = child_read l image x c.read_cell-cell.result c.read_cell-cell.ensures.kind c.read_cell-cell.ensures.words c.loop-byte.byte c.child_of-child.result c.child_of-child.ensures in
-    let on = goes_on c.args.image.now.layout c.args.image.now.words c.args.reference c.if-reference-eq0.false c.if-reference-eq-LEAF.false c.requires.right c.args.least c.cell_word-next.result c.cell_word-next.ensures c.requires.least c.loop-byte.byte c.child_of-child.result same in
+    let on =
+    reads_on c.args.image.now.layout c.args.image.now.words c.args.reference c.if-reference-eq0.false c.if-reference-eq-LEAF.false c.requires.right c.read_cell-cell.result c.read_cell-cell.ensures.kind
+    c.read_cell-cell.ensures.words c.args.least c.cell_word-next.result c.cell_word-next.ensures c.requires.least c.loop-byte.byte c.child_of-child.result c.child_of-child.ensures in
     let later = on.later in
     let measure = c.decreases in
     let less : 24 - (c.cell_word-next.result + 1) < t = omega arith in

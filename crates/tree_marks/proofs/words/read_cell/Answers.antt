@@ -1,38 +1,23 @@
-use Rattle.std.proofs.Common.{◌≡◌, ℕ, List, length, length-set, slice_index, slice_set, inl, inr, sym, ap, ◌∙◌, arith}
-use Rattle.std.proofs.lemmas.Bool.{cases_eq, cases_lt}
-use Rattle.std.proofs.lemmas.List.{get_or-set_same, get_or-set_other, length-replicate}
-use Rattle.tree_row.specs.Rows.{layer_words}
-use Rattle.pm_words.specs.Locations.{Cached}
-use Rattle.tree_law.specs.Words.{cell_in}
-use Rattle.tree_marks.proofs.ReadLemmas.{cell_ends, zeros}
+use Rattle.std.proofs.Common.{inl, inr, sym, ◌∙◌, arith}
+use Rattle.std.proofs.lemmas.Bool.{cases_lt}
+use Rattle.pm_words.specs.Locations.{Cached, at}
+use Rattle.tree_law.specs.Words.{CellWord, kind_of, number_of, cell_in}
+use Rattle.tree_row.specs.Rows.{image_word, layer_words}
+use Rattle.tree_row.proofs.RowLaw.{cell_ends}
+use Rattle.radix_nodes.proofs.Heads.{copied_start, copied_on}
 use Rattle.tree_marks.proofs.words.read_cell.Goals as goal
 
 pub loop-at-init : goal.loop-at-init
-loop-at-init c = record {
-  whole = ap length c.no_words-words.ensures ∙ length-replicate {A = ℕ} 264 0;
-  before = λ o lt. absurd (omega arith);
-  behind = λ o le. ap (λ (w : List ℕ). slice_index w o) c.no_words-words.ensures ∙ zeros 264 o;
-}
+loop-at-init c = copied_start (cell_in (layer_words c.args.memory.now.layout c.args.memory.now.words Cached) c.args.reference) c.no_words-words.result c.no_words-words.ensures
 
 pub loop-at-preserved : goal.loop-at-preserved
 loop-at-preserved c =
-    let words = c.loop-at.words in
-    let at = c.loop-at.at in
-    let inv = c.loop-at.invariant in
-    let whole : length words ≡ 264 = inv.whole in
-    record {
-      whole = length-set words at c.cell_word.result ∙ whole;
-      before = λ o lt. elim (cases_eq o at) [
-        | inl same ↦
-            ap (slice_index (slice_set words at c.cell_word.result)) same ∙ get_or-set_same words at c.cell_word.result 0 (omega arith) ∙ c.cell_word.ensures
-            ∙ ap (cell_in (layer_words c.args.memory.now.layout c.args.memory.now.words Cached) c.args.reference) (sym same)
-        | inr apart ↦ get_or-set_other words at o c.cell_word.result 0 apart ∙ inv.before o (omega (arith, apart))
-      ];
-      behind = λ o le. get_or-set_other words at o c.cell_word.result 0 (λ e. omega arith) ∙ inv.behind o (omega arith);
-    }
+    copied_on (cell_in (layer_words c.args.memory.now.layout c.args.memory.now.words Cached) c.args.reference) c.loop-at.words c.loop-at.at c.cell_word.result (omega arith)
+    c.cell_word.ensures c.loop-at.invariant
 
 pub returns-clause-words : goal.returns-clause-words
 returns-clause-words c o = elim (cases_lt o 264) [
-  | inl lt ↦ c.loop-at.invariant.before o (omega arith)
-  | inr le ↦ c.loop-at.invariant.behind o (omega arith) ∙ sym (cell_ends c.args.memory.now.layout c.args.memory.now.words c.args.reference o le)
+  | inl lt ↦ c.loop-at.invariant.1 o (omega arith)
+  | inr le ↦ c.loop-at.invariant.2 o (omega arith)
+      ∙ sym (cell_ends c.args.memory.now.layout (kind_of c.args.reference) (number_of c.args.reference) o (at c.args.memory.now.layout c.args.memory.now.words (Cached (image_word (CellWord (kind_of c.args.reference) (number_of c.args.reference) o)))) le)
 ]

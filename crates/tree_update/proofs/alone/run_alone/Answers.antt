@@ -1,9 +1,9 @@
-use Rattle.std.proofs.Common.{◌≡◌, ◌<◌, ◌≤◌, ◌+◌, ℕ, List, refl, sym, subst, ap, ◌∙◌, arith}
+use Rattle.std.proofs.Common.{◌≡◌, ◌<◌, ◌≤◌, ◌+◌, ℕ, List, refl, sym, subst, ◌∙◌, arith}
 use Rattle.pm_words.specs.declared.layout.Layout.{Layout}
 use Rattle.pm_words.specs.declared.machine.Turn.TheVariants.{Go, Done}
 use Rattle.pm_words.specs.Rows.{CanAct, got, acted}
 use Rattle.layer_map.specs.Layers.{node_of}
-use Rattle.tree_update.proofs.Doing.{told_by, words_by, layout_by}
+use Rattle.tree_update.proofs.Doing.{turned_by, words_by, layout_by}
 use Rattle.layer_map.specs.Keys.{key_number}
 use Rattle.tree_update.specs.Changes.{change_asks, change_turned, change_left, change_most}
 use Rattle.tree_update.specs.Kinds.{KeepsOthers}
@@ -45,9 +45,8 @@ turns-preserved g c =
     let change = c.turns.change in
     let row = c.turns.memory in
     let on = c.turns.invariant.on in
-    let told = told_by l row (change_asks change) c.action.result c.act-got.result c.turns.invariant.layout c.action.ensures c.act-got.ensures.got in
     let is : change_turned change (got l row.words (change_asks change)) ≡ Go c.in-Go.next =
-    ap (λ (n : ℕ). change_turned change n) (sym told) ∙ sym c.resume.ensures.turned ∙ c.in-Go.is in
+    turned_by (change_turned change) l row (change_asks change) c.action.result c.act-got.result c.turns.invariant.layout c.action.ensures c.act-got.ensures.got c.resume.ensures.turned c.in-Go.is in
     let next = goes_on l before (aim_of c.args.change) c.requires.rooted change c.in-Go.next row.words on is in
     let after = words_by l row c.act-got.new.self (change_asks change) c.action.result c.turns.invariant.layout c.action.ensures c.act-got.ensures.row in
     let fewer : change_left c.in-Go.next < change_left change = c.in-Go.ensures.fewer in
@@ -68,9 +67,8 @@ returns-in-Done-clause-changed g c =
     let change = c.turns.change in
     let row = c.turns.memory in
     let on = c.turns.invariant.on in
-    let told = told_by l row (change_asks change) c.action.result c.act-got.result c.turns.invariant.layout c.action.ensures c.act-got.ensures.got in
     let is : change_turned change (got l row.words (change_asks change)) ≡ Done c.in-Done.field-0 =
-    ap (λ (n : ℕ). change_turned change n) (sym told) ∙ sym c.resume.ensures.turned ∙ c.in-Done.is in
+    turned_by (change_turned change) l row (change_asks change) c.action.result c.act-got.result c.turns.invariant.layout c.action.ensures c.act-got.ensures.got c.resume.ensures.turned c.in-Done.is in
     let end = ends_on l before (aim_of c.args.change) c.requires.rooted c.requires.few change row.words c.in-Done.field-0 on is in
     let after = words_by l row c.act-got.new.self (change_asks change) c.action.result c.turns.invariant.layout c.action.ensures c.act-got.ensures.row in
     subst (λ (ws : List ℕ). IsChanged l (key_number c.args.change.key) (node_of c.args.change.word) words ws) (sym after)

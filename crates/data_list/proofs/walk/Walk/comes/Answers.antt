@@ -9,7 +9,7 @@ use Rattle.data_list.specs.declared.walk.Walk.{Walk}
 use Rattle.data_list.specs.declared.walk.WalkAt.TheVariants as at
 use Rattle.data_list.specs.Walks.{walk_asks, walk_turned, walk_left, walk_takes}
 use Rattle.data_list.proofs.Loading.{hop_fewer}
-use Rattle.data_list.proofs.Arriving.{walk_is, walk_can, load_bursts, goes_on, goes_may, version_free, version_taken}
+use Rattle.data_list.proofs.Arriving.{walk_is, walk_can, goes_on, goes_may, version_taken, version_bursts, free_bursts}
 use Rattle.data_list.proofs.Arriving.{hop_begins}
 use Rattle.data_list.proofs.walk.Walk.comes.Goals as goal
 
@@ -37,39 +37,33 @@ pub returns-then-not-is_free : goal.returns-then-not-is_free
 returns-then-not-is_free g c =
     burst_behind c.hops.invariant
     (same_bursts refl
-    (load_bursts c.hops.self at.Version (run_may walk_takes c.requires.may c.hops.invariant)
-    (ap (λ (a : ℕ). Load a) {y = version_address c.hops.self.layout c.hops.self.node} c.address.ensures) c.act-version.ensures.row c.act-version.ensures.got
-    c.act-version.ensures.tick)
+    (version_bursts c.hops.self (run_may walk_takes c.requires.may c.hops.invariant) c.address.ensures
+    c.act-version.ensures.row c.act-version.ensures.got c.act-version.ensures.tick)
     (version_taken c.hops.self c.act-version.result c.is_free.result c.is_free.ensures c.if-not-is_free.true))
 
 pub leads-requires : goal.leads-requires
-leads-requires g c = (
-  c.act-version.result,
-  goes_may c.hops.self at.Version (at.Status c.act-version.result)
-      (run_may walk_takes c.requires.may c.hops.invariant)
-      (load_bursts c.hops.self at.Version (run_may walk_takes c.requires.may c.hops.invariant)
-      (ap (λ (a : ℕ). Load a) {y = version_address c.hops.self.layout c.hops.self.node} c.address.ensures) c.act-version.ensures.row c.act-version.ensures.got
-      c.act-version.ensures.tick)
-      (version_free c.hops.self c.act-version.result c.is_free.result c.is_free.ensures c.if-not-is_free.false),
-)
+leads-requires g c =
+    let may = run_may walk_takes c.requires.may c.hops.invariant in
+    let loads =
+    free_bursts c.hops.self (run_may walk_takes c.requires.may c.hops.invariant) c.address.ensures c.act-version.ensures.row
+    c.act-version.ensures.got c.act-version.ensures.tick c.is_free.result c.is_free.ensures c.if-not-is_free.false in
+    (c.act-version.result, goes_may c.hops.self at.Version (at.Status c.act-version.result) may loads refl)
 
 pub returns-in_default : goal.returns-in_default
 returns-in_default g c =
     let may = run_may walk_takes c.requires.may c.hops.invariant in
     let loads =
-    load_bursts c.hops.self at.Version may (ap (λ (a : ℕ). Load a) {y = version_address c.hops.self.layout c.hops.self.node} c.address.ensures) c.act-version.ensures.row
-    c.act-version.ensures.got c.act-version.ensures.tick in
-    let on =
-    version_free c.hops.self c.act-version.result c.is_free.result c.is_free.ensures c.if-not-is_free.false in
+    free_bursts c.hops.self (run_may walk_takes c.requires.may c.hops.invariant) c.address.ensures c.act-version.ensures.row
+    c.act-version.ensures.got c.act-version.ensures.tick c.is_free.result c.is_free.ensures c.if-not-is_free.false in
     let here =
     c.in_default.ensures c.act-version.result
-    (goes_may c.hops.self at.Version (at.Status c.act-version.result) may loads on) in
+    (goes_may c.hops.self at.Version (at.Status c.act-version.result) may loads refl) in
     record {
       target = here.target;
       here = here.here;
       burst =
           burst_behind c.hops.invariant
-          (goes_on c.hops.self at.Version (at.Status c.act-version.result) loads on here.burst);
+          (goes_on c.hops.self at.Version (at.Status c.act-version.result) loads refl here.burst);
     }
 
 pub hops_on-requires-clause-layout : goal.hops_on-requires-clause-layout
@@ -89,30 +83,26 @@ pub hops-preserved : goal.hops-preserved
 hops-preserved g c =
     let may = run_may walk_takes c.requires.may c.hops.invariant in
     let loads =
-    load_bursts c.hops.self at.Version may (ap (λ (a : ℕ). Load a) {y = version_address c.hops.self.layout c.hops.self.node} c.address.ensures) c.act-version.ensures.row
-    c.act-version.ensures.got c.act-version.ensures.tick in
-    let on =
-    version_free c.hops.self c.act-version.result c.is_free.result c.is_free.ensures c.if-not-is_free.false in
+    free_bursts c.hops.self (run_may walk_takes c.requires.may c.hops.invariant) c.address.ensures c.act-version.ensures.row
+    c.act-version.ensures.got c.act-version.ensures.tick c.is_free.result c.is_free.ensures c.if-not-is_free.false in
     burst_goes
     (burst_behind c.hops.invariant
-    (goes_on c.hops.self at.Version (at.Status c.act-version.result) loads on
+    (goes_on c.hops.self at.Version (at.Status c.act-version.result) loads refl
     (c.in-Some.ensures c.act-version.result
-    (goes_may c.hops.self at.Version (at.Status c.act-version.result) may loads on))))
+    (goes_may c.hops.self at.Version (at.Status c.act-version.result) may loads refl))))
     (hop_begins c.hops.self c.hops_on.new.self c.in-Some.to c.in_ok-hops_on.ensures)
 
 pub returns-in_err-hops_on : goal.returns-in_err-hops_on
 returns-in_err-hops_on g c =
     let may = run_may walk_takes c.requires.may c.hops.invariant in
     let loads =
-    load_bursts c.hops.self at.Version may (ap (λ (a : ℕ). Load a) {y = version_address c.hops.self.layout c.hops.self.node} c.address.ensures) c.act-version.ensures.row
-    c.act-version.ensures.got c.act-version.ensures.tick in
-    let on =
-    version_free c.hops.self c.act-version.result c.is_free.result c.is_free.ensures c.if-not-is_free.false in
+    free_bursts c.hops.self (run_may walk_takes c.requires.may c.hops.invariant) c.address.ensures c.act-version.ensures.row
+    c.act-version.ensures.got c.act-version.ensures.tick c.is_free.result c.is_free.ensures c.if-not-is_free.false in
     let p = err_from_is_err_and c.from_residual.result c.from_residual.ensures.1 in
     rw (p.1, p.2)
     (burst_behind c.hops.invariant
     (same_bursts refl
-    (goes_on c.hops.self at.Version (at.Status c.act-version.result) loads on
+    (goes_on c.hops.self at.Version (at.Status c.act-version.result) loads refl
     (c.in-Some.ensures c.act-version.result
-    (goes_may c.hops.self at.Version (at.Status c.act-version.result) may loads on)))
+    (goes_may c.hops.self at.Version (at.Status c.act-version.result) may loads refl)))
     c.in_err-hops_on.ensures))

@@ -1,9 +1,7 @@
-use Rattle.std.proofs.Common.{Bool, cond, ap, sym, ◌∙◌}
 use Rattle.machine_runs.proofs.Inside.{same_bursts}
 use Rattle.std.proofs.Common.{refl, Some}
 use Rattle.data_list.specs.declared.walk.WalkAt.TheVariants as at
-use Rattle.data_list.specs.Walks.{target, hops_to}
-use Rattle.data_list.proofs.Arriving.{walk_is, high_within, high_bursts, arrives}
+use Rattle.data_list.proofs.Arriving.{walk_is, high_within, high_bursts, high_above, high_below, arrives}
 use Rattle.data_list.proofs.walk.Walk.passes.Goals as goal
 
 pub loads_anchor-high-requires-clause-layout : goal.loads_anchor-high-requires-clause-layout
@@ -28,17 +26,13 @@ returns-then-is_below g c version low may =
     }))
     (high_bursts c.args.self.now version low c.args.next may c.loads_anchor-high.ensures.row
     c.loads_anchor-high.ensures.anchor c.loads_anchor-high.ensures.steps)
-    (ap (λ (b : Bool). cond b (target c.args.self.now version low (Some (record {
-      node = c.args.next;
-      anchor = c.loads_anchor-high.result;
-    }))) (hops_to c.args.self.now c.args.next)) (sym c.is_below.ensures ∙ c.if-is_below.true))
+    (high_above c.args.self.now version low c.args.next c.loads_anchor-high.result c.is_below.result c.is_below.ensures
+    c.if-is_below.true)
 
 pub returns : goal.returns
 returns g c version low may =
     same_bursts refl
     (high_bursts c.args.self.now version low c.args.next may c.loads_anchor-high.ensures.row
     c.loads_anchor-high.ensures.anchor c.loads_anchor-high.ensures.steps)
-    (ap (λ (b : Bool). cond b (target c.args.self.now version low (Some (record {
-      node = c.args.next;
-      anchor = c.loads_anchor-high.result;
-    }))) (hops_to c.args.self.now c.args.next)) (sym c.is_below.ensures ∙ c.if-is_below.false))
+    (high_below c.args.self.now version low c.args.next c.loads_anchor-high.result c.is_below.result c.is_below.ensures
+    c.if-is_below.false)

@@ -1,14 +1,12 @@
-use Rattle.std.proofs.Common.{ℕ, ap, sym, refl, ◌∙◌, arith}
-use Rattle.pm_words.specs.declared.action.Action.TheVariants.{Load}
-use Rattle.pm_words.specs.Locations.{Cell, word_number, cached_address}
+use Rattle.std.proofs.Common.{ap, sym, refl, arith}
 use Rattle.machine_runs.proofs.Running.{run_may, burst_behind}
 use Rattle.machine_runs.proofs.Inside.{same_bursts}
-use Rattle.tree_row.specs.tree_law.specs.Words.{kind_of, number_of}
+use Rattle.tree_row.specs.tree_law.specs.Words.{kind_of}
 use Rattle.tree_floor.specs.declared.floor.FloorAt.TheVariants as at
 use Rattle.tree_floor.specs.declared.scan.Scanned.{Scanned}
 use Rattle.tree_floor.specs.Floors.{floor_takes, has_scanned}
 use Rattle.tree_floor.proofs.FloorLoads.{scan_within}
-use Rattle.tree_floor.proofs.FloorReading.{floor_is, floor_can, load_bursts}
+use Rattle.tree_floor.proofs.FloorReading.{floor_is, floor_can, load_bursts, cell_address}
 use Rattle.tree_floor.proofs.floor.Floor.seeks.Goals as goal
 
 pub offset-requires-clause-scan : goal.offset-requires-clause-scan
@@ -51,12 +49,8 @@ act-got-requires g c =
     floor_can c.skims-scan.new.memory c.args.self.now
     (at.Scanning c.args.cell c.requires.0 c.args.byte c.skims-scan.result)
     (run_may floor_takes c.requires.1 (c.skims-scan.ensures c.requires.0 c.requires.1))
-    (ap (λ (a : ℕ). Load a)
-    (c.cached.ensures.address
-    ∙ ap (λ (w : ℕ). cached_address c.args.self.now.layout w)
-    (c.word_of-word.ensures.word
-    ∙ ap (λ (o : ℕ). word_number c.args.self.now.layout (Cell (kind_of c.args.cell) (number_of c.args.cell) o))
-    c.offset.ensures)))
+    (cell_address c.args.self.now.layout c.args.cell _ c.offset.result c.word_of-word.result c.cached.result c.offset.ensures
+    c.word_of-word.ensures.word c.cached.ensures.address)
 
 pub told-requires-clause-scan : goal.told-requires-clause-scan
 told-requires-clause-scan g c =
@@ -75,11 +69,7 @@ returns g c depth may =
     (same_bursts refl
     (load_bursts c.args.self.now (at.Scanning c.args.cell depth c.args.byte c.skims-scan.result)
     (run_may floor_takes may (c.skims-scan.ensures depth may))
-    (ap (λ (a : ℕ). Load a)
-    (c.cached.ensures.address
-    ∙ ap (λ (w : ℕ). cached_address c.args.self.now.layout w)
-    (c.word_of-word.ensures.word
-    ∙ ap (λ (o : ℕ). word_number c.args.self.now.layout (Cell (kind_of c.args.cell) (number_of c.args.cell) o))
-    c.offset.ensures)))
+    (cell_address c.args.self.now.layout c.args.cell _ c.offset.result c.word_of-word.result c.cached.result c.offset.ensures
+    c.word_of-word.ensures.word c.cached.ensures.address)
     c.act-got.ensures.row c.act-got.ensures.got c.act-got.ensures.tick)
     (ap (λ (s : Scanned). has_scanned c.args.self.now c.args.cell depth c.args.byte s) (sym c.told.ensures)))
