@@ -5,6 +5,7 @@ use mathlib.Core.Option.{some}
 use lib.ListN.{get_elem?}
 use Rattle.pm_words.specs.declared.layout.Layout.{Layout}
 use Rattle.pm_words.specs.declared.machine.Turn.TheVariants.{Go, Done}
+use Rattle.pm_words.specs.Codes.{untaken_lock}
 use Rattle.call_stages.specs.Stages.{Filling, Splits}
 use Rattle.split_merge.specs.SplitLaws.{IsSplitOfFull}
 use Rattle.node_ops.specs.declared.running.Running.{Running}
@@ -32,7 +33,6 @@ use Rattle.updater.specs.declared.work.WorkAt.{WorkAt}
 use Rattle.updater.specs.declared.work.WorkAt.TheVariants as at
 use Rattle.updater.specs.Makings.{making_terms, making_turned, making_turning, worked}
 use Rattle.updater.specs.Steps.{work_at_stage}
-use Rattle.updater.specs.Takings.{untaken}
 use Rattle.updater.specs.Works.{work_from, work_at_turned}
 use Rattle.index_core.specs.declared.party.PartyState.{PartyState}
 use Rattle.index_core.specs.PartyStates.{machine_stage, party_of}
@@ -79,7 +79,7 @@ work_ends work (at.Counting node none) x finds = absurd finds
 work_ends work (at.Leaving none) x finds = ap (Counts work.terms.layout.nodes) finds
 
 pub ends_counting : (making : MakeTurn) (x : ℕ) → FindsNoneFree (making_turned making x) → (making_turning making).stage ≡ Counts (making_terms making).layout.nodes true
-ends_counting (Taking terms) x finds = absurd (elim (x == untaken) as (λ b. FindsNoneFree (cond b (Go (Working (work_from terms.layout terms.generation terms.stamp terms.release))) (Done (reply.Held x))) → ⊥) [
+ends_counting (Taking terms) x finds = absurd (elim (x == untaken_lock) as (λ b. FindsNoneFree (cond b (Go (Working (work_from terms.layout terms.generation terms.stamp terms.release))) (Done (reply.Held x))) → ⊥) [
   | true ↦ λ none. none
   | false ↦ λ none. none
 ] finds)

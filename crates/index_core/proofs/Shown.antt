@@ -12,6 +12,7 @@ use Rattle.call_stages.specs.AnySteps.{AnyStep, on_nodes, beside}
 use Rattle.index_law.proofs.Moves.{read_before}
 use Rattle.call_stages.specs.Kinds.{IsClean, Look, turns_back, is_worn, wears, roams, roams_status, sees, misses, misses_read, times, learns, decides, glances, reads_on, finds_live, watches, watches_next, turns_away, steps_back, wanders, fills, lights, switches, glances_left, glances_fresh, drains_left, drains_fresh, trims, splits, meets, knows_own, knows_right, copies, takes_up, puts_down, parts, gathers, joins, glances_joined, drains_joined, retires, yields, merges, peeks, peeks_status, eyes, eyes_free, passes, loses, claims, publishes, leaves, Answers, writes, reads, is_spent, has_no_room, refuses, Step, looks, locks, locks_read, stores, commits, drains, counts, unlocks}
 use Rattle.index_law.specs.Weights.{AddsName}
+use Rattle.index_law.proofs.Loose.{each_loose}
 use Rattle.index_core.specs.MachineLaws.{shown_by, shows}
 
 -- one where a call is answered that its name wasn't there
@@ -68,16 +69,7 @@ pending_shows (Some None) None placed = omega arith
 
 -- a stage that holds no node shows nothing
 loose_shows : (s : Stage) → IsLoose s → shows s ≡ 0
-loose_shows Idle loose = refl
-loose_shows (Saw n v w k) loose = refl
-loose_shows (Wears n v) loose = refl
-loose_shows (Reads n v sight told) loose = refl
-loose_shows (Holds n w h) loose = absurd loose
-loose_shows (Eyes n w h m v u free) loose = absurd loose
-loose_shows (Splits left fresh phase) loose = refl
-loose_shows (Leaves left) loose = refl
-loose_shows (Meets n w h right) loose = absurd loose
-loose_shows (Joins h left right pace) loose = absurd loose
+loose_shows = each_loose (λ s. shows s ≡ 0) refl (λ n v w k. refl) (λ n v. refl) (λ n v sight told. refl)
 
 written_shows : (old : Option ℕ) (place hops : ℕ) → shown_by (Some old) None (Some place) ≡ told_new (Some (once.Done (record { old = old; place = place; hops = hops })))
 written_shows None place hops = refl

@@ -4,7 +4,7 @@ use Rattle.std.proofs.Common.{refl, sym, ap, ◌∙◌, subst, arith}
 use Rattle.std.specs.Prelude.{Option, Some, IfSome}
 use mathlib.Core.Option.{some}
 use lib.ListN.{get_elem?, length-set}
-use Rattle.pm_words.specs.Codes.{gone_status, free_status}
+use Rattle.pm_words.specs.Codes.{gone_status, free_status, untaken_lock}
 use Rattle.pm_words.specs.declared.layout.Layout.{Layout}
 use Rattle.pm_words.specs.declared.action.Action.{Action}
 use Rattle.pm_words.specs.declared.machine.Turn.{Turn}
@@ -33,7 +33,6 @@ use Rattle.updater.specs.declared.making.MakeTurn.{MakeTurn}
 use Rattle.updater.specs.declared.making.MakeTurn.TheVariants.{Taking, Working}
 use Rattle.updater.specs.declared.making.TurnReply.{TurnReply}
 use Rattle.updater.specs.declared.terms.Terms.{Terms}
-use Rattle.updater.specs.Takings.{untaken}
 use Rattle.updater.specs.Works.{work_from}
 use Rattle.updater.specs.Steps.{row_terms}
 use Rattle.updater.specs.Watches.{turning_at}
@@ -301,7 +300,7 @@ terms_may_be_set s i state a b stamp release is there turns some_stamp fits =
     let old : MakeTurn = Working (work_from s.layout s.generation a b) in
     let making : MakeTurn = Working (work_from s.layout s.generation stamp release) in
     let terms : Terms = record { layout = s.layout; generation = s.generation; stamp = stamp; release = release } in
-    let sound = makings_stay_sound (Taking terms) untaken (record { layout = is.lawful.row.layout; stamp = some_stamp }, omega arith) in
+    let sound = makings_stay_sound (Taking terms) untaken_lock (record { layout = is.lawful.row.layout; stamp = some_stamp }, omega arith) in
     let at_turn : get_elem? (layered s).turns i ≡ some (making_turning old) = map_there turn_of s.states i state there ∙ ap (λ (o : Option MakeTurn). some (turning_of o)) turns in
     let weight = ap (λ (ps : List Party). weight_sum (record (world s) { parties = ps })) (parties_same s i state (Some making) there) in
     record {

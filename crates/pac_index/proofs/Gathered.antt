@@ -8,7 +8,9 @@ use lib.ListN.{get_elem?, length-set}
 use Rattle.cat_history.specs.declared.op.Write.{Write}
 use Rattle.index_core.specs.declared.party.PartyState.{PartyState}
 use Rattle.index_core.specs.MachineLaws.{AreIdle}
-use Rattle.index_core.proofs.Lists.{some_same, map_from, map_there, at_end, end_there, there_is, within}
+use Rattle.index_core.proofs.Lists.{some_same, map_from, map_there, there_is, within}
+use Rattle.epochs.proofs.Lists.{each_end, at_longer}
+pub use Rattle.epochs.proofs.Lists.{last_there}
 use Rattle.pac_index.specs.declared.caller.Caller.{Caller}
 use Rattle.pac_index.specs.declared.caller.CutCall.{CutCall}
 use Rattle.pac_index.specs.declared.caller.PlacedWrite.{PlacedWrite}
@@ -42,11 +44,6 @@ module _ {A : Type 0} where
   take_all [] (suc n) same = absurd (omega arith)
   take_all (x ∷ xs) zero same = absurd (omega arith)
   take_all (x ∷ xs) (suc n) same = ap (λ (t : List A). x ∷ t) (take_all xs n (omega arith))
-
-  pub at_front : (l m : List A) (i : ℕ) (a : A) → get_elem? l i ≡ some a → get_elem? (l ++ m) i ≡ some a
-  at_front [] m i a at = absurd (some-ne-none a (sym at))
-  at_front (x ∷ xs) m zero a at = at
-  at_front (x ∷ xs) m (suc i) a at = at_front xs m i a at
 
   pub at_back : (l m : List A) (i : ℕ) (a : A) → get_elem? m i ≡ some a → (k : ℕ) × (get_elem? (l ++ m) k ≡ some a)
   at_back [] m i a at = (i, at)
@@ -98,7 +95,7 @@ kept_from (c ∷ cs) k p at = ⊎_elim
 
 pub kept_there : (callers : List Caller) (i : ℕ) (c : Caller) (j : ℕ) (p : PlacedWrite) → get_elem? callers i ≡ some c → get_elem? c.kept.items j ≡ some p → (k : ℕ) × (get_elem? (kept_by callers) k ≡ some p)
 kept_there [] i c j p at there = absurd (some-ne-none c (sym at))
-kept_there (x ∷ xs) zero c j p at there = let same : x ≡ c = some-injective x c at in (j, at_front x.kept.items (kept_by xs) j p (ap (λ (d : Caller). get_elem? d.kept.items j) same ∙ there))
+kept_there (x ∷ xs) zero c j p at there = let same : x ≡ c = some-injective x c at in (j, at_longer x.kept.items (kept_by xs) j p (ap (λ (d : Caller). get_elem? d.kept.items j) same ∙ there))
 kept_there (x ∷ xs) (suc i) c j p at there = let behind = kept_there xs i c j p at there in at_back x.kept.items (kept_by xs) behind.0 p behind.1
 
 -- where each caller has kept its writes of a history, and each write is of a caller, all that they have kept are its writes
@@ -159,16 +156,12 @@ idle_more es n e are caller idle turn recheck since =
     let count = are.count in
     record {
       count = omega arith;
-      numbers = λ i d at. ⊎_elim (λ (old : get_elem? es i ≡ some d). are.numbers i d old) (λ (last : (i ≡ length es) × (e ≡ d)). ap (λ (x : PartyState). x.caller) (sym last.1) ∙ caller ∙ sym count ∙ sym last.0) (at_end es e d i at);
-      idle = λ i d at. ⊎_elim (λ (old : get_elem? es i ≡ some d). are.idle i d old) (λ (last : (i ≡ length es) × (e ≡ d)). ap (λ (x : PartyState). x.machine) (sym last.1) ∙ idle) (at_end es e d i at);
-      resting = λ i d at. ⊎_elim (λ (old : get_elem? es i ≡ some d). are.resting i d old) (λ (last : (i ≡ length es) × (e ≡ d)). ap (λ (x : PartyState). x.turn) (sym last.1) ∙ turn) (at_end es e d i at);
-      unchecked = λ i d at. ⊎_elim (λ (old : get_elem? es i ≡ some d). are.unchecked i d old) (λ (last : (i ≡ length es) × (e ≡ d)). ap (λ (x : PartyState). x.recheck) (sym last.1) ∙ recheck) (at_end es e d i at);
-      begun = λ i d at. ⊎_elim (λ (old : get_elem? es i ≡ some d). are.begun i d old) (λ (last : (i ≡ length es) × (e ≡ d)). ap (λ (x : PartyState). x.since) (sym last.1) ∙ since) (at_end es e d i at);
+      numbers = each_end (λ i d. d.caller ≡ i) es e are.numbers (caller ∙ sym count);
+      idle = each_end (λ _ d. d.machine ≡ None) es e are.idle idle;
+      resting = each_end (λ _ d. d.turn ≡ None) es e are.resting turn;
+      unchecked = each_end (λ _ d. d.recheck ≡ None) es e are.unchecked recheck;
+      begun = each_end (λ _ d. d.since ≡ 0) es e are.begun since;
     }
-
--- the last of a list stands in the longer one at the length of those before
-pub last_there : (front : List Caller) (c : Caller) (rest items all : List Caller) → items ≡ front ++ c ∷ [] → items ++ rest ≡ all → get_elem? all (length front) ≡ some c
-last_there front c rest items all is whole = subst (λ (l : List Caller). get_elem? l (length front) ≡ some c) whole (at_front items rest (length front) c (subst (λ (l : List Caller). get_elem? l (length front) ≡ some c) (sym is) (end_there front c)))
 
 -- Of the kept writes the first so many stand at their places in a list as long as the history.
 pub record Filled (kept : List PlacedWrite) (n : ℕ) (h items : List Write) : Type 0 where

@@ -1,12 +1,11 @@
 -- Callers as they are made.
-use Rattle.std.proofs.Common.{◌≡◌, ℕ, zero, suc, ◌+◌, ◌<◌, ⊎_elim, inl, List, [], ◌∷◌, ◌++◌, drop, take, get_or, length, refl, sym, ap, ◌∙◌, subst, arith}
+use Rattle.std.proofs.Common.{◌≡◌, ℕ, zero, suc, ◌+◌, ◌<◌, inl, false, List, [], ◌∷◌, ◌++◌, drop, take, get_or, length, refl, sym, ap, ◌∙◌, subst, arith}
 use Rattle.std.proofs.lemmas.List.{length-append}
 use Rattle.std.specs.Prelude.{None}
 use mathlib.Core.Option.{some}
 use lib.ListN.{get_elem?}
 use Rattle.index_core.specs.PartyStates.{idle_state}
 use Rattle.index_core.specs.Indexes.{parties_of}
-use Rattle.index_core.proofs.Lists.{at_end, end_there}
 use Rattle.atomic_table.specs.Table.{Me}
 use Rattle.pac_index.specs.declared.rule.Member.{Member}
 use Rattle.pac_index.specs.declared.caller.Caller.{Caller}
@@ -16,8 +15,8 @@ use Rattle.pac_index.proofs.Remaining.{rests_tells}
 use Rattle.pac_index.specs.Callers.{IsAtRest, IsCallerOf, HasCallers, AreNew, seen_by, pairs}
 use Rattle.epochs.specs.declared.seat.EpochSeat.{EpochSeat}
 use Rattle.epochs.specs.Seats.{IsSeatOf, IsUnpinned}
+use Rattle.epochs.proofs.Lists.{each_end, at_longer, at_last}
 use Rattle.pac_index.proofs.Seats.{next_first}
-use Rattle.pac_index.proofs.Gathered.{at_front}
 
 -- a seat of one party
 pub party_is : (me : Me (Unit {0}) (List Member)) (m : Member) → me ≡ (m ∷ [], []) → party me ≡ m
@@ -73,26 +72,18 @@ handed s i callers c less has fresh table me number index left cut kept pins unp
     let count = has.count in (
       record {
         count = omega arith;
-        each = λ j d at. ⊎_elim
-            (λ (before : get_elem? callers j ≡ some d). has.each j d before)
-            (λ (last : (j ≡ length callers) × (c ≡ d)). subst (IsCallerOf s) last.1 one)
-            (at_end callers c d j at);
-        numbers = λ j d at. ⊎_elim
-            (λ (before : get_elem? callers j ≡ some d). has.numbers j d before)
-            (λ (last : (j ≡ length callers) × (c ≡ d)). ap (λ (x : Caller). x.number) (sym last.1) ∙ number ∙ sym count ∙ sym last.0)
-            (at_end callers c d j at);
+        each = each_end (λ _. IsCallerOf s) callers c has.each one;
+        numbers = each_end (λ j d. d.number ≡ j) callers c has.numbers (number ∙ sym count);
       },
-      (λ j d at. ⊎_elim
-          (λ (before : get_elem? callers j ≡ some d). fresh j d before)
-          (λ (last : (j ≡ length callers) × (c ≡ d)). (
-            ap (λ (x : Caller). (seen_by x).seen) (sym last.1) ∙ ap (λ (x : Member). x.seen) who,
-            ap (λ (x : Caller). x.index) (sym last.1) ∙ index,
-            ap (λ (x : Caller). (seen_by x).taken) (sym last.1) ∙ ap (λ (x : Member). x.taken) who,
-            ap (λ (x : Caller). (seen_by x).added) (sym last.1) ∙ ap (λ (x : Member). x.added) who,
-            ap (λ (x : Caller). (seen_by x).none_free) (sym last.1) ∙ ap (λ (x : Member). x.none_free) who,
-            ap (λ (x : Caller). x.left) (sym last.1) ∙ left,
-          ))
-          (at_end callers c d j at)),
+      each_end
+          (λ _ d. ((seen_by d).seen ≡ []) × (d.index ≡ 0) × ((seen_by d).taken ≡ 0) × ((seen_by d).added ≡ 0) × ((seen_by d).none_free ≡ false) × (d.left ≡ None)) callers c fresh (
+            ap (λ (x : Member). x.seen) who,
+            index,
+            ap (λ (x : Member). x.taken) who,
+            ap (λ (x : Member). x.added) who,
+            ap (λ (x : Member). x.none_free) who,
+            left,
+          ),
     )
 
 -- the last caller, and those before it
@@ -103,19 +94,19 @@ pub record Popped (s : Shared) (front : List Caller) (c : Caller) : Type 0 where
 
 pub popped : (s : Shared) (n : ℕ) (front : List Caller) (c : Caller) (all : List Caller) → all ≡ front ++ c ∷ [] → HasCallers s n all → Popped s front c
 popped s n front c all is has =
-    let there = subst (λ (l : List Caller). get_elem? l (length front) ≡ some c) (sym is) (end_there front c) in record {
+    let there = subst (λ (l : List Caller). get_elem? l (length front) ≡ some c) (sym is) (at_last front c (length front) refl) in record {
       last = has.each (length front) c there;
       number = has.numbers (length front) c there;
       rest = record {
         count = refl;
-        each = λ i d at. has.each i d (subst (λ (l : List Caller). get_elem? l i ≡ some d) (sym is) (at_front front (c ∷ []) i d at));
-        numbers = λ i d at. has.numbers i d (subst (λ (l : List Caller). get_elem? l i ≡ some d) (sym is) (at_front front (c ∷ []) i d at));
+        each = λ i d at. has.each i d (subst (λ (l : List Caller). get_elem? l i ≡ some d) (sym is) (at_longer front (c ∷ []) i d at));
+        numbers = λ i d at. has.numbers i d (subst (λ (l : List Caller). get_elem? l i ≡ some d) (sym is) (at_longer front (c ∷ []) i d at));
       };
     }
 
 pub pushed : (s : Shared) (front : List Caller) (c : Caller) → HasCallers s (length front) front → IsCallerOf s c → c.number ≡ length front → HasCallers s (length (front ++ c ∷ [])) (front ++ c ∷ [])
 pushed s front c has one number = record {
   count = refl;
-  each = λ i d at. ⊎_elim (λ (before : get_elem? front i ≡ some d). has.each i d before) (λ (last : (i ≡ length front) × (c ≡ d)). subst (IsCallerOf s) last.1 one) (at_end front c d i at);
-  numbers = λ i d at. ⊎_elim (λ (before : get_elem? front i ≡ some d). has.numbers i d before) (λ (last : (i ≡ length front) × (c ≡ d)). ap (λ (x : Caller). x.number) (sym last.1) ∙ number ∙ sym last.0) (at_end front c d i at);
+  each = each_end (λ _. IsCallerOf s) front c has.each one;
+  numbers = each_end (λ j d. d.number ≡ j) front c has.numbers number;
 }

@@ -3,7 +3,7 @@ use Rattle.std.proofs.Common.{◌≡◌, ◌≢◌, ◌↔◌, ℕ, ne_eqb, ◌+
 use Rattle.std.proofs.Common.{List, [], ◌∷◌, ◌++◌, length, refl, sym, ap, ◌∙◌, subst, arith, All}
 use Rattle.std.proofs.lemmas.Bool.{ltb-true, ltb-false}
 use Rattle.std.proofs.lemmas.List.Elements.{All-cons, All-head, All-nil, All-tail}
-use Rattle.pm_words.specs.Codes.{free_status, gone_status, ready_state, merge_kind}
+use Rattle.pm_words.specs.Codes.{free_status, gone_status, ready_state, merge_kind, untaken_lock}
 use Rattle.pm_words.specs.declared.layout.Layout.{Layout}
 use Rattle.pm_words.specs.declared.machine.Turn.{Turn}
 use Rattle.pm_words.specs.declared.machine.Turn.TheVariants.{Go, Done}
@@ -36,7 +36,6 @@ use Rattle.updater.specs.declared.work.Work.{Work}
 use Rattle.updater.specs.declared.work.WorkAt.{WorkAt}
 use Rattle.updater.specs.declared.work.WorkAt.TheVariants as at
 use Rattle.updater.specs.Makings.{making_turned, worked}
-use Rattle.updater.specs.Takings.{untaken}
 use Rattle.updater.specs.Works.{after_line, reads_fields, saw_state, changes, clears, changed, after_node, saw_status}
 use Rattle.updater.specs.Works.{allows, saw_stamp, saw_version, after_count, on, leaves, emptied, walk_ended}
 use Rattle.updater.specs.Works.{saw_again, has_read, has_landed, has_walked, has_set, has_unset, has_released}
@@ -228,5 +227,5 @@ pub turn_tells : (epoch : ℕ) (v : Member) (told : List ℕ) (answer : TurnRepl
 turn_tells epoch v told (reply.Held word) some lock ran = tt
 turn_tells epoch v told (reply.Turned turned) some lock ran =
     let most = v.about.layout in
-    let on : EndsTurned (Go (turn_in v epoch)) (untaken ∷ lock.0) turned = subst (λ (all : List ℕ). EndsTurned (Go (turn_in v epoch)) all turned) lock.1 ran in
-    subst (FoundStatuses most turned.none_free) (sym lock.1) (told_before most turned.none_free untaken lock.0 (found_on most turned some lock.0 (work_from most v.about.generation epoch (epoch - 2)) refl on))
+    let on : EndsTurned (Go (turn_in v epoch)) (untaken_lock ∷ lock.0) turned = subst (λ (all : List ℕ). EndsTurned (Go (turn_in v epoch)) all turned) lock.1 ran in
+    subst (FoundStatuses most turned.none_free) (sym lock.1) (told_before most turned.none_free untaken_lock lock.0 (found_on most turned some lock.0 (work_from most v.about.generation epoch (epoch - 2)) refl on))

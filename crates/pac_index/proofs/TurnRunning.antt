@@ -14,10 +14,10 @@ use Rattle.updater.specs.declared.terms.Terms.{Terms}
 use Rattle.updater.specs.declared.terms.Turned.{Turned}
 use Rattle.updater.specs.declared.work.Work.{Work}
 use Rattle.updater.specs.Makings.{making_turned, worked}
-use Rattle.updater.specs.Takings.{untaken}
 use Rattle.updater.specs.Works.{work_from, work_left, work_turned}
 use Rattle.epochs.specs.Kept.{first_epoch}
 use Rattle.pm_words.specs.Turns.{turn_of}
+use Rattle.pm_words.specs.Codes.{untaken_lock}
 use Rattle.index_core.specs.PartyStates.{state_turned}
 use Rattle.index_core.specs.declared.party.PartyState.{PartyState}
 use Rattle.pac_index.specs.declared.rule.About.{About}
@@ -30,16 +30,16 @@ use Rattle.pac_index.proofs.PartRuns.{run_more}
 use Rattle.pac_index.proofs.Statuses.{turn_tells}
 
 -- a turn of which the lock was found taken is so at whichever epoch
-refused_ran : (terms : Terms) (x : ℕ) → x ≢ untaken → run_of making_turned (Go (Taking terms)) (x ∷ []) ≡ Done (reply.Held x)
+refused_ran : (terms : Terms) (x : ℕ) → x ≢ untaken_lock → run_of making_turned (Go (Taking terms)) (x ∷ []) ≡ Done (reply.Held x)
 refused_ran terms x other =
-    elim (x == untaken) as (λ b. (x == untaken) ≡ b → run_of making_turned (cond b (Go (Working (work_from terms.layout terms.generation terms.stamp terms.release))) (Done (reply.Held x))) [] ≡ Done (reply.Held x)) [
+    elim (x == untaken_lock) as (λ b. (x == untaken_lock) ≡ b → run_of making_turned (cond b (Go (Working (work_from terms.layout terms.generation terms.stamp terms.release))) (Done (reply.Held x))) [] ≡ Done (reply.Held x)) [
       | true ↦ λ is. absurd (other (eqb-true _ _ is))
       | false ↦ λ is. refl
     ] refl
 
-refused_turn : (terms : Terms) (x : ℕ) → x ≢ untaken → making_turned (Taking terms) x ≡ Done (reply.Held x)
+refused_turn : (terms : Terms) (x : ℕ) → x ≢ untaken_lock → making_turned (Taking terms) x ≡ Done (reply.Held x)
 refused_turn terms x other =
-    elim (x == untaken) as (λ b. (x == untaken) ≡ b → cond b (Go (Working (work_from terms.layout terms.generation terms.stamp terms.release))) (Done (reply.Held x)) ≡ Done (reply.Held x)) [
+    elim (x == untaken_lock) as (λ b. (x == untaken_lock) ≡ b → cond b (Go (Working (work_from terms.layout terms.generation terms.stamp terms.release))) (Done (reply.Held x)) ≡ Done (reply.Held x)) [
       | true ↦ λ is. absurd (other (eqb-true _ _ is))
       | false ↦ λ is. refl
     ] refl
@@ -47,7 +47,7 @@ refused_turn terms x other =
 abbrev terms_in : Member → ℕ → Terms
 terms_in v epoch = record { layout = v.about.layout; generation = v.about.generation; stamp = epoch; release = epoch - 2 }
 
-pub turn_held : (old w : Member) (x : ℕ) → TurnGoes (turn_in old first_epoch) (turning old) x w → x ≢ untaken → TurnHeld x old w
+pub turn_held : (old w : Member) (x : ℕ) → TurnGoes (turn_in old first_epoch) (turning old) x w → x ≢ untaken_lock → TurnHeld x old w
 turn_held old w x goes other = λ epoch.
     let ended = refused_turn (terms_in old first_epoch) x other in
     record {
@@ -65,10 +65,10 @@ turn_held old w x goes other = λ epoch.
     }
 
 -- what holds of a party that has taken the lock
-pub took_lock : (old w : Member) (x : ℕ) → x ≡ untaken → TurnGoes (turn_in old first_epoch) (turning old) x w → TurnGoes (turn_in old first_epoch) (turning old) untaken w
+pub took_lock : (old w : Member) (x : ℕ) → x ≡ untaken_lock → TurnGoes (turn_in old first_epoch) (turning old) x w → TurnGoes (turn_in old first_epoch) (turning old) untaken_lock w
 took_lock old w x is goes = subst (λ (n : ℕ). TurnGoes (turn_in old first_epoch) (turning old) n w) is goes
 
-module _ (old w : Member) (goes : TurnGoes (turn_in old first_epoch) (turning old) untaken w) where
+module _ (old w : Member) (goes : TurnGoes (turn_in old first_epoch) (turning old) untaken_lock w) where
   pub lock_flies : w.state.turn ≡ Some (work_in w first_epoch)
   lock_flies = ap (λ (e : PartyState). e.turn) goes.state ∙ ap (λ (b : About). Some (Working (work_from b.layout b.generation first_epoch (first_epoch - 2)))) (sym goes.about)
 
@@ -98,7 +98,7 @@ lock_on : (told : List ℕ) (making : MakeTurn) (x : ℕ) → HasLock told (Go m
 lock_on told (Taking terms) x has = absurd has.0
 lock_on told (Working work) x has = at (work_turned work x)
   where
-    more : told ++ x ∷ [] ≡ untaken ∷ (has.1.0 ++ x ∷ [])
+    more : told ++ x ∷ [] ≡ untaken_lock ∷ (has.1.0 ++ x ∷ [])
     more = ap (λ (l : List ℕ). l ++ x ∷ []) has.1.1
 
     at : (t : Turn Work Turned) → HasLock (told ++ x ∷ []) (worked t)

@@ -3,11 +3,11 @@ use Rattle.std.proofs.Common.{◌≡◌, ℕ, ◌+◌, ⊎_elim, inl, inr, List,
 use Rattle.std.specs.Prelude.{None, Some, Result}
 use Rattle.pm_words.specs.declared.machine.Turn.{Turn}
 use Rattle.pm_words.specs.declared.machine.Turn.TheVariants.{Go}
+use Rattle.pm_words.specs.Codes.{untaken_lock}
 use Rattle.updater.specs.declared.making.MakeTurn.{MakeTurn}
 use Rattle.updater.specs.declared.making.TurnReply.{TurnReply}
 use Rattle.updater.specs.declared.making.TurnReply.TheVariants as reply
 use Rattle.updater.specs.Makings.{making_turned}
-use Rattle.updater.specs.Takings.{untaken}
 use Rattle.epochs.specs.declared.answers.Advance.{Advance}
 use Rattle.epochs.specs.declared.rule.PinMember.{PinMember}
 use Rattle.epochs.specs.Kept.{first_epoch}
@@ -45,7 +45,7 @@ pub dated_stops : (parties epoch : ℕ) (old v : Member) (pins pins_now : PinMem
 dated_stops parties epoch old v pins pins_now advanced turn making runs is dated = inr (record { epoch = epoch; advanced = advanced; stops = turn_stops epoch old v turn making runs is; dated = dated })
 
 -- and behind the one that took the lock
-pub lock_stops : (parties : ℕ) (old w : Member) (x : ℕ) (pins pins_now : PinMember) → x ≡ untaken → TurnGoes (turn_in old first_epoch) (turning old) x w → pins_now ≡ pins → TurnStops parties old pins w pins_now
+pub lock_stops : (parties : ℕ) (old w : Member) (x : ℕ) (pins pins_now : PinMember) → x ≡ untaken_lock → TurnGoes (turn_in old first_epoch) (turning old) x w → pins_now ≡ pins → TurnStops parties old pins w pins_now
 lock_stops parties old w x pins pins_now free first same =
     let goes = subst (λ (n : ℕ). TurnGoes (turn_in old first_epoch) (turning old) n w) free first in
     let ran : run_of making_turned (Go (turn_in old first_epoch)) w.told ≡ Go (work_in old first_epoch) = ap (run_of making_turned (Go (turn_in old first_epoch))) goes.told in

@@ -4,9 +4,9 @@ use Rattle.epochs.specs.declared.answers.Advance.{Advance}
 use Rattle.epochs.specs.declared.rule.PinMember.{PinMember}
 use Rattle.epochs.specs.Kept.{first_epoch}
 use Rattle.pm_words.specs.declared.machine.Turn.TheVariants.{Go}
+use Rattle.pm_words.specs.Codes.{untaken_lock}
 use Rattle.updater.specs.declared.making.MakeTurn.{MakeTurn}
 use Rattle.updater.specs.Makings.{making_turned}
-use Rattle.updater.specs.Takings.{untaken}
 use Rattle.pac_index.specs.declared.caller.Caller.{Caller}
 use Rattle.pac_index.specs.declared.rule.Member.{Member}
 use Rattle.pac_index.specs.Callers.{pins_of, seen_by}
@@ -34,7 +34,7 @@ pub record TurnStopsAt (epoch : ℕ) (old new : Member) : Type 0 where
 -- step on the epoch.
 pub record StopsUndated (old : Member) (pins : PinMember) (new : Member) (pins_now : PinMember) : Type 0 where
   pub stops : TurnStopsAt first_epoch old new
-  pub only : new.told ≡ untaken ∷ []
+  pub only : new.told ≡ untaken_lock ∷ []
   pub pins_are : pins_now ≡ pins
 
 -- It has its epoch, which its party loaded.

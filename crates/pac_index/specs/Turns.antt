@@ -5,7 +5,7 @@ use Rattle.epochs.specs.declared.answers.Advance.{Advance}
 use Rattle.epochs.specs.declared.rule.PinMember.{PinMember}
 use Rattle.epochs.specs.Answers.{HasAdvanced, IsRefused, IsReleased}
 use Rattle.epochs.specs.Kept.{first_epoch}
-use Rattle.pm_words.specs.Codes.{free_status}
+use Rattle.pm_words.specs.Codes.{free_status, untaken_lock}
 use Rattle.pm_words.specs.declared.layout.Layout.{Layout}
 use Rattle.pm_words.specs.declared.machine.Turn.{Turn}
 use Rattle.pm_words.specs.declared.machine.Turn.TheVariants.{Go, Done}
@@ -16,7 +16,6 @@ use Rattle.updater.specs.declared.making.MakeTurn.TheVariants.{Taking, Working}
 use Rattle.updater.specs.declared.making.TurnReply.{TurnReply}
 use Rattle.updater.specs.declared.making.TurnReply.TheVariants as reply
 use Rattle.updater.specs.declared.terms.Turned.{Turned}
-use Rattle.updater.specs.Takings.{untaken}
 use Rattle.updater.specs.Makings.{IsMaking, making_from, making_asks, making_turned, making_takes, making_left, worked}
 use Rattle.updater.specs.Works.{work_from, work_turned}
 use Rattle.updater.specs.declared.work.Work.{Work}
@@ -94,8 +93,8 @@ StartsWork epoch me found after = IsLone after × TurnGoes (work_in (party me) e
 -- The first number that a turn is told is what its exchange found at the updater lock: no party's word where it was
 -- done, and where it was refused another, which it answers and with which it ended.
 abbrev pub FoundLock : List ℕ → TurnReply → Type 0
-FoundLock told (reply.Turned turned) = (rest : List ℕ) × (told ≡ untaken ∷ rest)
-FoundLock told (reply.Held word) = (told ≡ word ∷ []) × (word ≢ untaken)
+FoundLock told (reply.Turned turned) = (rest : List ℕ) × (told ≡ untaken_lock ∷ rest)
+FoundLock told (reply.Held word) = (told ≡ word ∷ []) × (word ≢ untaken_lock)
 
 -- A turn that goes on has taken the lock, which no party had.
 abbrev pub IsUnderLock : MakeTurn → Type 0
@@ -103,7 +102,7 @@ IsUnderLock (Taking terms) = ⊥
 IsUnderLock (Working work) = Unit {0}
 
 abbrev pub HasLock : List ℕ → Turn MakeTurn TurnReply → Type 0
-HasLock told (Go making) = IsUnderLock making × ((rest : List ℕ) × (told ≡ untaken ∷ rest))
+HasLock told (Go making) = IsUnderLock making × ((rest : List ℕ) × (told ≡ untaken_lock ∷ rest))
 HasLock told (Done answer) = FoundLock told answer
 
 -- How far a turn at this epoch is: it places no write.
