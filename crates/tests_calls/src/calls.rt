@@ -8,9 +8,9 @@ ghost use Rattle.node_ops.specs.CallStages.{SoundAfter};
 
 use crate::rows::{
     A, FLOOR, FORM_4, FREE, G, LEAF, P, READY, ROW, RUN, Row, cell_at, leaf_at, may_tell, node_at,
-    root_at, volatile_at, word_of,
+    root_at, view, volatile_at, word_of,
 };
-use call_stages::{Once, Placed, View};
+use call_stages::{Once, Placed};
 use cat_key::Name;
 use node_ops::{Del, Get, Put, Running};
 use pm_words::offsets::{leaf, node, volatile};
@@ -97,17 +97,6 @@ pub(crate) fn named(rt: &impl Abort, letter: u8) -> Name {
     Name::read(&[letter]).expect(rt, "a name")
 }
 
-/// What a call of the first caller sees.
-pub(crate) fn view(layout: Layout) -> View
-    ensures { result ≡ record { layout = layout; generation = RUN; caller = 0 } }
-{
-    View {
-        layout,
-        generation: RUN,
-        caller: 0,
-    }
-}
-
 pub(crate) fn started(rt: &impl Abort, layout: Layout, ask: Ask) -> Running
     requires { IsLayout layout }
     ensures { Sound layout RUN result }
@@ -120,13 +109,13 @@ pub(crate) fn started(rt: &impl Abort, layout: Layout, ask: Ask) -> Running
         } => {
             let name = named(rt, letter);
             assert!(rt; limit <= FAR);
-            Running::Putting(Put::new(view(layout), &name, value, limit))
+            Running::Putting(Put::new(view(layout, 0), &name, value, limit))
         }
-        Ask::Get { letter } => Running::Getting(Get::new(view(layout), &named(rt, letter))),
+        Ask::Get { letter } => Running::Getting(Get::new(view(layout, 0), &named(rt, letter))),
         Ask::Del { letter, limit } => {
             let name = named(rt, letter);
             assert!(rt; limit <= FAR);
-            Running::Deleting(Del::new(view(layout), &name, limit))
+            Running::Deleting(Del::new(view(layout, 0), &name, limit))
         }
     }
 }

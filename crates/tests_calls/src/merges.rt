@@ -4,8 +4,9 @@ ghost use Rattle.std.specs.Prelude.{◌≡◌};
 ghost use Rattle.pm_words.specs.Layouts.{IsLayout};
 ghost use Rattle.split_merge.specs.Merges.{IsMerge, LeadsNear};
 
-use crate::rows::{A, B, C, D, E, FREE, GONE, LIVE, READY, ROW, RUN, Row, may_tell};
-use call_stages::View;
+use crate::rows::{
+    A, B, C, D, E, FREE, GONE, LIVE, READY, ROW, RUN, Row, may_tell, see_left, set_words, view,
+};
 use pm_words::offsets::{node, volatile};
 use pm_words::{Layout, Machine, Turn};
 use split_merge::{Merge, MergeAt, Merged};
@@ -129,23 +130,14 @@ fn begun(layout: Layout) -> Merge
     ensures sound { IsMerge result }
     ensures generation { result.view.generation ≡ RUN }
 {
-    Merge::new(
-        View {
-            layout,
-            generation: RUN,
-            caller: 1,
-        },
-        0,
-        LOCKED,
-        9,
-    )
+    Merge::new(view(layout, 1), 0, LOCKED, 9)
 }
 
 /// Node 0 has the names a and b, and leads to node 1, which has c and d, and leads to node 2.
 fn fill(rt: &impl Abort, row: &mut Row)
     ensures { row.new.layout ≡ row.old.layout }
 {
-    for (number, offset, word) in [
+    let words = [
         (0, node::VERSION, LOCKED),
         (0, node::BITMAP, 0b1010),
         (0, node::NEXT, 1),
@@ -164,9 +156,8 @@ fn fill(rt: &impl Abort, row: &mut Row)
         (1, node::SLOTS + 12, C),
         (1, node::SLOTS + 15, 100),
         (2, node::ANCHOR, E),
-    ] {
-        row.set(rt, number, offset, word);
-    }
+    ];
+    set_words(rt, row, &words);
     row.set_volatile(rt, 1, volatile::STATUS, LIVE);
 }
 
@@ -189,14 +180,7 @@ fn see_merged(rt: &impl Abort, row: &Row) {
         (1, node::BITMAP, 0b1001, 0b1001),
         (1, node::NEXT, 2, 2),
     ];
-    assert_eq!(rt; row.other_twins(rt, &words), words.len());
-    assert_eq!(rt; row.other_field(rt, 9, [READY, 2, 1, C, 0, 0, 0, 0]), 8);
-    let around = [
-        row.volatile(rt, 1, volatile::STATUS),
-        row.volatile(rt, 1, volatile::PREV),
-        row.volatile(rt, 2, volatile::PREV),
-    ];
-    assert_eq!(rt; around, [GONE, 0, 0]);
+    see_left(rt, row, &words, [READY, 2, 1, C, 0, 0, 0, 0], [GONE, 0, 0]);
 }
 
 /// Actions: 20 up to the words of both nodes, 40 for the opened line, 16 loads and stores for the copies, 1 store of

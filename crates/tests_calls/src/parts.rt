@@ -4,9 +4,9 @@ ghost use Rattle.std.specs.Prelude.{◌≡◌};
 ghost use Rattle.pm_words.specs.Layouts.{IsLayout};
 ghost use Rattle.node_ops.specs.RunningSteps.{Sound};
 
-use crate::calls::{del, done_after, named, put, run, started, view};
+use crate::calls::{del, done_after, named, put, run, started};
 use crate::meanwhile::run_beside;
-use crate::rows::{FLOOR, ROW, RUN, Row, word_of};
+use crate::rows::{FLOOR, ROW, RUN, Row, view, word_of};
 use node_ops::{Part, PartWords, Running};
 use pm_words::Layout;
 use pm_words::offsets::node;
@@ -18,7 +18,7 @@ pub(crate) fn begun(rt: &impl Abort, layout: Layout, letter: u8, count: u64) -> 
     requires { IsLayout layout }
     ensures { Sound layout RUN result }
 {
-    Running::Parting(Part::new(view(layout), &named(rt, letter), count))
+    Running::Parting(Part::new(view(layout, 0), &named(rt, letter), count))
 }
 
 /// What a part tells, and in how many actions. Names have one letter.

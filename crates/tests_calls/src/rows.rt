@@ -5,6 +5,7 @@ ghost use Rattle.std.specs.Prelude.{◌≡◌};
 ghost use Rattle.pm_words.specs.Layouts.{IsLayout};
 ghost use Rattle.call_stages.specs.Kinds.{Told};
 
+use call_stages::View;
 use pm_words::codes::reference;
 use pm_words::offsets::{leaf, line, node, root, volatile};
 use pm_words::{Action, KEY, LINE_WORDS, Layout};
@@ -300,6 +301,45 @@ impl Row {
             }
         }
         self.stored
+    }
+}
+
+/// These words of nodes, each a node, an offset and a word, stand in both twins.
+pub(crate) fn set_words(rt: &impl Abort, row: &mut Row, words: &[(u64, u64, u64)])
+    ensures { row.new.layout ≡ row.old.layout }
+{
+    for (number, offset, word) in words.iter().copied() {
+        row.set(rt, number, offset, word);
+    }
+}
+
+/// A change of nodes 0 to 2 has left these words of nodes, these words of line 9, and around node 1 these: its status,
+/// and which nodes stand before it and before node 2.
+pub(crate) fn see_left(
+    rt: &impl Abort,
+    row: &Row,
+    words: &[(u64, u64, u64, u64)],
+    fields: [u64; 8],
+    around: [u64; 3],
+) {
+    assert_eq!(rt; row.other_twins(rt, words), words.len());
+    assert_eq!(rt; row.other_field(rt, 9, fields), 8);
+    let found = [
+        row.volatile(rt, 1, volatile::STATUS),
+        row.volatile(rt, 1, volatile::PREV),
+        row.volatile(rt, 2, volatile::PREV),
+    ];
+    assert_eq!(rt; found, around);
+}
+
+/// What a call of this caller sees.
+pub(crate) fn view(layout: Layout, caller: u64) -> View
+    ensures { result ≡ record { layout = layout; generation = RUN; caller = caller } }
+{
+    View {
+        layout,
+        generation: RUN,
+        caller,
     }
 }
 

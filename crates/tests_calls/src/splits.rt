@@ -4,8 +4,9 @@ ghost use Rattle.std.specs.Prelude.{◌≡◌};
 ghost use Rattle.pm_words.specs.Layouts.{IsLayout};
 ghost use Rattle.split_merge.specs.Splits.{IsSplit, LeadsIn};
 
-use crate::rows::{A, B, C, D, FREE, LIVE, READY, ROW, RUN, Row, line_at, may_tell};
-use call_stages::View;
+use crate::rows::{
+    A, B, C, D, FREE, LIVE, READY, ROW, RUN, Row, line_at, may_tell, see_left, set_words, view,
+};
 use pm_words::offsets::{line, node, volatile};
 use pm_words::{Again, Layout, Machine, Turn};
 use split_merge::{Split, SplitAt, SplitDone};
@@ -67,37 +68,28 @@ fn begun(layout: Layout) -> Split
     ensures sound { IsSplit result }
     ensures generation { result.view.generation ≡ RUN }
 {
-    Split::new(
-        View {
-            layout,
-            generation: RUN,
-            caller: 1,
-        },
-        0,
-        LOCKED,
-    )
+    Split::new(view(layout, 1), 0, LOCKED)
 }
 
 /// Node 0 is full, with the names c, a, d and b in its slots, and leads to node 2; node 1 is FREE.
 fn fill(rt: &impl Abort, row: &mut Row)
     ensures { row.new.layout ≡ row.old.layout }
 {
-    for (offset, word) in [
-        (node::VERSION, LOCKED),
-        (node::BITMAP, 0b1111),
-        (node::NEXT, 2),
-        (node::PRINTS, 0x6264_6163),
-        (node::SLOTS, C),
-        (node::SLOTS + 3, 30),
-        (node::SLOTS + 4, A),
-        (node::SLOTS + 7, 10),
-        (node::SLOTS + 8, D),
-        (node::SLOTS + 11, 40),
-        (node::SLOTS + 12, B),
-        (node::SLOTS + 15, 20),
-    ] {
-        row.set(rt, 0, offset, word);
-    }
+    let words = [
+        (0, node::VERSION, LOCKED),
+        (0, node::BITMAP, 0b1111),
+        (0, node::NEXT, 2),
+        (0, node::PRINTS, 0x6264_6163),
+        (0, node::SLOTS, C),
+        (0, node::SLOTS + 3, 30),
+        (0, node::SLOTS + 4, A),
+        (0, node::SLOTS + 7, 10),
+        (0, node::SLOTS + 8, D),
+        (0, node::SLOTS + 11, 40),
+        (0, node::SLOTS + 12, B),
+        (0, node::SLOTS + 15, 20),
+    ];
+    set_words(rt, row, &words);
     row.set_volatile(rt, 0, volatile::STATUS, LIVE);
     row.set_volatile(rt, 2, volatile::STATUS, LIVE);
 }
@@ -129,14 +121,7 @@ fn see_moved(rt: &impl Abort, row: &Row) {
         (1, node::SLOTS + 7, 40, 40),
         (1, node::SLOTS + 8, 0, 0),
     ];
-    assert_eq!(rt; row.other_twins(rt, &words), words.len());
-    assert_eq!(rt; row.other_field(rt, 9, [READY, 1, 1, C, 0, 0, 0, 0]), 8);
-    let around = [
-        row.volatile(rt, 1, volatile::STATUS),
-        row.volatile(rt, 1, volatile::PREV),
-        row.volatile(rt, 2, volatile::PREV),
-    ];
-    assert_eq!(rt; around, [LIVE, 0, 1]);
+    see_left(rt, row, &words, [READY, 1, 1, C, 0, 0, 0, 0], [LIVE, 0, 1]);
 }
 
 /// Names c and d move from a full node to the free one. Actions: 1 load of next; 2 of lines' states and 16 for the

@@ -155,34 +155,22 @@ fn set(row: &mut [u64], field: usize, value: u64) {
 /// no such row nothing changes.
 pub fn change(round: &mut Round, table: u64, row: usize, field: usize, value: u64) {
     match table {
-        IN_BASE => change_base(&mut round.base, row, field, value),
-        IN_ASKED => change_asked(&mut round.asked, row, field, value),
-        IN_TOLD => change_told(&mut round.told, row, field, value),
-        IN_PARTS => change_part(&mut round.parts, row, field, value),
+        IN_BASE => change_row(&mut round.base, row, field, value),
+        IN_ASKED => change_row(&mut round.asked, row, field, value),
+        IN_TOLD => change_row(&mut round.told, row, field, value),
+        IN_PARTS => change_row(&mut round.parts, row, field, value),
         IN_END => set(&mut round.end, field, value),
         _ => set(&mut round.budgets, row, value),
     }
 }
 
-fn change_base(rows: &mut [[u64; 2]], row: usize, field: usize, value: u64) {
-    if let Some(row) = rows.get_mut(row) {
-        set(row, field, value);
-    }
-}
-
-fn change_asked(rows: &mut [[u64; 4]], row: usize, field: usize, value: u64) {
-    if let Some(row) = rows.get_mut(row) {
-        set(row, field, value);
-    }
-}
-
-fn change_told(rows: &mut [[u64; 8]], row: usize, field: usize, value: u64) {
-    if let Some(row) = rows.get_mut(row) {
-        set(row, field, value);
-    }
-}
-
-fn change_part(rows: &mut [[u64; 10]], row: usize, field: usize, value: u64) {
+/// Changes one number of a table of rows of so many.
+fn change_row<const FIELDS: usize>(
+    rows: &mut [[u64; FIELDS]],
+    row: usize,
+    field: usize,
+    value: u64,
+) {
     if let Some(row) = rows.get_mut(row) {
         set(row, field, value);
     }

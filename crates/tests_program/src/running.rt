@@ -3,6 +3,7 @@
 use cat_text::{FaultPlan, MemoryShelf, MemorySink, MemorySource};
 use catalog_cli::pac_index::Gate;
 use catalog_cli::{Status, catalog};
+use holding_gates::OpenGate;
 use std::alloc::{AllocGlobal, Global};
 use std::sync::Wait;
 use std::thread::Threads;
@@ -22,15 +23,6 @@ pub(crate) const SOUND: Outside = Outside {
     failing_read: 0,
     failing_write: 0,
 };
-
-/// A gate that holds no caller.
-pub(crate) struct OpenGate;
-
-impl Gate for OpenGate {
-    fn before(&self, _caller: u64, _index: u64) {}
-
-    fn within(&self, _caller: u64, _step: u64) {}
-}
 
 /// The plan by which the call of this number fails; none does where it is 0.
 pub(crate) fn plan_of(alloc: Global, failing: u64) -> Option<FaultPlan> {

@@ -5,3 +5,5 @@
 mod held;
 #[cfg(test)]
 mod placed;
+#[cfg(test)]
+mod plans;

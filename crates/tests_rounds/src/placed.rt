@@ -1,14 +1,13 @@
 //! Rounds whose puts are all of new names, each caller's of its own.
 
-ghost use Rattle.std.specs.Prelude.{◌≡◌, ◌<◌, ◌≤◌, ◌^◌, All, IfOk, None};
-
-use cat_history::{CallerOp, Items, Op, Reply, RoundPlan};
+use crate::plans::planned;
+use cat_history::{CallerOp, Op, Reply};
 use cat_key::Name;
+use holding_gates::OpenGate;
 use pm_words::Layout;
 use recovery::open_fresh;
 use std::alloc::Global;
 use std::test::Fail;
-use thread_rounds::pac_index::Gate;
 use thread_rounds::{Finish, Round, run_round};
 
 /// How the names of a round are written.
@@ -18,15 +17,6 @@ enum Style {
     Short,
     /// A folder of the caller and a file of four digits.
     Long,
-}
-
-/// A gate that holds nobody.
-struct Open;
-
-impl Gate for Open {
-    fn before(&self, _caller: u64, _index: u64) {}
-
-    fn within(&self, _caller: u64, _step: u64) {}
 }
 
 /// The name of this number of a caller's own.
@@ -59,23 +49,6 @@ fn puts(alloc: Global, style: Style, callers: u64, count: u64) -> Result<Vec<Cal
     Ok(ops)
 }
 
-/// A plan of these calls of so many callers.
-fn planned(ops: Vec<CallerOp>, callers: u64) -> Result<RoundPlan, Fail>
-    ensures callers { IfOk result (λ plan. All (λ a. a.caller < callers) plan.ops) }
-    ensures limit { IfOk result (λ plan. plan.limit ≡ 2 ^ 62) }
-    ensures crash { IfOk result (λ plan. plan.crash ≡ None) }
-{
-    if !ops.as_slice().iter().all(|call| call.caller < callers) {
-        return Err("one caller more".into());
-    }
-    Ok(RoundPlan {
-        ops: Items::of(ops),
-        updater: 64,
-        limit: 1 << 62,
-        crash: None,
-    })
-}
-
 /// How many of the replies are that a name was new.
 fn news(round: &Round) -> u64 {
     round
@@ -97,8 +70,8 @@ fn names(alloc: Global, finish: Finish) -> Result<u64, Fail> {
 #[test]
 fn two_callers_place_each_write_once(rt: HostRuntime) -> Result<(), Fail> {
     let core = open_fresh(rt.alloc(), Layout::new(512, 8, 2)?)?;
-    let plan = planned(puts(rt.alloc(), Style::Short, 2, 500)?, 2)?;
-    let round = run_round(&rt, rt.alloc(), core, &plan, &Open)?;
+    let plan = planned(puts(rt.alloc(), Style::Short, 2, 500)?, 2, 64)?;
+    let round = run_round(&rt, rt.alloc(), core, &plan, &OpenGate)?;
     let told = (round.writes, news(&round));
     assert_eq!(rt; told, (1000, 1000));
     let names = names(rt.alloc(), round.finish)?;
@@ -110,8 +83,8 @@ fn two_callers_place_each_write_once(rt: HostRuntime) -> Result<(), Fail> {
 #[test]
 fn four_callers_fill_five_hundred_nodes(rt: HostRuntime) -> Result<(), Fail> {
     let core = open_fresh(rt.alloc(), Layout::new(1024, 64, 4)?)?;
-    let plan = planned(puts(rt.alloc(), Style::Long, 4, 5000)?, 4)?;
-    let round = run_round(&rt, rt.alloc(), core, &plan, &Open)?;
+    let plan = planned(puts(rt.alloc(), Style::Long, 4, 5000)?, 4, 64)?;
+    let round = run_round(&rt, rt.alloc(), core, &plan, &OpenGate)?;
     let told = (round.writes, news(&round));
     assert_eq!(rt; told, (20_000, 20_000));
     let names = names(rt.alloc(), round.finish)?;

@@ -1,11 +1,8 @@
 //! A gate that sees the steps of one caller, and may hold it within a call.
 
+use holding_gates::Moment;
 use pac_index::Gate;
 use std::sync::atomic::{AtomicBool, AtomicU64, Ordering};
-use std::thread::yield_now;
-
-/// For how many turns a caller is held at most.
-const TURNS: u64 = 10_000_000;
 
 /// It counts the steps of caller 0. Where it holds, caller 0 begins once the first call of caller 1 is over, and stands
 /// still before this step of its call until the second one of caller 1 is over, which begins then. The third one of
@@ -13,10 +10,10 @@ const TURNS: u64 = 10_000_000;
 #[derive(Drop)]
 pub(crate) struct Watch {
     holds: Option<u64>,
-    first: AtomicBool,
-    stands: AtomicBool,
-    second: AtomicBool,
-    over: AtomicBool,
+    first: Moment,
+    stands: Moment,
+    second: Moment,
+    over: Moment,
     /// How often caller 0 has begun a call.
     calls: AtomicU64,
     /// How many steps it has made in the call that began last, and in the one before.
@@ -26,24 +23,14 @@ pub(crate) struct Watch {
     astray: AtomicBool,
 }
 
-/// Waits for the flag, for so many turns at most.
-fn wait_for(flag: &AtomicBool) {
-    for _ in 0..TURNS {
-        if flag.load(Ordering::SeqCst) {
-            return;
-        }
-        yield_now();
-    }
-}
-
 impl Watch {
     pub(crate) fn new(holds: Option<u64>) -> Watch {
         Watch {
             holds,
-            first: AtomicBool::new(false),
-            stands: AtomicBool::new(false),
-            second: AtomicBool::new(false),
-            over: AtomicBool::new(false),
+            first: Moment::new(),
+            stands: Moment::new(),
+            second: Moment::new(),
+            over: Moment::new(),
             calls: AtomicU64::new(0),
             steps: AtomicU64::new(0),
             past: AtomicU64::new(0),
@@ -73,22 +60,22 @@ impl Watch {
             .store(self.steps.load(Ordering::SeqCst), Ordering::SeqCst);
         self.steps.store(0, Ordering::SeqCst);
         if index > 0 {
-            self.stands.store(true, Ordering::SeqCst);
-            self.over.store(true, Ordering::SeqCst);
+            self.stands.comes();
+            self.over.comes();
         } else if self.holds.is_some() {
-            wait_for(&self.first);
+            self.first.wait();
         }
     }
 
     /// Caller 1 begins the call of this index.
     fn follows(&self, index: u64) {
         if index == 1 && self.holds.is_some() {
-            self.first.store(true, Ordering::SeqCst);
-            wait_for(&self.stands);
+            self.first.comes();
+            self.stands.wait();
         }
         if index == 2 && self.holds.is_some() {
-            self.second.store(true, Ordering::SeqCst);
-            wait_for(&self.over);
+            self.second.comes();
+            self.over.wait();
         }
     }
 
@@ -98,8 +85,8 @@ impl Watch {
             self.astray.store(true, Ordering::SeqCst);
         }
         if self.holds == Some(step) {
-            self.stands.store(true, Ordering::SeqCst);
-            wait_for(&self.second);
+            self.stands.comes();
+            self.second.wait();
         }
     }
 }

@@ -1,8 +1,8 @@
 use Rattle.std.proofs.Common.{ap, ◌∙◌, arith, ◌<◌}
 use Rattle.pm_words.specs.declared.layout.Layout.{Layout}
 use Rattle.pm_words.specs.Locations.{Node, Cached, node_words, word_number, cached_address}
+use Rattle.pm_words.specs.Offsets.{bitmap_offset}
 use Rattle.pm_words.proofs.Apart.{at-set_other}
-use Rattle.data_node.specs.Spots.{bitmap_offset}
 use Rattle.tests_words.proofs.memory.store_bitmap.Goals as goal
 
 pub returns-clause-others : goal.returns-clause-others

@@ -1,0 +1,12 @@
+//! Gates that hold the callers of a round until calls of theirs have met, for tests of such rounds.
+#![tactic(auto)]
+
+mod beside;
+mod open;
+mod turns;
+mod waits;
+
+pub use beside::Beside;
+pub use open::OpenGate;
+pub use turns::Turns;
+pub use waits::Moment;
