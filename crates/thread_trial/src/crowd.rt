@@ -6,6 +6,7 @@ ghost use Rattle.pac_index.specs.Callers.{HasCallers, IsCallerOf, MayCall, Stays
 
 use crate::calls::{LIMIT, Mix, is_put, name_of};
 use call_stages::Once;
+use crossbeam_utils::atomic::AtomicCell;
 use index_core::Core;
 use pac_index::{Caller, Shared, Tried, have_steps};
 use pm_words::NoMemory;
@@ -16,7 +17,7 @@ use std::thread::{Threads, map_vec, yield_now};
 const TRIES: u64 = 10_000_000;
 
 /// Each of the first `active` callers of an index makes so many calls on a thread of its own, all at once. Returns the
-/// core in which they meet.
+/// core in which they meet. `turned_back` is raised by how many tries of theirs had to be made again.
 pub fn meet<R: Threads + Sync>(
     rt: &R,
     alloc: Global,
@@ -24,12 +25,13 @@ pub fn meet<R: Threads + Sync>(
     active: u64,
     calls: u64,
     mix: Mix,
+    turned_back: &AtomicCell<u64>,
 ) -> Result<Core, NoMemory>
     requires quiet { IsQuiet core }
     requires start { core.history ≡ [] }
 {
     let (shared, callers) = Shared::new(alloc, core)?;
-    let callers = all_play(rt, &shared, callers, active, calls, mix)?;
+    let callers = all_play(rt, &shared, callers, active, calls, mix, turned_back)?;
     // No caller has a bound on its steps, so each has one left.
     if !have_steps(callers.as_slice()) {
         return Err(NoMemory);
@@ -45,6 +47,7 @@ fn all_play<R: Threads + Sync>(
     active: u64,
     calls: u64,
     mix: Mix,
+    turned_back: &AtomicCell<u64>,
 ) -> Result<Vec<Caller>, NoMemory>
     requires { HasCallers shared.now (length callers.items) callers.items }
     ensures { IfOk result (λ done. HasCallers shared.now (length callers.items) done.items) }
@@ -55,13 +58,20 @@ fn all_play<R: Threads + Sync>(
         &|caller: Caller| -> Caller
             requires { IsCallerOf shared.now caller }
             ensures { StaysCaller shared.entry.now caller result }
-        { plays(shared, caller, active, calls, mix) },
+        { plays(shared, caller, active, calls, mix, turned_back) },
     )?;
     Ok(done)
 }
 
 /// All calls of a caller, or those before the first that isn't answered. Only the first `active` ones have any.
-fn plays(shared: &Shared, caller: Caller, active: u64, calls: u64, mix: Mix) -> Caller
+fn plays(
+    shared: &Shared,
+    caller: Caller,
+    active: u64,
+    calls: u64,
+    mix: Mix,
+    turned_back: &AtomicCell<u64>,
+) -> Caller
     requires { IsCallerOf shared.now caller }
     ensures { StaysCaller shared.now caller result }
 {
@@ -69,27 +79,31 @@ fn plays(shared: &Shared, caller: Caller, active: u64, calls: u64, mix: Mix) -> 
     if caller.number() >= shared.layout().callers().min(active) {
         return caller;
     }
+    // Counted here, so that the callers share one word more at their end alone.
+    let mut made_again: u64 = 0;
     for number in 0..calls {
-        if !takes_place(shared, &mut caller, mix, number) {
+        let Some(times) = takes_place(shared, &mut caller, mix, number) else {
             break;
-        }
+        };
+        made_again = made_again.saturating_add(times);
     }
+    turned_back.fetch_add(made_again);
     caller
 }
 
-/// Makes the call of this number until it takes place.
-fn takes_place(shared: &Shared, caller: &mut Caller, mix: Mix, number: u64) -> bool
+/// Makes the call of this number until it takes place. Returns how many tries were turned back before; None where it
+/// takes no place.
+fn takes_place(shared: &Shared, caller: &mut Caller, mix: Mix, number: u64) -> Option<u64>
     requires { MayCall shared.now caller.old }
     ensures { StaysCaller shared.now caller.old caller.new }
 {
-    for _ in 0..TRIES {
-        match once(shared, caller, mix, number) {
-            Some(true) => return true,
-            Some(false) => yield_now(),
-            None => return false,
+    for tries in 0..TRIES {
+        if once(shared, caller, mix, number)? {
+            return Some(tries);
         }
+        yield_now();
     }
-    false
+    None
 }
 
 /// One try, and whether the call took place; None where there is no memory for it.

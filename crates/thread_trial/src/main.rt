@@ -11,6 +11,7 @@ ghost use Rattle.pm_words.specs.Layouts.{IsLayout};
 use alone::{filled, play_alone};
 use anyhow::{Result, anyhow, bail};
 use calls::Mix;
+use crossbeam_utils::atomic::AtomicCell;
 use crowd::meet;
 use index_core::Core;
 use pm_words::Layout;
@@ -48,16 +49,23 @@ fn main(rt: HostRuntime) -> Result<()> {
     };
     let calls = number(calls.as_str())?;
     let mut core = filled(rt.alloc(), layout()?, mix)?;
+    let turned_back = AtomicCell::new(0u64);
     let start = Instant::now(&rt)?;
     match callers.as_str() {
         "alone" => play_alone(&mut core, calls, mix)?,
-        callers => core = meet(&rt, rt.alloc(), core, number(callers)?, calls, mix)?,
+        callers => {
+            let active = number(callers)?;
+            core = meet(&rt, rt.alloc(), core, active, calls, mix, &turned_back)?;
+        }
     }
     let micros = start.elapsed(&rt)?.as_micros();
     let writes = core.history().len();
     match verb.as_str() {
         "play" => println!(rt; "{writes} writes")?,
-        "time" => println!(rt; "{writes} writes in {micros} us")?,
+        "time" => {
+            let turned_back = turned_back.load();
+            println!(rt; "{writes} writes in {micros} us, {turned_back} tries turned back")?
+        }
         _ => bail!("{USAGE}"),
     }
     Ok(())
