@@ -1,5 +1,6 @@
 -- What is wrong with a leaf or a cell of the tree in an image.
 use Rattle.std.specs.Prelude.{◌≡◌, ◌≢◌, ℕ, ◌+◌, ◌*◌, ◌<◌, ◌≤◌, false, List, [], ◌∷◌}
+use Rattle.pm_words.specs.Offsets.{prefix_offset}
 use Rattle.pm_words.specs.declared.layout.Layout.{Layout}
 use Rattle.pm_words.specs.Locations.{leaf_count}
 use Rattle.radix_nodes.specs.Keys.{key_bytes}
@@ -21,12 +22,13 @@ abbrev pub leaf_key : Layout → List ℕ → ℕ → List ℕ
 leaf_key l image leaf =
     (image_layer l image).leaf leaf 0 ∷ (image_layer l image).leaf leaf 1 ∷ (image_layer l image).leaf leaf 2 ∷ []
 
-abbrev pub prefix_key : Layout → List ℕ → ℕ → List ℕ
-prefix_key l image x =
-    cell_in (image_layer l image) x 1 ∷ cell_in (image_layer l image) x 2 ∷ cell_in (image_layer l image) x 3 ∷ []
-
 abbrev pub image_cell : Layout → List ℕ → ℕ → CellWords
 image_cell l image x = cell_in (image_layer l image) x
+
+abbrev pub prefix_key : Layout → List ℕ → ℕ → List ℕ
+prefix_key l image x =
+    image_cell l image x prefix_offset ∷ image_cell l image x (prefix_offset + 1) ∷
+    image_cell l image x (prefix_offset + 2) ∷ []
 
 -- Each way in which what a reference leads to may be out of order, by itself or with the heads of its children.
 pub data IsWrong (l : Layout) (image : List ℕ) : Reference → Type 0 where

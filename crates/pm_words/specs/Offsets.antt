@@ -29,7 +29,7 @@ abbrev pub prints_offset : ℕ
 prints_offset = 8
 
 abbrev pub print_offset : ℕ → ℕ
-print_offset slot = 8 + slot / 8
+print_offset slot = prints_offset + slot / 8
 
 abbrev pub slot_offset : ℕ → ℕ → ℕ
 slot_offset slot k = 16 + 4 * slot + k
@@ -59,9 +59,12 @@ spare_offset = 7
 abbrev pub leaf_node_offset : ℕ
 leaf_node_offset = 3
 
--- Of a cell of the search layer: how many bytes of a key lead to it.
+-- Of a cell of the search layer: how many bytes of a key lead to it, and the first of the words that these stand in.
 abbrev pub depth_offset : ℕ
 depth_offset = 0
+
+abbrev pub prefix_offset : ℕ
+prefix_offset = 1
 
 -- Of a node's volatile words: its status, the node before it or into which it was merged, when it was merged, the
 -- version of the node at which its permutation was made, and word k of eight of that.

@@ -2,6 +2,7 @@
 use Rattle.std.proofs.Common.{◌≡◌, ℕ, zero, suc, ◌+◌, ◌-◌, ◌*◌, ◌/◌, ◌%◌, ◌^◌, ◌<◌, ◌≤◌, ◌==◌, ◌&&◌, not, true, false, cond, ltb, leb, inl, inr, List, [], ◌∷◌, length, slice_index, slice_set, replicate, refl, sym, subst, ap, ◌∙◌, arith}
 use Rattle.std.proofs.lemmas.Bool.{cases_eq, cases_lt}
 use Rattle.std.proofs.lemmas.List.{get_or-set_same, get_or-set_other}
+use Rattle.pm_words.specs.Offsets.{prefix_offset}
 use Rattle.radix_nodes.specs.declared.cell.Branch.{Branch}
 use Rattle.radix_nodes.specs.declared.cell.Cell.{Cell}
 use Rattle.radix_nodes.specs.Bytes.{byte_set}
@@ -121,7 +122,7 @@ larger_fits cell byte reference small least fits =
 
 headed_fits : (depth : ℕ) (prefix : KeyWords) (at : ℕ) → depth < 2 ^ 64 → Fits prefix → Fits (slice_index (headed_words depth prefix at))
 headed_fits depth prefix zero small fits = set_list (replicate 264 0) 0 depth (zeros_fit 264) small
-headed_fits depth prefix (suc at) small fits = set_list (headed_words depth prefix at) (1 + at) (prefix at) (headed_fits depth prefix at small fits) (fits at)
+headed_fits depth prefix (suc at) small fits = set_list (headed_words depth prefix at) (prefix_offset + at) (prefix at) (headed_fits depth prefix at small fits) (fits at)
 
 pub pair_fits : PairFits
 unfolding pair_of

@@ -2,6 +2,7 @@
 use Rattle.std.proofs.Common.{◌≡◌, ℕ, zero, suc, ◌+◌, ◌<◌, ◌≤◌, inl, inr, List, length, length-set, slice_index, slice_set, replicate, refl, sym, subst, ap, ◌∙◌, arith}
 use Rattle.std.proofs.lemmas.Bool.{cases_eq}
 use Rattle.std.proofs.lemmas.List.{get_or-set_same, get_or-set_other}
+use Rattle.pm_words.specs.Offsets.{depth_offset, prefix_offset}
 
 pub zeros : (n o : ℕ) → slice_index (replicate n 0) o ≡ 0
 zeros zero o = refl
@@ -37,7 +38,7 @@ copied_on c words at word lt is so = subst (λ n. Copied c (slice_set words at n
 -- a depth, and so many words of a prefix
 abbrev pub HeadedSo : ℕ → (ℕ → ℕ) → List ℕ → ℕ → Type 0
 HeadedSo depth prefix words at =
-    (length words ≡ 264) × (slice_index words 0 ≡ depth) × ((k : ℕ) → k < at → slice_index words (1 + k) ≡ prefix k) × ((o : ℕ) → at < o → slice_index words o ≡ 0)
+    (length words ≡ 264) × (slice_index words depth_offset ≡ depth) × ((k : ℕ) → k < at → slice_index words (prefix_offset + k) ≡ prefix k) × ((o : ℕ) → at < o → slice_index words o ≡ 0)
 
 pub headed_start : (depth : ℕ) (prefix : ℕ → ℕ) (words : List ℕ) → words ≡ slice_set (replicate 264 0) 0 depth → HeadedSo depth prefix words 0
 headed_start depth prefix words is = (
@@ -47,15 +48,15 @@ headed_start depth prefix words is = (
   (λ o more. ap (λ (w : List ℕ). slice_index w o) is ∙ get_or-set_other (replicate 264 0) 0 o depth 0 (λ e. omega arith) ∙ zeros 264 o),
 )
 
-pub headed_step : (depth : ℕ) (prefix : ℕ → ℕ) (words : List ℕ) (at : ℕ) → at < 3 → HeadedSo depth prefix words at → HeadedSo depth prefix (slice_set words (1 + at) (prefix at)) (at + 1)
+pub headed_step : (depth : ℕ) (prefix : ℕ → ℕ) (words : List ℕ) (at : ℕ) → at < 3 → HeadedSo depth prefix words at → HeadedSo depth prefix (slice_set words (prefix_offset + at) (prefix at)) (at + 1)
 headed_step depth prefix words at lt so =
     let whole = so.0 in
     let word = prefix at in (
-      length-set words (1 + at) word ∙ whole,
-      get_or-set_other words (1 + at) 0 word 0 (λ e. omega arith) ∙ so.1,
+      length-set words (prefix_offset + at) word ∙ whole,
+      get_or-set_other words (prefix_offset + at) 0 word 0 (λ e. omega arith) ∙ so.1,
       (λ k less. elim (cases_eq k at) [
-        | inl same ↦ ap (λ n. slice_index (slice_set words (1 + at) word) (1 + n)) same ∙ get_or-set_same words (1 + at) word 0 (omega arith) ∙ ap prefix (sym same)
-        | inr other ↦ get_or-set_other words (1 + at) (1 + k) word 0 (λ e. other (omega arith)) ∙ so.2 k (omega (arith, other))
+        | inl same ↦ ap (λ n. slice_index (slice_set words (prefix_offset + at) word) (prefix_offset + n)) same ∙ get_or-set_same words (prefix_offset + at) word 0 (omega arith) ∙ ap prefix (sym same)
+        | inr other ↦ get_or-set_other words (prefix_offset + at) (prefix_offset + k) word 0 (λ e. other (omega arith)) ∙ so.2 k (omega (arith, other))
       ]),
-      (λ o more. get_or-set_other words (1 + at) o word 0 (λ e. omega arith) ∙ so.3 o (omega arith)),
+      (λ o more. get_or-set_other words (prefix_offset + at) o word 0 (λ e. omega arith) ∙ so.3 o (omega arith)),
     )

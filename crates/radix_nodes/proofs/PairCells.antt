@@ -1,5 +1,6 @@
 -- A cell of form 4 with two children, by its words.
 use Rattle.std.proofs.Common.{◌≡◌, ℕ, zero, suc, ◌+◌, ◌<◌, ◌≤◌, List, slice_index, slice_set, refl, subst, ap, ap₂, arith}
+use Rattle.pm_words.specs.Offsets.{prefix_offset}
 use Rattle.radix_nodes.specs.declared.cell.Branch.{Branch}
 use Rattle.radix_nodes.specs.declared.cell.Cell.{Cell}
 use Rattle.radix_nodes.specs.Keys.{KeyWords}
@@ -33,7 +34,7 @@ pair_is_pair depth prefix one two lt small small' apart sound sound' =
 
 headed_alike : (depth : ℕ) (prefix other : KeyWords) (at : ℕ) → at ≤ 3 → ((k : ℕ) → k < 3 → prefix k ≡ other k) → headed_words depth prefix at ≡ headed_words depth other at
 headed_alike depth prefix other zero le same = refl
-headed_alike depth prefix other (suc at) le same = ap₂ (λ w v. slice_set w (1 + at) v) (headed_alike depth prefix other at (omega arith) same) (same at (omega arith))
+headed_alike depth prefix other (suc at) le same = ap₂ (λ w v. slice_set w (prefix_offset + at) v) (headed_alike depth prefix other at (omega arith) same) (same at (omega arith))
 
 pub pairs_alike : PairsAlike
 unfolding pair_of

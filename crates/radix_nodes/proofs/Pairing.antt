@@ -1,7 +1,7 @@
 -- A cell of form 4 with two children.
 use Rattle.std.proofs.Common.{◌≡◌, ◌≢◌, ℕ, zero, suc, ◌+◌, ◌/◌, ◌%◌, ◌^◌, ◌<◌, ◌≤◌, ◌⊎◌, inl, inr, length, length-set, slice_index, slice_set, List, refl, sym, subst, ap, ◌∙◌, arith}
 use Rattle.std.proofs.lemmas.Bool.{cases_eq}
-use Rattle.pm_words.specs.Offsets.{depth_offset}
+use Rattle.pm_words.specs.Offsets.{depth_offset, prefix_offset}
 use Rattle.radix_nodes.specs.declared.cell.Branch.{Branch}
 use Rattle.radix_nodes.specs.Keys.{KeyWords, key_bytes, word_byte, EndsAt}
 use Rattle.radix_nodes.specs.Cells.{CellWords, children, entry_byte, entry_reference, entry_of, AreEntries, IsForm, IsReference, IsLawful, prefix_words}
@@ -126,14 +126,14 @@ module _ (depth : ℕ) (prefix : KeyWords) (one two : Branch) (w : CellWords) (h
       not_five : (n : ℕ) → n ≡ 0 → n ≡ 5 → ⊥
       not_five n a b = omega arith
 
-      head : (k : ℕ) → k < 3 → c (1 + k) ≡ prefix k
-      head k less = elsewhere (1 + k) (λ e. omega arith) (λ e. omega arith) ∙ headed.prefix_is k less
+      head : (k : ℕ) → k < 3 → c (prefix_offset + k) ≡ prefix k
+      head k less = elsewhere (prefix_offset + k) (λ e. omega arith) (λ e. omega arith) ∙ headed.prefix_is k less
 
   pub pair_is : (words : List ℕ) → depth < key_bytes → slice_index words ≡ c → IsPair depth prefix one two (record { kind = 2; words = words })
   pair_is words lt path = record {
     kind = refl;
     depth_is = at depth_offset ∙ elsewhere depth_offset (λ e. not_four 0 refl e) (λ e. not_five 0 refl e) ∙ headed.depth_is;
-    prefix_is = λ k less. at (1 + k) ∙ elsewhere (1 + k) (λ e. omega arith) (λ e. omega arith) ∙ headed.prefix_is k less;
+    prefix_is = λ k less. at (prefix_offset + k) ∙ elsewhere (prefix_offset + k) (λ e. omega arith) (λ e. omega arith) ∙ headed.prefix_is k less;
     has_one = ap (λ (d : CellWords). children 2 d one.byte) path ∙ has_first;
     has_two = ap (λ (d : CellWords). children 2 d two.byte) path ∙ has_second;
     only = λ b not_one not_two. ap (λ (d : CellWords). children 2 d b) path ∙ has_only b not_one not_two;

@@ -2,7 +2,7 @@
 use Rattle.std.specs.Prelude.{◌≡◌, ◌≢◌, ℕ, zero, suc, ◌+◌, ◌*◌, ◌/◌, ◌%◌, ◌^◌, ◌<◌, ◌≤◌, ◌==◌, ◌&&◌, not, nat_lt}
 use Rattle.std.specs.Prelude.{if◌then◌else◌, Option, Some, None, slice_index}
 use Rattle.pm_words.specs.Locations.{kind_words}
-use Rattle.pm_words.specs.Offsets.{depth_offset}
+use Rattle.pm_words.specs.Offsets.{depth_offset, prefix_offset}
 use Rattle.radix_nodes.specs.declared.cell.Cell.{Cell}
 use Rattle.radix_nodes.specs.Bytes.{byte_in}
 use Rattle.radix_nodes.specs.Keys.{KeyWords, key_bytes, EndsAt}
@@ -97,7 +97,7 @@ pub record HasTwo (m : Children) : Type 0 where
 
 -- the words of a prefix, behind the depth
 abbrev pub prefix_words : CellWords → KeyWords
-prefix_words c k = c (1 + k)
+prefix_words c k = c (prefix_offset + k)
 
 -- The words of a cell are lawful, but for what the references lead to.
 pub record IsLawful (kind : ℕ) (c : CellWords) : Type 0 where

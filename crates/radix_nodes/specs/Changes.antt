@@ -1,5 +1,6 @@
 -- What stores make of a cell's children.
 use Rattle.std.specs.Prelude.{◌≡◌, ◌≢◌, ℕ, ◌+◌, ◌<◌, ◌==◌, if◌then◌else◌, Option, Some, None, slice_set}
+use Rattle.pm_words.specs.Offsets.{depth_offset}
 use Rattle.pm_words.specs.Locations.{kind_words}
 use Rattle.radix_nodes.specs.declared.cell.Cell.{Cell}
 use Rattle.radix_nodes.specs.declared.cell.CellStore.{CellStore}
@@ -108,7 +109,7 @@ pub record IsGrown (cell grown : Cell) : Type 0 where
 -- depth.
 pub record IsPair (depth : ℕ) (prefix : KeyWords) (one two : Branch) (pair : Cell) : Type 0 where
   pub kind : pair.kind ≡ 2
-  pub depth_is : words_of pair 0 ≡ depth
+  pub depth_is : words_of pair depth_offset ≡ depth
   pub prefix_is : (k : ℕ) → k < 3 → prefix_words (words_of pair) k ≡ prefix k
   pub has_one : children_of pair one.byte ≡ one.reference
   pub has_two : children_of pair two.byte ≡ two.reference

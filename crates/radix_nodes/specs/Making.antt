@@ -1,6 +1,7 @@
 -- New cells, word by word.
 use Rattle.std.specs.Prelude.{◌≡◌, ◌≢◌, ℕ, zero, suc, ◌+◌, ◌-◌, ◌*◌, ◌^◌, ◌<◌, ◌≤◌, ◌==◌, if◌then◌else◌}
 use Rattle.std.specs.Prelude.{List, replicate, slice_set}
+use Rattle.pm_words.specs.Offsets.{prefix_offset}
 use Rattle.radix_nodes.specs.declared.cell.Branch.{Branch}
 use Rattle.radix_nodes.specs.declared.cell.Cell.{Cell}
 use Rattle.radix_nodes.specs.Keys.{KeyWords, first_bytes_of, key_bytes}
@@ -65,7 +66,7 @@ prefix_word depth key at = first_bytes_of (key at) (depth - 8 * at)
 
 abbrev pub headed_words : ℕ → KeyWords → ℕ → List ℕ
 headed_words depth prefix zero = slice_set (replicate 264 0) 0 depth
-headed_words depth prefix (suc at) = slice_set (headed_words depth prefix at) (1 + at) (prefix at)
+headed_words depth prefix (suc at) = slice_set (headed_words depth prefix at) (prefix_offset + at) (prefix at)
 
 -- a cell of form 4 with two children
 unfoldable pub pair_of : ℕ → KeyWords → Branch → Branch → Cell

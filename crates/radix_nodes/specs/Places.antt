@@ -1,5 +1,6 @@
 -- Stores into the index and the places of form 48, and cells that are being made.
 use Rattle.std.specs.Prelude.{◌≡◌, ◌≢◌, ℕ, ◌+◌, ◌*◌, ◌/◌, ◌%◌, ◌^◌, ◌<◌, ◌≤◌, ◌==◌, if◌then◌else◌, Some, None}
+use Rattle.pm_words.specs.Offsets.{prefix_offset}
 use Rattle.radix_nodes.specs.declared.cell.Cell.{Cell}
 use Rattle.radix_nodes.specs.declared.cell.CellStore.{CellStore}
 use Rattle.radix_nodes.specs.declared.changes.Added.{Added}
@@ -51,5 +52,5 @@ taken_in cell place entry =
 -- a depth, a prefix, and no more
 pub record IsHeaded (depth : ℕ) (prefix words : ℕ → ℕ) : Type 0 where
   pub depth_is : words 0 ≡ depth
-  pub prefix_is : (k : ℕ) → k < 3 → words (1 + k) ≡ prefix k
+  pub prefix_is : (k : ℕ) → k < 3 → words (prefix_offset + k) ≡ prefix k
   pub behind : (o : ℕ) → 4 ≤ o → words o ≡ 0

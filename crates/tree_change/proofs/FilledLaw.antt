@@ -1,6 +1,7 @@
 -- What a filled leaf and a filled pair say of the tree.
 use Rattle.std.proofs.Common.{◌≡◌, ℕ, ◌+◌, ◌/◌, ◌%◌, ◌^◌, ◌<◌, ◌≤◌, ◌==◌, ◌&&◌, leb, cond, slice_index, sym, subst, ap, ap₂, ◌∙◌, arith, lt-ltb}
 use Rattle.std.proofs.lemmas.Bool.{eq-eqb, ne_eqb}
+use Rattle.pm_words.specs.Offsets.{prefix_offset}
 use Rattle.cat_key.specs.declared.TheConstants.{WORDS}
 use Rattle.radix_nodes.specs.Keys.{key_bytes}
 use Rattle.radix_nodes.specs.Cells.{children, IsForm, words_of}
@@ -44,7 +45,7 @@ pair_is_filled count nodes w key prefix reference depth x leaf pair is_key two w
     record {
       number = ap₂ (λ k m. leb 2 k && leb k 5 && m) two (lt-ltb (number_of x) count within);
       depth_is = stands 0 (omega arith) ∙ is_pair.depth_is;
-      prefix_is = words_alike (λ k. cell_in w x (1 + k)) prefix (λ k lt. stands (1 + k) (omega arith) ∙ is_pair.prefix_is k lt) ∙ prefix_is_of_number depth (slice_index key) prefix is_key.fits fits deep is_prefix;
+      prefix_is = words_alike (λ k. cell_in w x (prefix_offset + k)) prefix (λ k lt. stands (prefix_offset + k) (omega arith) ∙ is_pair.prefix_is k lt) ∙ prefix_is_of_number depth (slice_index key) prefix is_key.fits fits deep is_prefix;
       old = ap reference_of (child (byte_at depth (low (tree_of w) (reference_of reference))) ∙ is_pair.has_one);
       new = ap reference_of (child (byte_at depth (key_number key)) ∙ is_pair.has_two) ∙ leaf_reference leaf small;
       only = λ b not_old not_new. ap reference_of (child b ∙ is_pair.only b not_old not_new);

@@ -1,5 +1,6 @@
 -- What a cell says of the tree in which a grown cell stands with a leaf added to it.
 use Rattle.std.proofs.Common.{◌≡◌, ℕ, ◌+◌, ◌<◌, ◌≤◌, ◌&&◌, sym, subst, ap, ap₂, ◌∙◌, arith, lt-ltb, le-leb}
+use Rattle.pm_words.specs.Offsets.{prefix_offset}
 use Rattle.cat_key.specs.declared.TheConstants.{WORDS}
 use Rattle.radix_nodes.specs.declared.cell.Cell as cells
 use Rattle.radix_nodes.specs.Cells.{children, IsForm, IsCell, words_of, children_of}
@@ -28,7 +29,7 @@ larger_is_filled count nodes w cell filled x larger b leaf is old has new within
     record {
       number = ap₂ (λ p q. p && q) (ap₂ (λ p q. p && q) (le-leb 2 (kind_of larger) least) (le-leb (kind_of larger) 5 most)) (lt-ltb (number_of larger) count within);
       depth = head 0 (omega arith);
-      prefix = words_alike (λ k. cell_in w larger (1 + k)) (λ k. cell_in w x (1 + k)) (λ k lt. head (1 + k) (omega arith));
+      prefix = words_alike (λ k. cell_in w larger (prefix_offset + k)) (λ k. cell_in w x (prefix_offset + k)) (λ k lt. head (prefix_offset + k) (omega arith));
       has_leaf = ap reference_of (child_stands w larger filled new has.sound b ∙ has.here) ∙ leaf_reference leaf small;
       others = λ c apart. ap reference_of (child_stands w larger filled new has.sound c ∙ has.others c apart ∙ sym (child_stands w x cell old is c));
       form = form_stands w larger filled new has.sound;

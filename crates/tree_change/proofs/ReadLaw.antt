@@ -3,7 +3,7 @@ use Rattle.std.proofs.Common.{◌≡◌, ◌≢◌, ℕ, ◌+◌, ◌^◌, ◌<�
 use Rattle.std.proofs.lemmas.Bool.{cases_lt, leb-true, and_parts}
 use Rattle.cat_key.specs.declared.TheConstants.{WORDS}
 use Rattle.pm_words.specs.Locations.{kind_words}
-use Rattle.pm_words.specs.Offsets.{depth_offset}
+use Rattle.pm_words.specs.Offsets.{depth_offset, prefix_offset}
 use Rattle.radix_nodes.specs.declared.cell.Cell as cells
 use Rattle.radix_nodes.specs.Keys.{key_bytes, EndsAt}
 use Rattle.radix_nodes.specs.Cells.{children, prefix_words, IsForm, IsReference, AreReferences, words_of, children_of}
@@ -45,12 +45,12 @@ module _ (count nodes : ℕ) (w : LayerWords) (x : ℕ) (cell : cells.Cell) (law
   child_read : (b : ℕ) → children_of cell b ≡ children (kind_of x) (cell_in w x) b
   child_read b = ap (λ k. children k (words_of cell) b) (sym stands.0) ∙ children_alike (kind_of x) (cell_in w x) (words_of cell) kinds.0 kinds.1 same form b
 
-  pub prefix_ends : ((o : ℕ) → words_of cell o < 2 ^ 64) → EndsAt (words_of cell 0) (prefix_words (words_of cell))
+  pub prefix_ends : ((o : ℕ) → words_of cell o < 2 ^ 64) → EndsAt (words_of cell depth_offset) (prefix_words (words_of cell))
   prefix_ends fits at le lt =
-      let depth = cell_in w x 0 in
+      let depth = cell_in w x depth_offset in
       let behind : depth ≤ at = subst (λ d. d ≤ at) (head depth_offset (omega arith)) le in
-      byte_is_of_number (prefix_words (words_of cell)) at (λ k. fits (1 + k)) lt
-      ∙ ap (byte_at at) (words_alike (prefix_words (words_of cell)) (prefix_words (cell_in w x)) (λ k less. head (1 + k) (omega arith)) ∙ sym sound.zeros)
+      byte_is_of_number (prefix_words (words_of cell)) at (λ k. fits (prefix_offset + k)) lt
+      ∙ ap (byte_at at) (words_alike (prefix_words (words_of cell)) (prefix_words (cell_in w x)) (λ k less. head (prefix_offset + k) (omega arith)) ∙ sym sound.zeros)
       ∙ byte_behind depth ((tree_of w).prefix x) sound.depth at behind lt
 
   pub references_read : AreReferences (children_of cell)

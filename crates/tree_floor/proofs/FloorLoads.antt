@@ -2,7 +2,7 @@
 use Rattle.std.proofs.Common.{◌≡◌, ℕ, ◌+◌, ◌<◌, ◌≤◌, inl, inr, sym, subst, arith}
 use Rattle.std.proofs.lemmas.Bool.{cases_eq}
 use Rattle.pm_words.specs.Locations.{kind_words}
-use Rattle.pm_words.specs.Offsets.{depth_offset}
+use Rattle.pm_words.specs.Offsets.{depth_offset, prefix_offset}
 use Rattle.cat_key.specs.declared.TheConstants.{WORDS}
 use Rattle.tree_floor.specs.declared.floor.FloorAt.{FloorAt}
 use Rattle.tree_floor.specs.declared.floor.FloorAt.TheVariants as at
@@ -45,5 +45,5 @@ floor_only_loads f is = go f.at is.here
     go (at.Key leaf words word) here = (here.0, (let within : word < WORDS = here.3 in omega arith))
     go (at.Node leaf) here = (here, omega arith)
     go (at.Depth cell) here = (here.low, here.high, here.number, head_within (kind_of cell) depth_offset here.low here.high (omega arith))
-    go (at.Prefix cell depth words word) here = (here.0.low, here.0.high, here.0.number, head_within (kind_of cell) (1 + word) here.0.low here.0.high (let within : word < WORDS = here.4 in omega arith))
+    go (at.Prefix cell depth words word) here = (here.0.low, here.0.high, here.0.number, head_within (kind_of cell) (prefix_offset + word) here.0.low here.0.high (let within : word < WORDS = here.4 in omega arith))
     go (at.Scanning cell depth byte s) here = (here.0.low, here.0.high, here.0.number, scan_within (kind_of cell) byte s here.2 here.3)

@@ -9,7 +9,7 @@ use Rattle.pm_words.specs.declared.machine.Turn.{Turn}
 use Rattle.pm_words.specs.declared.machine.Turn.TheVariants.{Go, Done}
 use Rattle.pm_words.specs.Layouts.{IsLayout}
 use Rattle.pm_words.specs.Locations.{leaf_count}
-use Rattle.pm_words.specs.Offsets.{depth_offset}
+use Rattle.pm_words.specs.Offsets.{depth_offset, prefix_offset}
 use Rattle.pm_words.specs.Codes.{leaf_kind}
 use Rattle.cat_key.specs.declared.TheConstants.{WORDS}
 use Rattle.radix_nodes.specs.Keys.{key_bytes}
@@ -38,7 +38,7 @@ floor_word at.Root = RootWord
 floor_word (at.Key leaf words word) = LeafWord leaf word
 floor_word (at.Node leaf) = LeafWord leaf WORDS
 floor_word (at.Depth cell) = cell_word cell depth_offset
-floor_word (at.Prefix cell depth words word) = cell_word cell (1 + word)
+floor_word (at.Prefix cell depth words word) = cell_word cell (prefix_offset + word)
 floor_word (at.Scanning cell depth byte scan) = cell_word cell (scan_offset (kind_of cell) byte scan)
 
 abbrev pub floor_asks : Floor → Action

@@ -2,6 +2,7 @@
 use Rattle.std.proofs.Common.{◌≡◌, ◌≢◌, ℕ, ◌+◌, ◌-◌, ◌*◌, ◌^◌, ◌<◌, Some, inl, inr, refl, sym, subst, ap, ap₂, ◌∙◌}
 use Rattle.std.proofs.Common.{arith}
 use Rattle.std.proofs.lemmas.Bool.{cases_eq}
+use Rattle.pm_words.specs.Offsets.{depth_offset, prefix_offset}
 use Rattle.tree_law.specs.Trees.{Reference, Nothing, Leaf, Cell, Tree, Reaches, here, IsReached, IsSound}
 use Rattle.layer_map.specs.cat_key.specs.declared.TheConstants.{WORDS}
 use Rattle.radix_nodes.specs.Keys.{KeyWords}
@@ -58,7 +59,7 @@ module _ (w w' : LayerWords) (x : ℕ) (same : (o : ℕ) → cell_in w' x o ≡ 
   depth_kept = same 0
 
   pub prefix_kept : (tree_of w').prefix x ≡ (tree_of w).prefix x
-  prefix_kept = words_alike (prefix_words (cell_in w' x)) (prefix_words (cell_in w x)) (λ k lt. same (1 + k))
+  prefix_kept = words_alike (prefix_words (cell_in w' x)) (prefix_words (cell_in w x)) (λ k lt. same (prefix_offset + k))
 
   pub child_kept : (b : ℕ) → (tree_of w').child x b ≡ (tree_of w).child x b
   child_kept b = ap (λ c. reference_of (children (kind_of x) c b)) cell_same
@@ -68,7 +69,7 @@ module _ (w w' : LayerWords) (x : ℕ) (same : (o : ℕ) → cell_in w' x o ≡ 
 
 -- its head is
 pub head_kept : (w w' : LayerWords) (x : ℕ) → ((o : ℕ) → o < 4 → cell_in w' x o ≡ cell_in w x o) → (tree_of w').prefix x ≡ (tree_of w).prefix x
-head_kept w w' x same = words_alike (prefix_words (cell_in w' x)) (prefix_words (cell_in w x)) (λ k lt. same (1 + k) (omega arith))
+head_kept w w' x same = words_alike (prefix_words (cell_in w' x)) (prefix_words (cell_in w x)) (λ k lt. same (prefix_offset + k) (omega arith))
 
 -- a leaf's key
 pub leaf_key : (w w' : LayerWords) (i : ℕ) → ((o : ℕ) → o < WORDS → w'.leaf i o ≡ w.leaf i o) → (tree_of w').key i ≡ (tree_of w).key i
@@ -104,7 +105,7 @@ switching count nodes w w' (Entry x b) reference lawful (in_cell {offset = offse
     let root_same : w'.root ≡ w.root = stored.others RootWord (λ e. cc) in
     record {
       tree = as_rooted (tree_of w) (tree_of w')
-          (λ y. elim (cases_eq x y) [ inl same ↦ subst (λ z. cell_in w' z 0 ≡ cell_in w z 0) same (is.head 0 (omega arith)) | inr apart ↦ depth_kept w w' y (cells y apart) ])
+          (λ y. elim (cases_eq x y) [ inl same ↦ subst (λ z. cell_in w' z depth_offset ≡ cell_in w z depth_offset) same (is.head 0 (omega arith)) | inr apart ↦ depth_kept w w' y (cells y apart) ])
           (λ y. elim (cases_eq x y) [ inl same ↦ subst (λ z. (tree_of w').prefix z ≡ (tree_of w).prefix z) same (head_kept w w' x is.head) | inr apart ↦ prefix_kept w w' y (cells y apart) ])
           (λ i. leaf_key w w' i (λ o lt. leaves i o)) (λ i. leaves i WORDS);
       switched = record {

@@ -1,6 +1,7 @@
 -- The words in which a tree is kept, of one row, and what stores and mixes of them make of its layer.
 use Rattle.std.specs.Prelude.{◌≡◌, ◌≢◌, ℕ, ◌-◌, ◌/◌, ◌%◌, ◌^◌, ◌≤◌, ◌==◌, ◌&&◌, ◌⊎◌}
 use Rattle.std.specs.Prelude.{nat_lt, nat_le, if◌then◌else◌, Option, Some}
+use Rattle.pm_words.specs.Offsets.{depth_offset}
 use Rattle.pm_words.specs.Codes.{leaf_kind}
 use Rattle.layer_map.specs.cat_key.specs.declared.TheConstants.{WORDS}
 use Rattle.radix_nodes.specs.Keys.{KeyWords}
@@ -49,7 +50,7 @@ number_of_key key = key_of (key 0) (key 1) (key 2)
 abbrev pub tree_of : LayerWords → Tree
 tree_of w = record {
   root = reference_of w.root;
-  depth = λ x. cell_in w x 0;
+  depth = λ x. cell_in w x depth_offset;
   prefix = λ x. number_of_key (prefix_words (cell_in w x));
   child = λ x b. reference_of (children (kind_of x) (cell_in w x) b);
   key = λ i. number_of_key (w.leaf i);

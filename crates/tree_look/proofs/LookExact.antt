@@ -2,6 +2,7 @@
 use Rattle.std.proofs.Common.{◌≡◌, ◌≢◌, ℕ, zero, suc, ◌+◌, ◌*◌, ◌/◌, ◌%◌, ◌^◌, ◌<◌, ◌≤◌, ◌==◌, ◌&&◌, ◌||◌, not, true, false, cond, ltb, leb, List, slice_index, slice_set, inl, inr, refl, sym, subst, ap, ◌∙◌, arith, le-ltb, lt-ltb}
 use Rattle.std.specs.Prelude.{IsSomeAnd}
 use Rattle.std.proofs.lemmas.Bool.{cases_eq, eqb-true, eqb-false, eq-eqb, ne_eqb, ltb-true, leb-true, lt-leb, and_parts}
+use Rattle.pm_words.specs.Offsets.{prefix_offset}
 use Rattle.pm_words.specs.declared.layout.Layout.{Layout}
 use Rattle.pm_words.specs.declared.machine.Turn.{Turn}
 use Rattle.pm_words.specs.declared.machine.Turn.TheVariants.{Go, Done}
@@ -266,7 +267,7 @@ module _ (l : Layout) (ks : List ℕ) (w : LayerWords) (layout : IsLayout l) (is
       let within : word < WORDS = is.here.3 in
       let read : AreRead prefix next (word + 1) = reads_on prefix words word is.here.2 within knows.3 in
       elim (word + 1 == WORDS) as (λ a. (word + 1 == WORDS) ≡ a → Ends (cond a (looks.has_prefix this cell depth next) (goes_to this (at.Prefix cell depth next (word + 1))))) [
-        | true ↦ λ e. prefix_ends cell depth least outer inner (at.Prefix cell depth words word) next (key_set words word got is.here.2 within (fits (CellWord (kind_of cell) (number_of cell) (1 + word)))) (read_number prefix next (subst (AreRead prefix next) (eqb-true _ _ e) read)) knows.0 knows.1 knows.2
+        | true ↦ λ e. prefix_ends cell depth least outer inner (at.Prefix cell depth words word) next (key_set words word got is.here.2 within (fits (CellWord (kind_of cell) (number_of cell) (prefix_offset + word)))) (read_number prefix next (subst (AreRead prefix next) (eqb-true _ _ e) read)) knows.0 knows.1 knows.2
         | false ↦ λ e. (knows.0, knows.1, knows.2, read)
       ] refl
   turn_ends least outer inner (at.Finding cell depth find) is knows =

@@ -8,7 +8,7 @@ use Rattle.pm_words.specs.declared.machine.Turn.{Turn}
 use Rattle.pm_words.specs.declared.machine.Turn.TheVariants.{Go, Done}
 use Rattle.pm_words.specs.Layouts.{IsLayout}
 use Rattle.pm_words.specs.Locations.{leaf_count, kind_words}
-use Rattle.pm_words.specs.Offsets.{depth_offset}
+use Rattle.pm_words.specs.Offsets.{depth_offset, prefix_offset}
 use Rattle.pm_words.specs.Codes.{leaf_kind}
 use Rattle.cat_key.specs.declared.TheConstants.{WORDS}
 use Rattle.radix_nodes.specs.Keys.{key_bytes}
@@ -33,7 +33,7 @@ abbrev pub look_word : LookAt → List ℕ → LayerWord
 look_word at.Root key = RootWord
 look_word (at.Key leaf words word) key = LeafWord leaf word
 look_word (at.Depth cell) key = cell_word cell depth_offset
-look_word (at.Prefix cell depth words word) key = cell_word cell (1 + word)
+look_word (at.Prefix cell depth words word) key = cell_word cell (prefix_offset + word)
 look_word (at.Finding cell depth find) key =
     cell_word cell (find_offset (kind_of cell) (byte_at depth (key_number key)) find)
 

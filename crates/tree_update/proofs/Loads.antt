@@ -6,7 +6,7 @@ use Rattle.pm_words.specs.declared.action.Action.TheVariants.{Load}
 use Rattle.pm_words.specs.Locations.{Mark, Cached, Durable, kind_words, leaf_count, row_words, address_of, at}
 use Rattle.pm_words.specs.Rows.{acted}
 use Rattle.pm_words.specs.Rows as rows
-use Rattle.pm_words.specs.Offsets.{depth_offset}
+use Rattle.pm_words.specs.Offsets.{depth_offset, prefix_offset}
 use Rattle.tree_law.specs.Trees.{byte_at}
 use Rattle.tree_law.specs.Words.{LayerWord, LayerWords, word_in, kind_of}
 use Rattle.tree_law.specs.Stages.{Marks}
@@ -69,7 +69,7 @@ look_at_has : (l : Layout) (key : List ℕ) (least : ℕ) (part : LookAt) → Is
 look_at_has l key least look_at.Root here = (let lt : 0 < 8 = omega arith in lt)
 look_at_has l key least (look_at.Key leaf words word) here = let within = here.2 in (here.0, (let lt : word < 8 = omega arith in lt))
 look_at_has l key least (look_at.Depth cell) here = head_has l cell depth_offset here (omega arith)
-look_at_has l key least (look_at.Prefix cell depth words word) here = let within = here.3 in head_has l cell (1 + word) here.0 (omega arith)
+look_at_has l key least (look_at.Prefix cell depth words word) here = let within = here.3 in head_has l cell (prefix_offset + word) here.0 (omega arith)
 look_at_has l key least (look_at.Finding cell depth f) here = cell_has l cell (find_offset (kind_of cell) (byte_at depth (key_number key)) f) here.0 (find_in (kind_of cell) (byte_at depth (key_number key)) f (byte_small depth (key_number key)) here.2)
 
 pub look_has : (look : Look) → IsLook look → HasLayerWord look.layout (look_word look.at look.key)
