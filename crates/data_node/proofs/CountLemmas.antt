@@ -47,6 +47,18 @@ len_removed m name =
       | false ↦ λ e. omega arith
     ] is
 
+-- and one that it has takes away one
+pub len_taken : (m : Map) (name : List ℕ) → is_some (at m name) ≡ true → len m ≡ len (remove m name) + 1
+len_taken m name here =
+    let less : len (remove m name) ≡ len m - 1 = len-remove nat_list_cmp_total m name ∙ ap (λ b. cond b (len m - 1) (len m)) here in
+    elim (cases_eq (len m) 0) [
+      | inl none ↦
+          let is_empty : m ≡ empty = empty_of_len m none in
+          let lacks : is_some (at m name) ≡ false = ap (λ (n : Map). is_some (at n name)) is_empty ∙ ap is_some (get-empty name_cmp name) in
+          absurd (cc)
+      | inr some ↦ omega arith
+    ]
+
 pub nothing_stands : (m : Map) → ((name : List ℕ) (value : ℕ) → at m name ≡ Some value → ⊥) → len m ≡ 0
 nothing_stands m none =
     let is_empty : m ≡ empty = same_map nat_list_cmp_total (slice_cmp-IsAntisymmetric nat_cmp-IsAntisymmetric) m empty (λ name.
@@ -91,33 +103,10 @@ has_count s (suc count) m has apart =
     let other : bytes_of (name_words s slot) ≡ last → ⊥ = λ e. let same : slot ≡ count = apart slot count (omega arith) (omega arith) e in omega arith in
     ap is_some (at_removed m last (bytes_of (name_words s slot)) other) ∙ has slot (omega arith))
     (λ slot other within other_within e. apart slot other (omega arith) (omega arith) e) in
-    let less : len (remove m last) ≡ len m - 1 = len-remove nat_list_cmp_total m last ∙ ap (λ b. cond b (len m - 1) (len m)) here in
-    elim (cases_eq (len m) 0) [
-      | inl none ↦
-          let is_empty : m ≡ empty = empty_of_len m none in
-          let lacks : is_some (at m last) ≡ false = ap (λ (n : Map). is_some (at n last)) is_empty ∙ ap is_some (get-empty name_cmp last) in
-          absurd (cc)
-      | inr some ↦ omega arith
-    ]
+    let one = len_taken m last here in
+    omega arith
 
--- a node whose slots are all live means a map with at least as many names
-pub full_has : (slots : ℕ) (s : Spot) (m : Map) → Means slots (λ _. true) s m → AreAllLive (s bitmap_offset) slots → slots ≤ len m
-full_has slots s m means full =
-    has_count s slots m
-    (λ slot within.
-    let named = means.tidy.named slot within (full slot within) in
-    let text : bytes_of (name_words s slot) ≡ named.0 = ap bytes_of (sym named.2) ∙ bytes_of-words_of named.0 named.1 in
-    elim (at m named.0) as (λ o. at m named.0 ≡ o → is_some (at m (bytes_of (name_words s slot))) ≡ true) [
-      | Some value ↦ λ e. ap (λ n. is_some (at m n)) text ∙ ap is_some e
-      | None ↦ λ e. absurd (subst (Finds slots s named.0) e (means.agrees named.0 named.1 refl) slot within (full slot within) (sym named.2))
-    ] refl)
-    (λ slot other within other_within e.
-    let a = means.tidy.named slot within (full slot within) in
-    let b = means.tidy.named other other_within (full other other_within) in
-    let same : a.0 ≡ b.0 = sym (ap bytes_of (sym a.2) ∙ bytes_of-words_of a.0 a.1) ∙ e ∙ ap bytes_of (sym b.2) ∙ bytes_of-words_of b.0 b.1 in
-    means.tidy.apart slot other within other_within (full slot within) (full other other_within) (sym a.2 ∙ ap words_of same ∙ b.2))
-
--- and so does one that means it on a range, and whose live slots have no name out of that
+-- a node whose slots are all live means a map with at least as many names, if none of these lies out of its range
 pub full_has_in : (slots : ℕ) (range : List ℕ → Bool) (s : Spot) (m : Map) → Means slots range s m → StaysIn slots range s → AreAllLive (s bitmap_offset) slots → slots ≤ len m
 full_has_in slots range s m means stays full =
     has_count s slots m

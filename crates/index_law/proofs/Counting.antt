@@ -1,15 +1,15 @@
 -- How many names of a range a node has: as many as the map has there.
-use Rattle.std.proofs.Common.{◌≡◌, ◌≢◌, ℕ, zero, suc, ◌+◌, ◌-◌, ◌<◌, ◌≤◌, inl, inr, Bool, true, false, cond, List, refl, sym, ap, ◌∙◌, arith}
+use Rattle.std.proofs.Common.{◌≡◌, ◌≢◌, ℕ, zero, suc, ◌+◌, ◌<◌, ◌≤◌, inl, inr, Bool, true, false, cond, List, refl, sym, ap, ◌∙◌, arith}
 use Rattle.std.specs.Prelude.{Some, None, is_some}
-use Rattle.std.specs.FinMap.{empty, remove, len, get-empty, len-remove, empty_of_len, retain_keys, get-retain_keys, slice_cmp-IsAntisymmetric, nat_cmp-IsAntisymmetric}
+use Rattle.std.specs.FinMap.{remove, len, retain_keys, get-retain_keys, slice_cmp-IsAntisymmetric, nat_cmp-IsAntisymmetric}
 use Rattle.std.proofs.lemmas.Bool.{cases_eq}
 use Rattle.std.proofs.lemmas.Cmp.{nat_list_cmp_total}
-use Rattle.cat_key.specs.Names.{IsName, name_cmp, words_of, bytes_of}
+use Rattle.cat_key.specs.Names.{IsName, words_of, bytes_of}
 use Rattle.cat_key.proofs.Packing.{bytes_of-words_of}
 use Rattle.cat_history.specs.Maps.{Map, at}
 use Rattle.data_node.specs.Spots.{Spot, name_words, Means}
 use Rattle.data_node.specs.Weights.{has_name_in, names_in}
-use Rattle.data_node.proofs.CountLemmas.{at_removed, not_removed, len_removed, nothing_stands}
+use Rattle.data_node.proofs.CountLemmas.{at_removed, not_removed, len_removed, len_taken, nothing_stands}
 use Rattle.data_node.proofs.NameCounts.{slot_has, has_slot, slots_apart}
 
 -- a slot with the name, of the range
@@ -62,14 +62,8 @@ module _ (range : List ℕ → Bool) (s : Spot) where
             let other : bytes_of (name_words s slot) ≡ last → ⊥ = λ e. let same : slot ≡ count = apart slot count (omega arith) (omega arith) there is e in omega arith in
             ap is_some (at_removed m last (bytes_of (name_words s slot)) other) ∙ has slot (omega arith) there)
             (λ slot other within other_within there other_there e. apart slot other (omega arith) (omega arith) there other_there e) in
-            let less : len (remove m last) ≡ len m - 1 = len-remove nat_list_cmp_total m last ∙ ap (λ b. cond b (len m - 1) (len m)) here in
-            elim (cases_eq (len m) 0) [
-              | inl none ↦
-                  let is_empty : m ≡ empty = empty_of_len m none in
-                  let lacks : is_some (at m last) ≡ false = ap (λ (n : Map). is_some (at n last)) is_empty ∙ ap is_some (get-empty name_cmp last) in
-                  absurd (cc)
-              | inr some ↦ omega arith
-            ]
+            let one = len_taken m last here in
+            omega arith
         | false ↦ λ not.
             let all : names_in count range s ≤ len m = has_in count m (λ slot within there. has slot (omega arith) there)
             (λ slot other within other_within there other_there e. apart slot other (omega arith) (omega arith) there other_there e) in
