@@ -65,6 +65,7 @@ use Rattle.lone_hops_law.specs.lone_updater_law.proofs.ReadyCounts.{ready_are_co
 use Rattle.lone_hops_law.proofs.Short.{short_stays, short_walks}
 use Rattle.index_core.proofs.WornNodes.{worn_target}
 use Rattle.index_core.proofs.Lists.{set_twice}
+use Rattle.index_core.proofs.SplitAnswers.{split_is_ready, split_told}
 use Rattle.index_core.proofs.Taken.{taken_kept, taken_merged, taken_split}
 use Rattle.index_core.proofs.Tries.{ready_with_parties}
 use Rattle.index_core.proofs.PartsAlone.{whole_part}
@@ -563,25 +564,9 @@ module _ (s0 s1 s : Index) (i : ℕ) (c : CoreCall) (is0 : IsIndex s0) (still0 :
   rest_between = rests s1 is1 (tried_still s0 s1 i c first t i still0).calls
 
   splits_first : (r : Once Placed) → needs_split r ≡ true → IsAnswered (world s0) (op_of c) (limit_of c) (world s1) (party_of t.state) r → Split s0 s1 c
-  splits_first (once.Worn node word) again end = absurd (cc)
-  splits_first (once.Spent clock) again end = absurd (cc)
-  splits_first (once.Done placed) again end = absurd (cc)
-  splits_first (once.Again again.NoFree) again end = absurd (cc)
-  splits_first (once.Again (again.NeedsSplit n)) again (unworn, below, full, has, free, same, halved, most) = record {
-    unworn = unworn;
-    below = below;
-    full = full;
-    free = free;
-    history = same;
-    halved = halved;
-    most = most;
-  }
-  splits_first (once.Again (again.Locked n word)) again end = absurd end
-  splits_first (once.Again (again.Moved n one two)) again end = absurd end
-  splits_first (once.Again (again.Hops count)) again end = absurd end
-  splits_first (once.Again again.LogFull) again end = absurd (cc)
-  splits_first (once.Again (again.Held word)) again end = absurd end
-  splits_first (once.Again (again.Epoch one two)) again end = absurd end
+  splits_first r again end =
+      let known = split_told (world s0) (op_of c) (limit_of c) (world s1) (party_of t.state) r end again in
+      record { unworn = known.0; below = known.1; full = known.2; free = known.4; history = known.5; halved = known.6; most = known.7 }
 
   module _ (cut : Split s0 s1 c) where
     same_map : map_of_index s1 ≡ map_of_index s0
@@ -677,19 +662,6 @@ module _ (s0 s1 s : Index) (i : ℕ) (c : CoreCall) (is0 : IsIndex s0) (still0 :
   adds_nothing (once.Again why) again = refl
 
   -- the first made a line READY, and the other left the lines
-  made_first : (r : Once Placed) → needs_split r ≡ true → LeavesLines (name_asked (op_of c)) t.state.caller (world s0) (world s1) r → MakesReady t.state.caller (world s0) (world s1)
-  made_first (once.Worn node word) again lines = absurd (cc)
-  made_first (once.Spent clock) again lines = absurd (cc)
-  made_first (once.Done placed) again lines = absurd (cc)
-  made_first (once.Again again.NoFree) again lines = absurd (cc)
-  made_first (once.Again (again.NeedsSplit n)) again lines = lines
-  made_first (once.Again (again.Locked n word)) again lines = absurd (cc)
-  made_first (once.Again (again.Moved n one two)) again lines = absurd (cc)
-  made_first (once.Again (again.Hops count)) again lines = absurd (cc)
-  made_first (once.Again again.LogFull) again lines = absurd (cc)
-  made_first (once.Again (again.Held word)) again lines = absurd (cc)
-  made_first (once.Again (again.Epoch one two)) again lines = absurd (cc)
-
   kept_then : Split s0 s1 c → (r : Once Placed) → IsAnswered (world s1) (op_of c) (limit_of c) (world s) (party_of u.state) r → LeavesLines (name_asked (op_of c)) u.state.caller (world s1) (world s) r → KeepsLines (world s1) (world s)
   kept_then cut (once.Worn node word) end lines = lines
   kept_then cut (once.Spent clock) end lines = lines
@@ -774,7 +746,7 @@ module _ (s0 s1 s : Index) (i : ℕ) (c : CoreCall) (is0 : IsIndex s0) (still0 :
         list = end.0.list;
         stamps = λ n here. inl (ap (λ (stamp : ℕ → ℕ). stamp n) (u.stamps ∙ t.stamps));
         log = λ _.
-            let made = subst (λ (caller : ℕ). MakesReady caller (world s0) (world s1)) (is0.states i t.state t.there).caller (made_first first again t.lines) in
+            let made = subst (λ (caller : ℕ). MakesReady caller (world s0) (world s1)) (is0.states i t.state t.there).caller (split_is_ready (name_asked (op_of c)) t.state.caller (world s0) (world s1) first t.lines again) in
             record {
               layer = u.layer ∙ t.layer;
               lines = inr (inl end.1, record { line = made.line; within = made.within; own = made.own; was_empty = made.was_empty; is = kept_then cut answer u.answered u.lines ∙ made.is });

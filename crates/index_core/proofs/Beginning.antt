@@ -19,7 +19,7 @@ use Rattle.call_stages.specs.declared.once.Once.{Once}
 use Rattle.call_stages.specs.declared.once.Once.TheVariants as once
 use Rattle.call_stages.specs.declared.once.Placed.{Placed}
 use Rattle.node_ops.specs.declared.running.Running.{Running}
-use Rattle.cat_history.specs.Records.{change_of}
+use Rattle.cat_history.specs.Records.{change_of, interval_at}
 use Rattle.node_ops.specs.Asked.{IsOf, name_asked}
 use Rattle.node_ops.proofs.OpLaw.{op_told}
 use Rattle.node_ops.specs.Endings.{IsPutOp}
@@ -28,13 +28,13 @@ use Rattle.shapes.proofs.Shapes.{len-keys}
 use Rattle.shapes.proofs.NameLists.{filter-short}
 use Rattle.index_law.specs.Worlds.{written}
 use Rattle.index_law.proofs.Maps.{after-longer, after-whole, slice_get-last}
-use Rattle.index_law.proofs.Parties.{at_set, at_longer}
+use Rattle.index_law.proofs.Parties.{at_set}
 use Rattle.index_core.specs.declared.party.CoreCall.{CoreCall}
 use Rattle.index_core.specs.declared.party.CoreCall.TheVariants as call
 use Rattle.index_core.specs.declared.party.PartyState.{PartyState}
 use Rattle.index_core.specs.declared.party.Whole.{Whole}
 use Rattle.index_core.specs.declared.party.Whole.TheVariants as whole
-use Rattle.index_core.specs.Answers.{TookPlace, FoundNoRoom}
+use Rattle.index_core.specs.Answers.{TookPlace, FoundNoRoom, HasOwnWrite}
 use Rattle.node_ops.specs.PartSteps.{words_placed}
 use Rattle.index_core.specs.CoreCalls.{machine_of, op_of, limit_of, count_of}
 use Rattle.index_core.specs.Listings.{ListsRange}
@@ -46,7 +46,7 @@ use Rattle.index_core.proofs.Stepping.{begins_limit, begins_count}
 use Rattle.index_core.proofs.Flights.{each_starts, each_alone}
 use Rattle.index_core.proofs.Indexed.{next_other, next_own, indexes_push, states_set}
 use Rattle.index_core.proofs.Lists.{within, at_end, end_there, got_end}
-use Rattle.index_core.proofs.Scheduling.{IsEarlier, AnswerHolds, CallHolds, in_flight, CountsUpTo, Kept, longer_call, else_there}
+use Rattle.index_core.proofs.Scheduling.{IsEarlier, AnswerHolds, CallHolds, in_flight, CountsUpTo, Kept, longer_call, flies_elsewhere, answered_longer}
 
 -- a limit that isn't reached is above
 below_limit : (limit : Option ℕ) (count : ℕ) → (IsSomeAnd limit (λ most. most ≤ count) → ⊥) → IfSome limit (λ most. count < most)
@@ -137,17 +137,7 @@ module _ (first : Index) (begun : List BegunCall) (calls : List AnsweredCall) (s
             (at_set s.states i p now state at_p);
         writes = λ place write stands. ⊎_elim
             (λ (w : IsAnsweredWrite calls place write). inl w)
-            (λ (w : IsWriteInFlight s.states place write). inr (record {
-              party = w.party;
-              state = w.state;
-              machine = w.machine;
-              there = else_there s.states i w.party now w.state (elsewhere w.party w.state w.machine w.there w.flies) w.there;
-              flies = w.flies;
-              place = w.place;
-              caller = w.caller;
-              index = w.index;
-              change = w.change;
-            }))
+            (λ (w : IsWriteInFlight s.states place write). inr (flies_elsewhere s.states i now w (elsewhere w.party w.state w.machine w.there w.flies)))
             (k.writes place write stands);
         next = k.next;
         indexes = k.indexes;
@@ -181,34 +171,30 @@ module _ (first : Index) (begun : List BegunCall) (calls : List AnsweredCall) (s
       map_is h place last =
           after-longer base s.history h place (omega arith) ∙ after-whole base s.history place last ∙ ap (λ (m : Map). after_all m s.history) (sym k.base_is)
 
-      -- it took place at the end of the history
+      -- it took place at the end of the history, as one that writes
+      took_write : (o : NameOp) (d : Change) (placed : Placed) → (interval_at o placed.place).end ≡ placed.place + 1 → change_of o ≡ Some d → IfSome (limit_of c) (λ most. length s.history < most)
+          → placed.old ≡ at (map_of_index s) (name_asked o) → placed.place ≡ length s.history
+          → TookPlace base (s.history ++ written e.caller e.index (Some d)) e.caller e.index (length s.history) o (limit_of c) placed
+      took_write o d placed ends writes below old last =
+          let w : Write = record { caller = e.caller; index = e.index; change = d } in
+          let long = length-append s.history (w ∷ []) in
+          let stands : slice_get (s.history ++ w ∷ []) placed.place ≡ Some w = ap (slice_get (s.history ++ w ∷ [])) last ∙ slice_get-last s.history w in
+          record {
+            later = omega arith;
+            within = omega arith;
+            below = below;
+            old = old ∙ ap (λ (m : Map). at m (name_asked o)) (sym (map_is (w ∷ []) placed.place last));
+            write = subst (λ (q : Option Change). HasOwnWrite (s.history ++ w ∷ []) e.caller e.index q placed.place) (sym writes) stands;
+          }
+
+      -- or as any
       took : (o : NameOp) (placed : Placed) → IfSome (limit_of c) (λ most. length s.history < most) → placed.old ≡ at (map_of_index s) (name_asked o) → placed.place ≡ length s.history
           → TookPlace base (s.history ++ written e.caller e.index (change_of o)) e.caller e.index (length s.history) o (limit_of c) placed
       took (op.Get name) placed below old last =
           let long = length-append s.history [] in
           record { later = omega arith; within = omega arith; below = below; old = old ∙ ap (λ (m : Map). at m name) (sym (map_is [] placed.place last)); write = tt }
-      took (op.Put name value) placed below old last =
-          let w : Write = record { caller = e.caller; index = e.index; change = change.Put name value } in
-          let long = length-append s.history (w ∷ []) in
-          let stands : slice_get (s.history ++ w ∷ []) placed.place ≡ Some w = ap (slice_get (s.history ++ w ∷ [])) last ∙ slice_get-last s.history w in
-          record {
-            later = omega arith;
-            within = omega arith;
-            below = below;
-            old = old ∙ ap (λ (m : Map). at m name) (sym (map_is (w ∷ []) placed.place last));
-            write = stands;
-          }
-      took (op.Del name) placed below old last =
-          let w : Write = record { caller = e.caller; index = e.index; change = change.Del name } in
-          let long = length-append s.history (w ∷ []) in
-          let stands : slice_get (s.history ++ w ∷ []) placed.place ≡ Some w = ap (slice_get (s.history ++ w ∷ [])) last ∙ slice_get-last s.history w in
-          record {
-            later = omega arith;
-            within = omega arith;
-            below = below;
-            old = old ∙ ap (λ (m : Map). at m name) (sym (map_is (w ∷ []) placed.place last));
-            write = stands;
-          }
+      took (op.Put name value) placed below old last = took_write (op.Put name value) (change.Put name value) placed refl refl below old last
+      took (op.Del name) placed below old last = took_write (op.Del name) (change.Del name) placed refl refl below old last
 
       -- a put that found no room found none at the end of the history
       lacked_room : (d : CoreCall) → FindsNoRoom d s → IsPutOp (op_of d) × FoundNoRoom first.layout.slots base (s.history ++ []) (length s.history) (length (s.history ++ [])) (name_asked (op_of d))
@@ -350,17 +336,7 @@ module _ (first : Index) (begun : List BegunCall) (calls : List AnsweredCall) (s
             (at_set s.states i p done state at_p);
         writes = λ place write stands. inl (⊎_elim
             (λ (before : slice_get s.history place ≡ Some write). ⊎_elim
-            (λ (w : IsAnsweredWrite calls place write). record {
-              number = w.number;
-              answered = w.answered;
-              placed = w.placed;
-              there = at_longer calls (a ∷ []) w.number w.answered w.there;
-              answer = w.answer;
-              place = w.place;
-              caller = w.caller;
-              index = w.index;
-              change = w.change;
-            })
+            (λ (w : IsAnsweredWrite calls place write). answered_longer calls (a ∷ []) w)
             (λ (w : IsWriteInFlight s.states place write). absurd (none_flies w.party w.state w.machine w.there w.flies))
             (k.writes place write before))
             (λ last. record {

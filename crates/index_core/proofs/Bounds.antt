@@ -31,7 +31,7 @@ use Rattle.index_law.specs.Worlds.{facts, written}
 use Rattle.index_law.specs.Lawful.{Sure}
 use Rattle.index_law.proofs.Parties.{at_set}
 use Rattle.index_core.specs.declared.party.PartyState.{PartyState}
-use Rattle.index_core.specs.PartyStates.{machine_stage, party_of, state_after, state_counted}
+use Rattle.index_core.specs.PartyStates.{machine_stage, party_of, state_after}
 use Rattle.index_core.specs.Indexes.{IsOwnWrite, parties_of, Index, IsIndex, HasLimit, IsBounded, MakesCall, world, told}
 use Rattle.index_core.proofs.Owing.{merging_counts, part_counts, splitting_counts}
 use Rattle.index_core.proofs.Lists.{map_there, got_end, some_same, within}
@@ -228,13 +228,16 @@ start_bounded s i e c is here = record {
   late = is.bounded.late;
 }
 
--- and the count of a call of an idle party
-pub count_bounded : (s : Index) (i : ℕ) (e : PartyState) → IsIndex s → e.machine ≡ None → IsBounded (parties_of s.layout) (set s.states i (state_counted e)) s.history
-count_bounded s i e is idle = record {
+-- and another index of an idle party
+pub reindex_bounded : (s : Index) (i : ℕ) (e : PartyState) (index : ℕ) → IsIndex s → e.machine ≡ None → IsBounded (parties_of s.layout) (set s.states i (record e { index = index })) s.history
+reindex_bounded s i e index is idle = record {
   limits = λ j state next at goes. ⊎_elim
-      (λ (mine : (j ≡ i) × (state_counted e ≡ state)). absurd (let both : None ≡ Some next = sym idle ∙ ap (λ (d : PartyState). d.machine) mine.1 ∙ goes in cc))
+      (λ (mine : (j ≡ i) × (now ≡ state)). absurd (let both : None ≡ Some next = sym idle ∙ ap (λ (d : PartyState). d.machine) mine.1 ∙ goes in cc))
       (λ (other : (j ≢ i) × (get_elem? s.states j ≡ some state)). is.bounded.limits j state next other.1 goes)
-      (at_set s.states i j (state_counted e) state at);
+      (at_set s.states i j now state at);
   writers = is.bounded.writers;
   late = is.bounded.late;
 }
+  where
+    now : PartyState
+    now = record e { index = index }

@@ -1,6 +1,7 @@
 -- How many actions a lone call makes.
 use Rattle.std.proofs.Common.{◌⊎◌, inl, inr, ◌≡◌, ℕ, ◌+◌, ◌-◌, ◌*◌, ◌≤◌, Bool, true, false, cond, Option, Some, None}
-use Rattle.std.proofs.Common.{List, length, refl, ap, ◌∙◌, arith}
+use Rattle.std.proofs.Common.{List, length, refl, sym, ap, ◌∙◌, subst, arith}
+use Rattle.std.proofs.lemmas.Bool.{false_from_ne_true}
 use mathlib.Core.Option.{some}
 use lib.ListN.{get_elem?}
 use Rattle.pm_words.specs.declared.again.Again.TheVariants as again
@@ -51,6 +52,7 @@ use Rattle.lone_hops_law.specs.lone_updater_law.proofs.ReadyCounts.{ready_are_co
 use Rattle.lone_hops_law.proofs.Short.{short_stays}
 use Rattle.index_core.proofs.Alone.{late_was, walk_is_short}
 use Rattle.index_core.proofs.Retrying.{split_is_full, turned_back}
+use Rattle.index_core.proofs.SplitAnswers.{is_split, split_is_ready, split_told}
 use Rattle.index_core.proofs.Tries.{Lone, cost_at, cost_in, lone_there, lone_done, lone_tries}
 
 pub lone_cost : (s0 s : Index) (i : ℕ) (c : CoreCall) (o : Lone s0 s i c) → cost_at s i ≡ running_left o.machine + spared o.machine
@@ -215,16 +217,12 @@ actions_are_few l (call.Turn stamp release) lines is = let nodes = is.nodes.1 in
 -- a call that needs no turn isn't turned back for want of a line, or of a node
 pub needs_none : (s s1 : Index) (i : ℕ) (c : CoreCall) (r : Once Placed) → IsIndex s → HasNoCalls s → TriesAlone s i c s1 r → NeedsNoTurn i c s → (lacks_line r ≡ false) × (lacks_node r ≡ false)
 needs_none s s1 i c r is idle t none = (
-  not_so (lacks_line r) (λ lacks. back (inl lacks)),
-  not_so (lacks_node r) (λ lacks. back (inr lacks)),
+  false_from_ne_true (lacks_line r) (λ lacks. back (inl lacks)),
+  false_from_ne_true (lacks_node r) (λ lacks. back (inr lacks)),
 )
   where
     back : (lacks_line r ≡ true) ⊎ (lacks_node r ≡ true) → ⊥
     back lacks = (turned_back s s1 i c is idle t.state (is.states i t.state t.there).caller r lacks t.answered).turned none
-
-    not_so : (b : Bool) → (b ≡ true → ⊥) → b ≡ false
-    not_so true never = absurd (never refl)
-    not_so false never = refl
 
 unworn_is : (answer : Once Placed) → IsUnwornWhole (whole_of answer) → IsUnworn answer
 unworn_is (once.Done placed) unworn = tt
@@ -250,36 +248,13 @@ tries_are_whole s0 i c answer before after tries short none unworn = at c answer
 
 -- a try that has split its node leaves one line more READY, and wasn't late
 pub split_lines : (name : List ℕ) (caller : ℕ) (w0 w : World) (r : Once Placed) → w.layout ≡ w0.layout → LeavesLines name caller w0 w r → needs_split r ≡ true → ready_lines w ≡ ready_lines w0 + 1
-split_lines name caller w0 w (once.Again (again.NeedsSplit node)) layout made is = (ready_are_counted caller w0 w layout).1 made
-split_lines name caller w0 w (once.Again (again.Locked node word)) layout made is = absurd (cc)
-split_lines name caller w0 w (once.Again (again.Moved node first second)) layout made is = absurd (cc)
-split_lines name caller w0 w (once.Again (again.Hops count)) layout made is = absurd (cc)
-split_lines name caller w0 w (once.Again again.LogFull) layout made is = absurd (cc)
-split_lines name caller w0 w (once.Again again.NoFree) layout made is = absurd (cc)
-split_lines name caller w0 w (once.Again (again.Held word)) layout made is = absurd (cc)
-split_lines name caller w0 w (once.Again (again.Epoch first second)) layout made is = absurd (cc)
-split_lines name caller w0 w (once.Done placed) layout made is = absurd (cc)
-split_lines name caller w0 w (once.Spent clock) layout made is = absurd (cc)
-split_lines name caller w0 w (once.Worn node word) layout made is = absurd (cc)
+split_lines name caller w0 w r layout made is = (ready_are_counted caller w0 w layout).1 (split_is_ready name caller w0 w r made is)
 
 split_in_time : (w w' : World) (c : CoreCall) (p : Party) (r : Once Placed) → IsAnswered w (op_of c) (limit_of c) w' p r → needs_split r ≡ true → IsLate w (limit_of c) → ⊥
-split_in_time w w' c p (once.Again (again.NeedsSplit node)) (unworn, below, full, has, free, same, halved, most) is = below
-split_in_time w w' c p (once.Again again.NoFree) end is = absurd (cc)
-split_in_time w w' c p (once.Again again.LogFull) end is = absurd (cc)
-split_in_time w w' c p (once.Again (again.Locked node word)) end is = absurd end
-split_in_time w w' c p (once.Again (again.Moved node first second)) end is = absurd end
-split_in_time w w' c p (once.Again (again.Hops count)) end is = absurd end
-split_in_time w w' c p (once.Again (again.Held word)) end is = absurd end
-split_in_time w w' c p (once.Again (again.Epoch first second)) end is = absurd end
-split_in_time w w' c p (once.Done placed) end is = absurd (cc)
-split_in_time w w' c p (once.Spent clock) end is = absurd (cc)
-split_in_time w w' c p (once.Worn node word) end is = absurd (cc)
+split_in_time w w' c p r end is = (split_told w (op_of c) (limit_of c) w' p r end is).1
 
 split_unworn : (r : Once Placed) → needs_split r ≡ true → IsUnworn r
-split_unworn (once.Again why) is = tt
-split_unworn (once.Done placed) is = tt
-split_unworn (once.Spent clock) is = tt
-split_unworn (once.Worn node word) is = absurd (cc)
+split_unworn r is = subst IsUnworn (sym (is_split r is).1) tt
 
 other_of_put : (l : Layout) (name : List ℕ) (value limit : ℕ) (r : Once Placed) → other_actions l (call.Put name value limit) r ≤ split_actions
 other_of_put l name value limit (once.Done placed) = omega arith

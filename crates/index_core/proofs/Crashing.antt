@@ -15,7 +15,8 @@ use Rattle.node_ops.specs.RunningSteps.{IsRunning, Sound}
 use Rattle.node_ops.specs.CallStages.{stage_of}
 use Rattle.node_ops.proofs.OpLaw.{pends_own_change, holds_own_name}
 use Rattle.index_law.specs.Worlds.{Party, facts}
-use Rattle.index_law.specs.Lawful.{Sure, IsPlaced}
+use Rattle.index_law.specs.Footed.{IsFooted}
+use Rattle.index_law.specs.Lawful.{Lawful, Sure, IsPlaced}
 use Rattle.index_law.specs.Laws.{HasPending}
 use Rattle.image_rules.specs.Sound.{image_map}
 use Rattle.data_node.specs.Lists.{members_from}
@@ -24,6 +25,7 @@ use Rattle.index_law.specs.Weights.{weight_sum}
 use Rattle.index_law.proofs.Images.{image_law, in_image}
 use Rattle.index_law.proofs.Evictions.{evict_law}
 use Rattle.index_law.proofs.Weights.{crash_weighs}
+use Rattle.index_image_law.specs.index_layer_law.specs.Layers.{IsLayered}
 use Rattle.index_image_law.proofs.CrashLaw.{crash_leaves_sound_by_all}
 use Rattle.index_core.specs.declared.party.PartyState.{PartyState}
 use Rattle.index_core.specs.Crashes.{IsCrash, AreRunning, evicted_index, unplaced, cut_change, cut_changes}
@@ -32,27 +34,30 @@ use Rattle.index_core.specs.Weights.{crash_weight}
 use Rattle.index_core.specs.Indexes.{Index, IsIndex, IsOwnWrite, footed, layered, world}
 use Rattle.index_law.proofs.Footed.{evict_footed}
 use Rattle.index_core.proofs.Layering.{evict_layered}
-use Rattle.index_core.proofs.Permuting.{evict_permuted}
+use Rattle.index_core.proofs.Permuting.{HasPermutations, evict_permuted}
 use Rattle.index_core.proofs.Lists.{map_there, map_from}
+
+-- an index with other words is one where all that is told of words holds of these too
+pub words_keep : (s : Index) (words : List ℕ) → IsIndex s → Lawful (world (record s { words = words })) → IsFooted (footed (record s { words = words })) → IsLayered (layered (record s { words = words })) → HasPermutations (record s { words = words }) → IsIndex (record s { words = words })
+words_keep s words is lawful footing layering permuting = record {
+  lawful = lawful;
+  whole = footing.0;
+  tended = footing.1;
+  layered = layering;
+  parties = is.parties;
+  states = is.states;
+  ordered = is.ordered;
+  bounded = is.bounded;
+  named = is.named;
+  rechecks = is.rechecks;
+  permuted = permuting.0;
+  relying = permuting.1;
+}
 
 pub evict_keeps : (s : Index) (word : ℕ) → IsIndex s → word < image_words s.layout → IsIndex (evicted_index s word)
 evict_keeps s word is within =
-    let kept = evict_footed (footed s) word (is.whole, is.tended) within in
-    let permuted = evict_permuted s word (is.permuted, is.relying) within (evict_law (world s) word is.lawful within) in
-    record {
-      lawful = evict_law (world s) word is.lawful within;
-      whole = kept.0;
-      tended = kept.1;
-      layered = evict_layered s word is.layered within;
-      parties = is.parties;
-      states = is.states;
-      ordered = is.ordered;
-      bounded = is.bounded;
-      named = is.named;
-      rechecks = is.rechecks;
-      permuted = permuted.0;
-      relying = permuted.1;
-    }
+    let lawful = evict_law (world s) word is.lawful within in
+    words_keep s (evicted s.layout s.words word) is lawful (evict_footed (footed s) word (is.whole, is.tended) within) (evict_layered s word is.layered within) (evict_permuted s word (is.permuted, is.relying) within lawful)
 
 -- the index with this row
 abbrev pub with_row : Index → Row → Index

@@ -1,6 +1,6 @@
 -- Calls that are on a name or turns of the updater: which of the two a call is, and what either leaves.
 use Rattle.std.proofs.Common.{◌≡◌, ℕ, ◌<◌, ◌≤◌, inl, inr, ⊎_elim, length, refl, sym, ap, ◌∙◌, subst, arith}
-use Rattle.std.specs.Prelude.{Option, Some, None, true, is_some}
+use Rattle.std.specs.Prelude.{Option, Some, true, is_some}
 use mathlib.Core.Option.{some, some-injective}
 use lib.ListN.{get_elem?}
 use Rattle.pm_words.specs.declared.machine.Turn.{Turn}
@@ -33,6 +33,7 @@ use Rattle.index_core.specs.PartyStates.{recheck_after, recheck_reply, recheck_s
 use Rattle.index_core.specs.Rechecks.{RecheckSteps, RecheckStepsTo, StartsRecheck, recheck_told}
 use Rattle.index_core.specs.Turns.{StartsTurn, TurnSteps, TurnStepsTo, turn_told}
 use Rattle.index_core.proofs.Checks.{recheck_owes}
+use Rattle.index_core.proofs.Lists.{some_of}
 use Rattle.index_core.proofs.TurnReading.{turn_owes}
 
 abbrev pub IsNoTurn : CoreCall → Type 0
@@ -208,11 +209,7 @@ busy_there s i (inr (inl turns)) = (turns.state, turns.there)
 busy_there s i (inr (inr checks)) = (checks.state, checks.there)
 
 pub flies_told : (s : Index) (i : ℕ) (e : PartyState) → get_elem? s.states i ≡ some e → is_some e.machine ≡ true → IsInFlight s i
-flies_told s i e there = by_machine e.machine refl
-  where
-    by_machine : (m : Option Running) → e.machine ≡ m → is_some m ≡ true → IsInFlight s i
-    by_machine (Some m) flies is = record { state = e; machine = m; there = there; flies = flies }
-    by_machine None flies is = absurd cc
+flies_told s i e there is = let m = some_of e.machine is in record { state = e; machine = m.0; there = there; flies = m.1 }
 
 pub tells_flight : (s : Index) (i : ℕ) (e : PartyState) → get_elem? s.states i ≡ some e → IsInFlight s i → is_some e.machine ≡ true
 tells_flight s i e there f =
@@ -220,11 +217,7 @@ tells_flight s i e there f =
     ap (λ (d : PartyState). is_some d.machine) same ∙ ap is_some f.flies
 
 pub turns_told : (s : Index) (i : ℕ) (e : PartyState) → get_elem? s.states i ≡ some e → is_some e.turn ≡ true → IsTurning s i
-turns_told s i e there = by_turn e.turn refl
-  where
-    by_turn : (t : Option MakeTurn) → e.turn ≡ t → is_some t ≡ true → IsTurning s i
-    by_turn (Some t) turns is = record { state = e; making = t; there = there; turns = turns }
-    by_turn None turns is = absurd cc
+turns_told s i e there is = let t = some_of e.turn is in record { state = e; making = t.0; there = there; turns = t.1 }
 
 pub tells_turn : (s : Index) (i : ℕ) (e : PartyState) → get_elem? s.states i ≡ some e → IsTurning s i → is_some e.turn ≡ true
 tells_turn s i e there f =

@@ -1,12 +1,10 @@
 -- How many actions a lone call has made, where it is in flight and where it ends, and what they are of a budget.
 use Rattle.std.proofs.Common.{◌≡◌, ℕ, ◌+◌, ◌-◌, ◌*◌, ◌≤◌, Bool, true, cond, List, refl, sym, ap, ◌∙◌, subst, arith}
 use Rattle.std.specs.Prelude.{Option, Some, None}
-use Rattle.pm_words.specs.declared.again.Again.TheVariants as again
 use Rattle.pm_words.specs.declared.layout.Layout.{Layout}
 use Rattle.cat_history.specs.Maps.{map_of}
 use Rattle.cat_history.specs.Writes.{after_all}
 use Rattle.call_stages.specs.declared.once.Once.{Once}
-use Rattle.call_stages.specs.declared.once.Once.TheVariants as once
 use Rattle.call_stages.specs.declared.once.Placed.{Placed}
 use Rattle.node_ops.specs.declared.call.Call.{Call}
 use Rattle.node_ops.specs.declared.lookup.LookupAt.{LookupAt}
@@ -25,7 +23,7 @@ use Rattle.node_ops.specs.Costs.{has_landed, hops_spared, lookup_landed, spared,
 use Rattle.node_ops.specs.LookupSteps.{IsLookupAt, lookup_at_left}
 use Rattle.node_ops.specs.RunningSteps.{IsRunning, running_call, running_left}
 use Rattle.index_law.specs.Worlds.{World}
-use Rattle.lone_hops_law.specs.lone_call_law.specs.LoneCalls.{FindsFull, Foresees, IsAnswered, IsThere}
+use Rattle.lone_hops_law.specs.lone_call_law.specs.LoneCalls.{FindsFull, Foresees, IsThere}
 use Rattle.lone_hops_law.specs.lone_call_law.specs.There.{LookupStands, WalksBy}
 use Rattle.lone_hops_law.specs.lone_updater_law.specs.CallLogs.{ready_lines}
 use Rattle.node_ops.specs.search_layer.specs.Floors.{floor_most}
@@ -42,6 +40,7 @@ use Rattle.index_core.proofs.Alone.{split_has_room, walk_is_short}
 use Rattle.index_core.proofs.Costs.{first_left, landed_walks, look_walks, lone_cost, split_lines}
 use Rattle.index_core.proofs.Quiet.{rests}
 use Rattle.index_core.proofs.Retrying.{split_is_full}
+use Rattle.index_core.proofs.SplitAnswers.{split_told}
 use Rattle.index_core.proofs.Tries.{Lone, cost_at}
 
 -- the split that a put may still make, or has spared
@@ -211,21 +210,9 @@ try_in_time T s0 c result budget before after short tries =
 
 -- a put that has split its node has room there
 split_room : (s0 s1 : Index) (i : ℕ) (c : CoreCall) (first : Once Placed) → IsIndex s1 → HasNoCalls s1 → (t : TriesAlone s0 i c s1 first) → needs_split first ≡ true → FindsFull (world s1) (op_of c) → ⊥
-split_room s0 s1 i c first is idle t made = at first made t.answered
-  where
-    at : (r : Once Placed) → needs_split r ≡ true → IsAnswered (world s0) (op_of c) (limit_of c) (world s1) (party_of t.state) r → FindsFull (world s1) (op_of c) → ⊥
-    at (once.Again (again.NeedsSplit node)) made (unworn, below, full, has, free, same, halved, most) =
-        split_has_room s0 s1 c (rests s1 is idle) (λ k. after_all (map_of (t.base k)) (same k)) halved
-    at (once.Again again.NoFree) made end = absurd (cc)
-    at (once.Again again.LogFull) made end = absurd (cc)
-    at (once.Again (again.Locked node word)) made end = absurd end
-    at (once.Again (again.Hops count)) made end = absurd end
-    at (once.Again (again.Moved node one two)) made end = absurd end
-    at (once.Again (again.Held word)) made end = absurd end
-    at (once.Again (again.Epoch one two)) made end = absurd end
-    at (once.Done placed) made end = absurd (cc)
-    at (once.Spent clock) made end = absurd (cc)
-    at (once.Worn node word) made end = absurd (cc)
+split_room s0 s1 i c first is idle t made =
+    let known = split_told (world s0) (op_of c) (limit_of c) (world s1) (party_of t.state) first t.answered made in
+    split_has_room s0 s1 c (rests s1 is idle) (λ k. after_all (map_of (t.base k)) (known.5 k)) known.6
 
 -- and it has made these and those
 split_most : (l : Layout) (c : CoreCall) (lines : ℕ) (w : World) → FindsFull w (op_of c) → (look_actions l lines + behind_actions l c) + (look_actions l (lines + 1) + room_actions l c) ≤ most_actions l c lines

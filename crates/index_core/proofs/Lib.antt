@@ -5,6 +5,7 @@ pub mod Ordering
 pub mod Bounds
 pub mod Footings
 pub mod Checks
+pub mod Beside
 pub mod RecheckReading
 pub mod LoneRechecks
 pub mod PartFacts
@@ -34,6 +35,7 @@ pub mod Bursting
 pub mod CoreBursts
 pub mod PartsAlone
 pub mod Taken
+pub mod SplitAnswers
 pub mod Alone
 pub mod Retrying
 pub mod PartTries
@@ -54,6 +56,7 @@ pub mod Rechecks
 pub mod TurnReading
 pub mod LoneTurning
 pub mod Passing
+pub mod PartyPlaces
 pub mod CorePasses
 pub mod SteppedTurns
 pub mod Opening

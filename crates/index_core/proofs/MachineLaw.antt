@@ -1,8 +1,8 @@
 -- The laws on parties and their machines.
-use Rattle.std.proofs.Common.{inr, ◌≡◌, ℕ, map, refl, sym, ap, ◌∙◌, subst, arith, ◌+◌, ◌<◌, ◌≤◌, ⊎_elim, List, length, ◌≢◌, set}
+use Rattle.std.proofs.Common.{◌≡◌, ℕ, map, refl, sym, ap, ◌∙◌, subst, arith, ◌+◌, ◌<◌, ◌≤◌, ⊎_elim, List, length, set}
 use Rattle.std.specs.Prelude.{Option, Some, None, IfSome}
 use mathlib.Core.Option.{some}
-use lib.ListN.{get_elem?, length-set}
+use lib.ListN.{get_elem?}
 use Rattle.cat_history.specs.Records.{change_of}
 use Rattle.cat_history.specs.declared.op.Change.{Change}
 use Rattle.pm_words.specs.declared.layout.Layout.{Layout}
@@ -17,21 +17,21 @@ use Rattle.node_ops.specs.Asked.{IsOf, IsOfAfter, op_in}
 use Rattle.node_ops.specs.RunningSteps.{running_asks, running_turned, running_call, Sound}
 use Rattle.node_ops.specs.CallStages.{stage_of, reply_of}
 use Rattle.index_law.specs.Worlds.{Party, World, facts}
-use Rattle.index_law.specs.Lawful.{Sure, Lawful}
+use Rattle.index_law.specs.Lawful.{Sure}
 use Rattle.index_law.specs.Laws.{IsAtRest, IsWithin}
 use Rattle.index_law.proofs.Own.{sure_within}
-use Rattle.index_law.proofs.Parties.{at_set, set_here}
+use Rattle.index_law.proofs.Parties.{set_here}
 use Rattle.index_law.proofs.Weights.{swap_weighs, idle_weighs}
-use Rattle.index_law.proofs.Starts.{idle_law, rest_law, swap_law}
+use Rattle.index_law.proofs.Starts.{idle_law, rest_law}
 use Rattle.index_core.specs.declared.party.CoreCall.{CoreCall}
 use Rattle.index_core.specs.declared.party.CoreCall.TheVariants as call
 use Rattle.index_core.specs.declared.party.PartyState.{PartyState}
 use Rattle.index_core.specs.CoreCalls.{machine_of}
-use Rattle.index_core.specs.PartyStates.{IsPartyState, IsTurnOf, state_after, state_with, machine_stage, party_of}
+use Rattle.index_core.specs.PartyStates.{IsTurnOf, state_after, state_with, machine_stage, party_of}
 use Rattle.updater.specs.declared.making.MakeTurn.{MakeTurn}
-use Rattle.index_core.proofs.Checks.{checks_none, checks_set}
-use Rattle.index_core.proofs.Layering.{one_layered, idle_layered}
-use Rattle.index_core.proofs.Permuting.{idled, one_permuted, same_row}
+use Rattle.index_core.proofs.Checks.{checks_none}
+use Rattle.index_core.proofs.Layering.{idle_layered}
+use Rattle.index_core.proofs.Permuting.{idled, same_row}
 use Rattle.index_core.specs.Indexes.{Index, IsIndex, footed, world, told, view_of, stepped_index}
 use Rattle.index_core.specs.Lone.{HasNoCalls}
 use Rattle.index_core.specs.MachineLaws.{IsReady, ReadyAfter, MachineKeeps, BeginKeeps, FirstIsReady, IdleKeep, place_told, place_now, place_next, PlacesFollow}
@@ -50,8 +50,8 @@ use Rattle.index_core.proofs.Answering.{says_of}
 use Rattle.index_core.proofs.Epochless.{step_is_no_epoch}
 use Rattle.index_core.proofs.Lists.{map_from, map_there, map_set, set_twice}
 use Rattle.index_law.proofs.Footed.{rest_footed}
-use Rattle.index_core.proofs.Footings.{line_of, debt_of, free_states, may_do_names, swap_footed}
-use Rattle.index_core.proofs.Stepping.{may_do, step_facts, start_keeps, machine_idle}
+use Rattle.index_core.proofs.Footings.{line_of, debt_of, free_states, may_do_names}
+use Rattle.index_core.proofs.Stepping.{may_do, step_facts, start_keeps, reindex_keeps, machine_idle}
 use Rattle.node_ops.specs.Endings.{GoesOn}
 use Rattle.node_ops.proofs.Endings.{turns_keep_place, last_counts_nothing}
 use Rattle.index_core.proofs.Endings.{EndsWith, ends_with}
@@ -152,53 +152,6 @@ none_shown s i (call.Part low count) = refl
 none_shown s i (call.Recheck node version) = refl
 none_shown s i (call.Turn stamp release) = refl
 
--- an idle party may have another index
-module _ (s : Index) (i : ℕ) (e : PartyState) (index : ℕ) (is : IsIndex s) (there : get_elem? s.states i ≡ some e) (idle : e.machine ≡ None) where
-  abbrev now : PartyState
-  now = record e { index = index }
-
-  abbrev other : Index
-  other = record s { states = set s.states i now }
-
-  none_now : (state : PartyState) (m : Running) {P : Type 0} → now ≡ state → state.machine ≡ Some m → P
-  none_now state m same flies = absurd (let both : None ≡ Some m = sym idle ∙ ap (λ (d : PartyState). d.machine) same ∙ flies in cc)
-
-  reindexed : IsIndex other
-  reindexed =
-      let there' = map_there party_of s.states i e there in
-      let lawful = swap_law (world s) i (party_of e) (party_of now) is.lawful there' (ap machine_stage idle) (ap machine_stage idle) (is.lawful.begun i (party_of e) there') in
-      let own = is.states i e there in
-      let lawful' = subst (λ (parties : List Party). Lawful (record (world s) { parties = parties })) (sym (map_set party_of s.states i now)) lawful in
-      let footed = swap_footed s i e now (is.whole, is.tended) there refl refl lawful' in
-      let permuted = one_permuted s i e now there (is.permuted, is.relying) lawful' refl refl refl (inr refl) in
-      record {
-        lawful = lawful';
-        whole = footed.0;
-        tended = footed.1;
-        layered = one_layered s i e now s.spare is.layered there refl (inr refl) footed;
-        parties = length-set s.states i now ∙ is.parties;
-        states = λ j state at. ⊎_elim
-            (λ (t : (j ≡ i) × (now ≡ state)). subst (λ (k : ℕ). IsPartyState s.layout s.generation k state) (sym t.0) (subst (IsPartyState s.layout s.generation i) t.1 (record { caller = own.caller; machine = own.machine; op = own.op; own = own.own; turn = own.turn })))
-            (λ (t : (j ≢ i) × (get_elem? s.states j ≡ some state)). is.states j state t.1)
-            (at_set s.states i j now state at);
-        ordered = λ j place state m write at flies stands caller. ⊎_elim
-            (λ (t : (j ≡ i) × (now ≡ state)). none_now state m t.1 flies)
-            (λ (t : (j ≢ i) × (get_elem? s.states j ≡ some state)). is.ordered j place state m write t.1 flies stands caller)
-            (at_set s.states i j now state at);
-        bounded = record {
-          limits = λ j state m at flies. ⊎_elim
-              (λ (t : (j ≡ i) × (now ≡ state)). none_now state m t.1 flies)
-              (λ (t : (j ≢ i) × (get_elem? s.states j ≡ some state)). is.bounded.limits j state m t.1 flies)
-              (at_set s.states i j now state at);
-          writers = is.bounded.writers;
-          late = is.bounded.late;
-        };
-        named = is.named;
-        rechecks = checks_set s.layout s.generation s.history s.history (omega arith) s.states i e now there refl is.rechecks;
-        permuted = permuted.0;
-        relying = permuted.1;
-      }
-
 pub begin_law : BeginKeeps
 begin_law s i e index c is there idle here =
     let m = machine_of (view_of s i) c in
@@ -207,7 +160,7 @@ begin_law s i e index c is there idle here =
     let there' = map_there party_of s.states i e there in
     let same = swap_weighs (world s) i (party_of e) (party_of now) there' (ap machine_stage idle) (machine_idle s i c) in
     let s' : Index = record s { states = set s.states i old } in
-    let kept = start_keeps s' i old c s.spare (reindexed s i e index is there idle) (set_here s.states i old e there) idle here in
+    let kept = start_keeps s' i old c s.spare (reindex_keeps s i e index s.spare is there idle) (set_here s.states i old e there) idle here in
     record {
       kept = subst (λ (states : List PartyState). IsIndex (record s { states = states })) (set_twice s.states i old now) kept;
       weighs = ap (λ (parties : List Party). weight_sum (record (world s) { parties = parties })) (map_set party_of s.states i now) ∙ same;

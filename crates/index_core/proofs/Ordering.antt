@@ -26,7 +26,7 @@ use Rattle.index_law.specs.Worlds.{written}
 use Rattle.index_law.specs.Lawful.{ClockCounts}
 use Rattle.index_law.proofs.Parties.{at_set}
 use Rattle.index_core.specs.declared.party.PartyState.{PartyState}
-use Rattle.index_core.specs.PartyStates.{state_with, state_after, state_counted, IsPartyState}
+use Rattle.index_core.specs.PartyStates.{state_with, state_after, IsPartyState}
 use Rattle.index_core.specs.Indexes.{Index, IsOwnWrite, AreOrdered, told}
 use Rattle.index_core.proofs.Lists.{some_same, got_end}
 use Rattle.node_ops.specs.Endings.{GoesOn}
@@ -46,12 +46,15 @@ start_ordered states history i e machine ordered j place state m write at flies 
     (at_set states i j now state at)
 
 -- a party that is idle may have another index
-pub count_ordered : (states : List PartyState) (history : List Write) (i : ℕ) (e : PartyState) → e.machine ≡ None → AreOrdered states history → AreOrdered (set states i (state_counted e)) history
-count_ordered states history i e idle ordered j place state m write at flies stands caller =
+pub reindex_ordered : (states : List PartyState) (history : List Write) (i : ℕ) (e : PartyState) (index : ℕ) → e.machine ≡ None → AreOrdered states history → AreOrdered (set states i (record e { index = index })) history
+reindex_ordered states history i e index idle ordered j place state m write at flies stands caller =
     ⊎_elim
-    (λ (mine : (j ≡ i) × (state_counted e ≡ state)). absurd (let both : None ≡ Some m = sym idle ∙ ap (λ (d : PartyState). d.machine) mine.1 ∙ flies in cc))
+    (λ (mine : (j ≡ i) × (now ≡ state)). absurd (let both : None ≡ Some m = sym idle ∙ ap (λ (d : PartyState). d.machine) mine.1 ∙ flies in cc))
     (λ (other : (j ≢ i) × (get_elem? states j ≡ some state)). ordered j place state m write other.1 flies stands caller)
-    (at_set states i j (state_counted e) state at)
+    (at_set states i j now state at)
+  where
+    now : PartyState
+    now = record e { index = index }
 
 module _ (s : Index) (i : ℕ) (e : PartyState) (m : Running) (all : (j : ℕ) (state : PartyState) → get_elem? s.states j ≡ some state → IsPartyState s.layout s.generation j state) (ordered : AreOrdered s.states s.history)
     (clock : ClockCounts s.layout s.words s.history) (there : get_elem? s.states i ≡ some e) (flies : e.machine ≡ Some m) where

@@ -61,25 +61,34 @@ module _ (s new : Index) (i : ℕ) (state now : PartyState) (there : get_elem? s
   was : (j : ℕ) (e : PartyState) → get_elem? new.states j ≡ some e → ((j ≡ i) × (now ≡ e)) ⊎ ((j ≢ i) × (get_elem? s.states j ≡ some e))
   was j e at = at_set s.states i j now e (ap (λ (l : List PartyState). get_elem? l j) (sym states) ∙ at)
 
-  pub none_then : HasNoCalls s → HasNoCalls new
-  none_then none j e at = ⊎_elim
-      (λ (mine : (j ≡ i) × (now ≡ e)). ap (λ (d : PartyState). d.machine) (sym mine.1) ∙ idle)
-      (λ (other : (j ≢ i) × (get_elem? s.states j ≡ some e)). none j e other.1)
+  -- what no party has, none has then, if this one has none then,
+  none_now : {A : Type 0} → (held : PartyState → Option A) → held now ≡ None → ((j : ℕ) (e : PartyState) → get_elem? s.states j ≡ some e → held e ≡ None)
+      → (j : ℕ) (e : PartyState) → get_elem? new.states j ≡ some e → held e ≡ None
+  none_now held here each j e at = ⊎_elim
+      (λ (mine : (j ≡ i) × (now ≡ e)). ap held (sym mine.1) ∙ here)
+      (λ (other : (j ≢ i) × (get_elem? s.states j ≡ some e)). each j e other.1)
       (was j e at)
 
+  -- and what none has then, none has, if this one has what it has then
+  none_before : {A : Type 0} → (held : PartyState → Option A) → held now ≡ held state → ((j : ℕ) (e : PartyState) → get_elem? new.states j ≡ some e → held e ≡ None)
+      → (j : ℕ) (e : PartyState) → get_elem? s.states j ≡ some e → held e ≡ None
+  none_before held stays each j e at = ⊎_elim
+      (λ (same : j ≡ i).
+      ap held (some-injective _ _ (sym at ∙ ap (get_elem? s.states) same ∙ there))
+      ∙ sym stays ∙ each i now (ap (λ (l : List PartyState). get_elem? l i) states ∙ set_here s.states i now state there))
+      (λ (other : j ≢ i). each j e (ap (λ (l : List PartyState). get_elem? l j) states ∙ set_else s.states i j now other ∙ at))
+      (cases_eq j i)
+
+  pub none_then : HasNoCalls s → HasNoCalls new
+  none_then none = none_now (λ (d : PartyState). d.machine) idle none
+
   rechecks_then : HasNoRechecks s → HasNoRechecks new
-  rechecks_then none j e at = ⊎_elim
-      (λ (mine : (j ≡ i) × (now ≡ e)). ap (λ (d : PartyState). d.recheck) (sym mine.1) ∙ recheck ∙ none i state there)
-      (λ (other : (j ≢ i) × (get_elem? s.states j ≡ some e)). none j e other.1)
-      (was j e at)
+  rechecks_then none = none_now (λ (d : PartyState). d.recheck) (recheck ∙ none i state there) none
 
   pub quiet_then : IsQuiet s → IsQuiet new
   quiet_then quiet = record {
     calls = none_then quiet.calls;
-    turns = λ j e at. ⊎_elim
-        (λ (mine : (j ≡ i) × (now ≡ e)). ap (λ (d : PartyState). d.turn) (sym mine.1) ∙ turn ∙ quiet.turns i state there)
-        (λ (other : (j ≢ i) × (get_elem? s.states j ≡ some e)). quiet.turns j e other.1)
-        (was j e at);
+    turns = none_now (λ (d : PartyState). d.turn) (turn ∙ quiet.turns i state there) quiet.turns;
     rechecks = rechecks_then quiet.rechecks;
   }
 
@@ -87,18 +96,8 @@ module _ (s new : Index) (i : ℕ) (state now : PartyState) (there : get_elem? s
   pub quiet_was : HasNoCalls s → IsQuiet new → IsQuiet s
   quiet_was calls quiet = record {
     calls = calls;
-    turns = λ j e at. ⊎_elim
-        (λ (same : j ≡ i).
-        ap (λ (d : PartyState). d.turn) (some-injective _ _ (sym at ∙ ap (get_elem? s.states) same ∙ there))
-        ∙ sym turn ∙ quiet.turns i now (ap (λ (l : List PartyState). get_elem? l i) states ∙ set_here s.states i now state there))
-        (λ (other : j ≢ i). quiet.turns j e (ap (λ (l : List PartyState). get_elem? l j) states ∙ set_else s.states i j now other ∙ at))
-        (cases_eq j i);
-    rechecks = λ j e at. ⊎_elim
-        (λ (same : j ≡ i).
-        ap (λ (d : PartyState). d.recheck) (some-injective _ _ (sym at ∙ ap (get_elem? s.states) same ∙ there))
-        ∙ sym recheck ∙ quiet.rechecks i now (ap (λ (l : List PartyState). get_elem? l i) states ∙ set_here s.states i now state there))
-        (λ (other : j ≢ i). quiet.rechecks j e (ap (λ (l : List PartyState). get_elem? l j) states ∙ set_else s.states i j now other ∙ at))
-        (cases_eq j i);
+    turns = none_before (λ (d : PartyState). d.turn) turn quiet.turns;
+    rechecks = none_before (λ (d : PartyState). d.recheck) recheck quiet.rechecks;
   }
 
   pub still_then : (party : ℕ) → IsStill party s → IsStill party new

@@ -1,5 +1,5 @@
 -- What the code of a step and of a start has in hand, as facts on the index that it works on.
-use Rattle.std.proofs.Common.{◌≡◌, ℕ, ◌+◌, ◌-◌, ◌<◌, ◌≤◌, List, ◌++◌, length, get_or, set, sym, ap, ◌∙◌, subst}
+use Rattle.std.proofs.Common.{◌≡◌, ℕ, ◌+◌, ◌-◌, ◌≤◌, List, ◌++◌, length, get_or, set, refl, ap, ◌∙◌, subst}
 use Rattle.std.specs.Prelude.{Option, Some, None, IfSome}
 use mathlib.Core.Option.{some}
 use lib.ListN.{get_elem?}
@@ -22,7 +22,7 @@ use Rattle.index_core.specs.declared.party.PartyState.{PartyState}
 use Rattle.index_core.specs.CoreCalls.{machine_of, most_writes}
 use Rattle.index_core.specs.PartyStates.{state_with, state_after, owed}
 use Rattle.index_core.specs.Indexes.{Index, IsIndex, IsInFlight, TurnsTo, view_of, started_index, told, stepped_index}
-use Rattle.index_core.proofs.Lists.{there_is, read_is}
+use Rattle.index_core.proofs.Lists.{read_is}
 use Rattle.index_core.proofs.Stepping.{StepFacts, step_facts, step_at, same_machine, step_room, start_keeps, start_owes, start_at}
 
 -- The state r that a step reads is the party's, e, and the machine in it its call's, m.
@@ -78,29 +78,18 @@ leaves s i e r m machine at flies action row word turn now counts history len ca
       spare = fits.1;
     }
 
--- The state r that a start reads is the party's, e, which is idle, and the one that it makes of it begins the call.
+-- A start reads the party's state r, which is idle, and the one that it makes of it begins the call.
 pub record Begins (s : Index) (i : ℕ) (r now : PartyState) (c : CoreCall) : Type 0 where
-  pub state : PartyState
-  pub there : get_elem? s.states i ≡ some state
-  pub idle : state.machine ≡ None
-  pub same : (spare : ℕ) → Path Index (record { layout = s.layout; generation = s.generation; words = s.words; states = set s.states i now; base = s.base; history = s.history; spare = spare }) (started_index s i state c spare)
-  pub kept : (spare : ℕ) → IsIndex (started_index s i state c spare)
+  pub same : (spare : ℕ) → Path Index (record { layout = s.layout; generation = s.generation; words = s.words; states = set s.states i now; base = s.base; history = s.history; spare = spare }) (started_index s i r c spare)
+  pub kept : (spare : ℕ) → IsIndex (started_index s i r c spare)
   pub owing : owed (set s.states i now) ≡ owed s.states + most_writes c
 
-pub begins : (s : Index) (i : ℕ) (r now : PartyState) (c : CoreCall) (machine : Running) (since : ℕ) → IsIndex s → i < length s.states → r ≡ get_or s.states i r → r.machine ≡ None
+pub begins : (s : Index) (i : ℕ) (r now : PartyState) (c : CoreCall) (machine : Running) (since : ℕ) → IsIndex s → get_elem? s.states i ≡ some r → r.machine ≡ None
     → machine ≡ machine_of (view_of s i) c → IsRunning machine → since ≡ length s.history → now ≡ state_with r since machine → Begins s i r now c
-begins s i r now c machine since is within found none made running long goes =
-    let here = there_is s.states i within in
-    let e = here.0 in
-    let there = here.1 in
-    let read = read_is s.states i e r there found in
-    let idle = sym (ap (λ (d : PartyState). d.machine) read) ∙ none in
-    let same = λ (spare : ℕ). start_at s i e r now c machine since spare read long made goes in
+begins s i r now c machine since is there none made running long goes =
+    let same = λ (spare : ℕ). start_at s i r r now c machine since spare refl long made goes in
     record {
-      state = e;
-      there = there;
-      idle = idle;
       same = same;
-      kept = λ spare. start_keeps s i e c spare is there idle (subst IsRunning made running);
-      owing = ap (λ (v : Index). owed v.states) (same 0) ∙ start_owes s i e c there idle;
+      kept = λ spare. start_keeps s i r c spare is there none (subst IsRunning made running);
+      owing = ap (λ (v : Index). owed v.states) (same 0) ∙ start_owes s i r c there none;
     }

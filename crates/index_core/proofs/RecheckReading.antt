@@ -2,7 +2,7 @@
 use Rattle.std.proofs.Common.{◌≡◌, ℕ, List, length, get_or, set, refl, sym, ap, ◌∙◌, subst, arith}
 use Rattle.std.specs.Prelude.{Option, Some, IfSome}
 use mathlib.Core.Option.{some}
-use lib.ListN.{get_elem?, length-set}
+use lib.ListN.{get_elem?}
 use Rattle.pm_words.specs.Images.{Row}
 use Rattle.pm_words.specs.Rows.{CanAct, acted}
 use Rattle.pm_words.specs.Turns.{GoesBelow}
@@ -21,13 +21,13 @@ use Rattle.index_core.specs.declared.party.Rechecking.{Rechecking}
 use Rattle.index_core.specs.PartyStates.{IsRecheckingOf, party_of, recheck_after, recheck_reply, state_rechecked}
 use Rattle.index_core.specs.Indexes.{Index, IsIndex, IsRechecking, layered, view_of, world}
 use Rattle.index_core.specs.Rechecks.{GoesOnSame, IsRecheckOf, recheck_begun, recheck_told, rechecked_index}
-use Rattle.index_core.proofs.Checks.{beside_bounded, beside_ordered, checks_with}
+use Rattle.index_core.proofs.Beside.{beside_index}
+use Rattle.index_core.proofs.Checks.{checks_with}
 use Rattle.index_core.proofs.Footings.{line_of, debt_of}
 use Rattle.index_core.proofs.Layering.{turn_of, map_own}
 use Rattle.index_core.proofs.Lists.{read_is}
-use Rattle.index_core.proofs.Permuting.{beside_permuted, same_row}
+use Rattle.index_core.proofs.Permuting.{same_row}
 use Rattle.index_core.proofs.Rechecks.{goes_same, rechecks_act, rechecks_are_answered, rechecks_go_on}
-use Rattle.index_core.proofs.Stepping.{set_states}
 
 -- An index in which one party has another recheck is one, if that relies on what it may.
 module _ (s : Index) (i : ℕ) (state : PartyState) (recheck : Option Rechecking) (there : get_elem? s.states i ≡ some state) where
@@ -49,23 +49,8 @@ module _ (s : Index) (i : ℕ) (state : PartyState) (recheck : Option Rechecking
 
   pub with_recheck : IsIndex s → IfSome recheck (IsRecheckingOf s.layout s.generation s.history) → IsIndex (record s { states = states })
   with_recheck is relies =
-      let own = is.states i state there in
-      let after : IsLayered (layered (record s { states = states })) = subst IsLayered unchecked_layered is.layered in
-      let permuted = beside_permuted s i state now there s.words (is.permuted, is.relying) after.whole.joint.lawful refl refl (same_row s.layout s.words) in
-      record {
-        lawful = after.whole.joint.lawful;
-        whole = after.whole;
-        tended = after.tended;
-        layered = after;
-        parties = length-set s.states i now ∙ is.parties;
-        states = set_states s.layout s.generation s.states i now is.states (record { caller = own.caller; machine = own.machine; op = own.op; own = own.own; turn = own.turn });
-        ordered = beside_ordered s i state state.turn recheck there is.ordered;
-        bounded = beside_bounded s i state state.turn recheck there is.bounded;
-        named = is.named;
-        rechecks = checks_with s.layout s.generation s.history s.history (omega arith) s.states i now relies is.rechecks;
-        permuted = permuted.0;
-        relying = permuted.1;
-      }
+      beside_index s i state state.turn recheck there s.words is (subst IsLayered unchecked_layered is.layered) (same_row s.layout s.words) (is.states i state there).turn
+      (checks_with s.layout s.generation s.history s.history (omega arith) s.states i now relies is.rechecks)
 
 pub recheck_begins : (s : Index) (i : ℕ) (state : PartyState) (node version : ℕ) → IsIndex s → get_elem? s.states i ≡ some state → IsRecheck (Dating (view_of s i) node version) → IsIndex (recheck_begun s i state node version)
 recheck_begins s i state node version is there sound =

@@ -4,7 +4,7 @@ use Rattle.std.proofs.Common.{◌++◌, length, slice_set, nat_le, not, refl, sy
 use Rattle.std.specs.Prelude.{None, IsSome, IsSomeAnd, Bool, true, false, ◌&&◌}
 use Rattle.std.specs.FinMap.{keys}
 use Rattle.std.specs.List.{filter}
-use Rattle.std.proofs.lemmas.Bool.{cases_eq, eq-eqb, ne_eqb, eqb-true, leb-true, le-leb}
+use Rattle.std.proofs.lemmas.Bool.{cases_eq, eq-eqb, ne_eqb, eqb-true, leb-true, le-leb, false_from_ne_true}
 use mathlib.Core.Option.{some, some-injective}
 use lib.ListN.{get_elem?}
 use Rattle.pm_words.specs.Codes.{free_status, live_status, gone_status}
@@ -65,6 +65,7 @@ use Rattle.cat_history.specs.declared.op.NameOp.{NameOp}
 use Rattle.index_core.proofs.WornNodes.{worn_found, worn_target}
 use Rattle.index_core.proofs.Alone.{IsSwept, Ran, answered_then, full_again_if, late_was, on_name, one_try, two_tries}
 use Rattle.index_core.proofs.Lists.{set_twice}
+use Rattle.index_core.proofs.SplitAnswers.{lacks_told, split_told}
 use Rattle.index_core.proofs.Quiet.{quiet_is_still, rests, can_walk}
 
 -- a node with a stamp is GONE
@@ -765,17 +766,7 @@ pub node_at_once : (s0 s : Index) (i : ℕ) (c : CoreCall) (answer : Once Placed
 node_at_once s0 s i c answer h has = record { tries = h.tries; tried = h.tried; allowed = h.allowed; lined = h.lined; sweeps = λ lacks. absurd (let no : true ≡ false = sym lacks ∙ has in cc) }
 
 lacks_node_full : (w w' : World) (c : CoreCall) (p : Party) (r : Once Placed) → IsAnswered w (op_of c) (limit_of c) w' p r → lacks_node r ≡ true → FindsFull w (op_of c)
-lacks_node_full w w' c p (once.Again again.NoFree) (unworn, below, full, has, none, same, kept, unmoved) is = full
-lacks_node_full w w' c p (once.Again again.LogFull) end is = absurd (cc)
-lacks_node_full w w' c p (once.Again (again.NeedsSplit n)) end is = absurd (cc)
-lacks_node_full w w' c p (once.Again (again.Locked n word)) end is = absurd end
-lacks_node_full w w' c p (once.Again (again.Moved n first second)) end is = absurd end
-lacks_node_full w w' c p (once.Again (again.Hops count)) end is = absurd end
-lacks_node_full w w' c p (once.Again (again.Held word)) end is = absurd end
-lacks_node_full w w' c p (once.Again (again.Epoch first second)) end is = absurd end
-lacks_node_full w w' c p (once.Done placed) end is = absurd (cc)
-lacks_node_full w w' c p (once.Spent clock) end is = absurd (cc)
-lacks_node_full w w' c p (once.Worn node word) end is = absurd (cc)
+lacks_node_full w w' c p r end is = (lacks_told w (op_of c) (limit_of c) w' p r end is).2
 
 pub node_behind_turn : (s0 s s' : Index) (i : ℕ) (c : CoreCall) (answer then : Once Placed) → HasItsLine s0 s i c answer → lacks_node answer ≡ true → TriesBehindTurn s i c s' then → i < s0.layout.callers → HasItsNode s0 s' i c then
 unfolding tried_again
@@ -801,44 +792,20 @@ ran_all : (s0 v s : Index) (i : ℕ) (c : CoreCall) (answer : Once Placed) (befo
 ran_all s0 v s i c answer before tries is quiet at_first some_try few ran = record { tries = tries; ran = ran; few = omega arith }
 ran_all s0 v s i c answer before tries is quiet (behind_turn o sweeps) some_try few ran = record { tries = before + tries; ran = ran_later s0 v s i c before tries answer is quiet o some_try ran; few = few }
 
-unlacking : (b : Bool) → (b ≡ true → ⊥) → b ≡ false
-unlacking true not_so = absurd (not_so refl)
-unlacking false not_so = refl
-
 pub ran_once : (s0 s : Index) (i : ℕ) (c : CoreCall) (answer : Once Placed) → count_of c ≡ None → HasItsNode s0 s i c answer → needs_split answer ≡ false → RanAll s0 s i c answer
 ran_once s0 s i c answer none h one =
     let t = h.tried in
     let allowed = h.allowed in
     let most = turns_and_one c in
     ran_all s0 t.before s i c answer h.tries 1 t.index_before t.quiet_before t.begun (omega arith) (omega arith)
-    (one_try t.before s i c t.index_before t.still_before answer t.last t.each t.locks one (unlacking (lacks_line answer) h.lined) h.sweeps (on_name c answer none))
+    (one_try t.before s i c t.index_before t.still_before answer t.last t.each t.locks one (false_from_ne_true (lacks_line answer) h.lined) h.sweeps (on_name c answer none))
 
 pub split_is_full : (w w' : World) (c : CoreCall) (p : Party) (r : Once Placed) → IsAnswered w (op_of c) (limit_of c) w' p r → needs_split r ≡ true → FindsFull w (op_of c)
-split_is_full w w' c p (once.Again (again.NeedsSplit n)) (unworn, below, full, has, free, same, halved, most) is = full
-split_is_full w w' c p (once.Again again.NoFree) end is = absurd (cc)
-split_is_full w w' c p (once.Again again.LogFull) end is = absurd (cc)
-split_is_full w w' c p (once.Again (again.Locked n word)) end is = absurd end
-split_is_full w w' c p (once.Again (again.Moved n first second)) end is = absurd end
-split_is_full w w' c p (once.Again (again.Hops count)) end is = absurd end
-split_is_full w w' c p (once.Again (again.Held word)) end is = absurd end
-split_is_full w w' c p (once.Again (again.Epoch first second)) end is = absurd end
-split_is_full w w' c p (once.Done placed) end is = absurd (cc)
-split_is_full w w' c p (once.Spent clock) end is = absurd (cc)
-split_is_full w w' c p (once.Worn node word) end is = absurd (cc)
+split_is_full w w' c p r end is = (split_told w (op_of c) (limit_of c) w' p r end is).2
 
 -- a call that has split its node has written nothing, and the layout is the same
 split_keeps : (w w' : World) (c : CoreCall) (p : Party) (r : Once Placed) → IsAnswered w (op_of c) (limit_of c) w' p r → needs_split r ≡ true → w'.history ≡ w.history
-split_keeps w w' c p (once.Again (again.NeedsSplit n)) (unworn, below, full, has, free, same, halved, most) is = same
-split_keeps w w' c p (once.Again again.NoFree) end is = absurd (cc)
-split_keeps w w' c p (once.Again again.LogFull) end is = absurd (cc)
-split_keeps w w' c p (once.Again (again.Locked n word)) end is = absurd end
-split_keeps w w' c p (once.Again (again.Moved n first second)) end is = absurd end
-split_keeps w w' c p (once.Again (again.Hops count)) end is = absurd end
-split_keeps w w' c p (once.Again (again.Held word)) end is = absurd end
-split_keeps w w' c p (once.Again (again.Epoch first second)) end is = absurd end
-split_keeps w w' c p (once.Done placed) end is = absurd (cc)
-split_keeps w w' c p (once.Spent clock) end is = absurd (cc)
-split_keeps w w' c p (once.Worn node word) end is = absurd (cc)
+split_keeps w w' c p r end is = (split_told w (op_of c) (limit_of c) w' p r end is).5
 
 pub node_history : (s0 s : Index) (i : ℕ) (c : CoreCall) (answer : Once Placed) → HasItsNode s0 s i c answer → needs_split answer ≡ true → s.history ≡ s0.history
 node_history s0 s i c answer h again =

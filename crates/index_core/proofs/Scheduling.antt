@@ -146,6 +146,34 @@ longer_call slots base h more c is =
 pub else_there : (states : List PartyState) (i j : ℕ) (now state : PartyState) → j ≢ i → get_elem? states j ≡ some state → get_elem? (set states i now) j ≡ some state
 else_there states i j now state other there = set_else states i j now other ∙ there
 
+-- so does the write in flight of a party that isn't the changed one
+pub flies_elsewhere : (states : List PartyState) (i : ℕ) (now : PartyState) {place : ℕ} {write : Write} → (w : IsWriteInFlight states place write) → w.party ≢ i → IsWriteInFlight (set states i now) place write
+flies_elsewhere states i now w other = record {
+  party = w.party;
+  state = w.state;
+  machine = w.machine;
+  there = else_there states i w.party now w.state other w.there;
+  flies = w.flies;
+  place = w.place;
+  caller = w.caller;
+  index = w.index;
+  change = w.change;
+}
+
+-- and an answered write of a list that is longer now
+pub answered_longer : (calls more : List AnsweredCall) {place : ℕ} {write : Write} → IsAnsweredWrite calls place write → IsAnsweredWrite (calls ++ more) place write
+answered_longer calls more w = record {
+  number = w.number;
+  answered = w.answered;
+  placed = w.placed;
+  there = at_longer calls more w.number w.answered w.there;
+  answer = w.answer;
+  place = w.place;
+  caller = w.caller;
+  index = w.index;
+  change = w.change;
+}
+
 -- an state that counts no more calls
 pub counts_as : (first : Index) (begun : List BegunCall) (i p : ℕ) (was now : PartyState) → p ≡ i → now.index + in_flight now.machine ≤ was.index + in_flight was.machine → CountsUpTo first begun i was
     → CountsUpTo first begun p now
@@ -236,17 +264,7 @@ module _ (first : Index) (begun : List BegunCall) (calls : List AnsweredCall) (s
           index = w.index ∙ ap (λ (d : PartyState). d.index) state;
           change = ap change_of op_same ∙ ap (λ (q : Running). change_of (op_in q)) (sym machine) ∙ w.change;
         })
-        (λ (other : w.party ≢ i). record {
-          party = w.party;
-          state = w.state;
-          machine = w.machine;
-          there = else_there s.states i w.party e' w.state other w.there;
-          flies = w.flies;
-          place = w.place;
-          caller = w.caller;
-          index = w.index;
-          change = w.change;
-        })
+        (λ (other : w.party ≢ i). flies_elsewhere s.states i e' w other)
         (cases_eq w.party i)))
         (k.writes place write stands)
 
@@ -261,17 +279,7 @@ module _ (first : Index) (begun : List BegunCall) (calls : List AnsweredCall) (s
         let machine : w.machine ≡ m = machine_there w.state w.machine (subst (λ (j : ℕ). get_elem? s.states j ≡ some w.state) party w.there) w.flies in
         let both : None ≡ Some place = sym none ∙ ap (λ (q : Running). placed_in (stage_of q)) (sym machine) ∙ w.place in
         cc) in
-        record {
-          party = w.party;
-          state = w.state;
-          machine = w.machine;
-          there = else_there s.states i w.party e' w.state other w.there;
-          flies = w.flies;
-          place = w.place;
-          caller = w.caller;
-          index = w.index;
-          change = w.change;
-        }))
+        flies_elsewhere s.states i e' w other))
         (k.writes place write stands)
 
     writes_on : (o : Option Change) → GoesOn (running_call m).view.layout (stage_of m) (running_asks m) x (stage_of next) o → IfSome o (λ change. change_of (op_in m) ≡ Some change)
@@ -382,17 +390,7 @@ module _ (first : Index) (begun : List BegunCall) (calls : List AnsweredCall) (s
     writes_done : EachWriteIsOfACall (calls ++ call ∷ []) (set s.states i done) s.history
     writes_done place write stands =
         ⊎_elim
-        (λ (w : IsAnsweredWrite calls place write). inl (record {
-          number = w.number;
-          answered = w.answered;
-          placed = w.placed;
-          there = at_longer calls (call ∷ []) w.number w.answered w.there;
-          answer = w.answer;
-          place = w.place;
-          caller = w.caller;
-          index = w.index;
-          change = w.change;
-        }))
+        (λ (w : IsAnsweredWrite calls place write). inl (answered_longer calls (call ∷ []) w))
         (λ (w : IsWriteInFlight s.states place write). ⊎_elim
         (λ (party : w.party ≡ i).
         let here = subst (λ (j : ℕ). get_elem? s.states j ≡ some w.state) party w.there in
@@ -411,17 +409,7 @@ module _ (first : Index) (begun : List BegunCall) (calls : List AnsweredCall) (s
           index = w.index ∙ ap (λ (d : PartyState). d.index) state;
           change = asks;
         }))
-        (λ (other : w.party ≢ i). inr (record {
-          party = w.party;
-          state = w.state;
-          machine = w.machine;
-          there = else_there s.states i w.party done w.state other w.there;
-          flies = w.flies;
-          place = w.place;
-          caller = w.caller;
-          index = w.index;
-          change = w.change;
-        }))
+        (λ (other : w.party ≢ i). inr (flies_elsewhere s.states i done w other))
         (cases_eq w.party i))
         (k.writes place write stands)
 

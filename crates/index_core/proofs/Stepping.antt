@@ -61,7 +61,7 @@ use Rattle.index_core.specs.declared.party.CoreCall.{CoreCall}
 use Rattle.index_core.specs.declared.party.CoreCall.TheVariants as call
 use Rattle.index_core.specs.CoreCalls.{machine_of, most_writes, limit_of, count_of}
 use Rattle.index_core.specs.Cores.{IsAdd}
-use Rattle.index_core.specs.PartyStates.{machine_stage, machine_footing, party_of, state_with, state_after, state_counted, machine_owes, owes, owed, IsTurnOf, IsPartyState}
+use Rattle.index_core.specs.PartyStates.{machine_stage, machine_footing, next_index, party_of, state_with, state_after, state_counted, machine_owes, owes, owed, IsTurnOf, IsPartyState}
 use Rattle.node_ops.specs.Calls.{IsSame}
 use Rattle.index_core.specs.Listings.{ListsAt}
 use Rattle.index_core.specs.Permuting.{machine_end, machine_reading, machine_sorting}
@@ -75,8 +75,8 @@ use Rattle.index_core.proofs.Footings.{swap_footed, step_footed}
 use Rattle.index_core.proofs.Layering.{step_layered, one_layered}
 use Rattle.index_core.proofs.Permuting.{one_permuted, step_permuted}
 use Rattle.index_core.proofs.Lists.{map_there, map_set, owed-set, set_twice}
-use Rattle.index_core.proofs.Ordering.{OwnsWrites, start_ordered, count_ordered, step_ordered, owns}
-use Rattle.index_core.proofs.Bounds.{bounded_small, step_bounded, start_bounded, count_bounded}
+use Rattle.index_core.proofs.Ordering.{OwnsWrites, start_ordered, reindex_ordered, step_ordered, owns}
+use Rattle.index_core.proofs.Bounds.{bounded_small, step_bounded, start_bounded, reindex_bounded}
 use Rattle.index_core.proofs.Owing.{owes_after, pays, many, written-length}
 
 -- what a step of a party's machine needs and leaves
@@ -269,109 +269,58 @@ step_owes s i state machine there flies =
     after (Go machine) = refl
     after (Done answer) = refl
 
--- the machine of a call that begins relies on nothing
+-- The machine of a call that begins relies on nothing, has no line and owes none, and asks what the call asks.
+record BeginsSo (view : View) (c : CoreCall) : Type 0 where
+  stage : stage_of (machine_of view c) ≡ Idle
+  from : (running_call (machine_of view c)).view ≡ view
+  asks : IsOf (op_in (machine_of view c)) (machine_of view c)
+  footing : machine_footing (Some (machine_of view c)) ≡ machine_footing None
+  sorting : machine_sorting (Some (machine_of view c)) ≡ Unsorted
+  reading : (machine_reading (Some (machine_of view c)) ≡ None) × (machine_end (Some (machine_of view c)) ≡ None)
+  owing : owes (machine_of view c) ≡ most_writes c
+  limit : (running_call (machine_of view c)).limit ≡ limit_of c
+  count : count_in (machine_of view c) ≡ count_of c
+
+begins_so : (view : View) (c : CoreCall) → BeginsSo view c
+begins_so view (call.Put name value limit) = record { stage = refl; from = refl; asks = (refl, refl); footing = refl; sorting = refl; reading = (refl, refl); owing = refl; limit = refl; count = refl }
+begins_so view (call.Get name) = record { stage = refl; from = refl; asks = refl; footing = refl; sorting = refl; reading = (refl, refl); owing = refl; limit = refl; count = refl }
+begins_so view (call.Del name limit) = record { stage = refl; from = refl; asks = (refl, tt); footing = refl; sorting = refl; reading = (refl, refl); owing = refl; limit = refl; count = refl }
+begins_so view (call.Part low count) = record { stage = refl; from = refl; asks = refl; footing = refl; sorting = refl; reading = (refl, refl); owing = refl; limit = refl; count = refl }
+begins_so view (call.Recheck node version) = record { stage = refl; from = refl; asks = refl; footing = refl; sorting = refl; reading = (refl, refl); owing = refl; limit = refl; count = refl }
+begins_so view (call.Turn stamp release) = record { stage = refl; from = refl; asks = refl; footing = refl; sorting = refl; reading = (refl, refl); owing = refl; limit = refl; count = refl }
+
 pub machine_idle : (s : Index) (party : ℕ) (c : CoreCall) → stage_of (machine_of (view_of s party) c) ≡ Idle
-machine_idle s party (call.Put name value limit) = refl
-machine_idle s party (call.Get name) = refl
-machine_idle s party (call.Del name limit) = refl
-machine_idle s party (call.Part low count) = refl
-machine_idle s party (call.Recheck node version) = refl
-machine_idle s party (call.Turn stamp release) = refl
-
-pub machine_begins : (s : Index) (party : ℕ) (c : CoreCall) → IsRunning (machine_of (view_of s party) c) → Sound s.layout s.generation (machine_of (view_of s party) c)
-machine_begins s party (call.Put name value limit) here = record { layout = refl; generation = refl; here = here }
-machine_begins s party (call.Get name) here = record { layout = refl; generation = refl; here = here }
-machine_begins s party (call.Del name limit) here = record { layout = refl; generation = refl; here = here }
-machine_begins s party (call.Part low count) here = record { layout = refl; generation = refl; here = here }
-machine_begins s party (call.Recheck node version) here = record { layout = refl; generation = refl; here = here }
-machine_begins s party (call.Turn stamp release) here = record { layout = refl; generation = refl; here = here }
-
-machine_op : (s : Index) (party : ℕ) (c : CoreCall) → IsOf (op_in (machine_of (view_of s party) c)) (machine_of (view_of s party) c)
-machine_op s party (call.Put name value limit) = (refl, refl)
-machine_op s party (call.Get name) = refl
-machine_op s party (call.Del name limit) = (refl, tt)
-machine_op s party (call.Part low count) = refl
-machine_op s party (call.Recheck node version) = refl
-machine_op s party (call.Turn stamp release) = refl
-
-begins_own : (s : Index) (party : ℕ) (c : CoreCall) → (running_call (machine_of (view_of s party) c)).view.caller ≡ party
-begins_own s party (call.Put name value limit) = refl
-begins_own s party (call.Get name) = refl
-begins_own s party (call.Del name limit) = refl
-begins_own s party (call.Part low count) = refl
-begins_own s party (call.Recheck node version) = refl
-begins_own s party (call.Turn stamp release) = refl
-
--- and has no line, and owes nothing
-begins_free : (view : View) (c : CoreCall) → machine_footing (Some (machine_of view c)) ≡ machine_footing None
-begins_free view (call.Put name value limit) = refl
-begins_free view (call.Get name) = refl
-begins_free view (call.Del name limit) = refl
-begins_free view (call.Part low count) = refl
-begins_free view (call.Recheck node version) = refl
-begins_free view (call.Turn stamp release) = refl
-
--- nor of a permutation
-begins_unsorted : (view : View) (c : CoreCall) → machine_sorting (Some (machine_of view c)) ≡ Unsorted
-begins_unsorted view (call.Put name value limit) = refl
-begins_unsorted view (call.Get name) = refl
-begins_unsorted view (call.Del name limit) = refl
-begins_unsorted view (call.Part low count) = refl
-begins_unsorted view (call.Recheck node version) = refl
-begins_unsorted view (call.Turn stamp release) = refl
-
-begins_relying_on_nothing : (view : View) (c : CoreCall) → (machine_reading (Some (machine_of view c)) ≡ None) × (machine_end (Some (machine_of view c)) ≡ None)
-begins_relying_on_nothing view (call.Put name value limit) = (refl, refl)
-begins_relying_on_nothing view (call.Get name) = (refl, refl)
-begins_relying_on_nothing view (call.Del name limit) = (refl, refl)
-begins_relying_on_nothing view (call.Part low count) = (refl, refl)
-begins_relying_on_nothing view (call.Recheck node version) = (refl, refl)
-begins_relying_on_nothing view (call.Turn stamp release) = (refl, refl)
+machine_idle s party c = (begins_so (view_of s party) c).stage
 
 pub machine_writes : (s : Index) (party : ℕ) (c : CoreCall) → owes (machine_of (view_of s party) c) ≡ most_writes c
-machine_writes s party (call.Put name value limit) = refl
-machine_writes s party (call.Get name) = refl
-machine_writes s party (call.Del name limit) = refl
-machine_writes s party (call.Part low count) = refl
-machine_writes s party (call.Recheck node version) = refl
-machine_writes s party (call.Turn stamp release) = refl
+machine_writes s party c = (begins_so (view_of s party) c).owing
 
--- it has the limit and the count of the call
 pub begins_limit : (s : Index) (i : ℕ) (c : CoreCall) → (running_call (machine_of (view_of s i) c)).limit ≡ limit_of c
-begins_limit s i (call.Put name value limit) = refl
-begins_limit s i (call.Get name) = refl
-begins_limit s i (call.Del name limit) = refl
-begins_limit s i (call.Part low count) = refl
-begins_limit s i (call.Recheck node version) = refl
-begins_limit s i (call.Turn stamp release) = refl
+begins_limit s i c = (begins_so (view_of s i) c).limit
 
 pub begins_count : (v : View) (c : CoreCall) → count_in (machine_of v c) ≡ count_of c
-begins_count v (call.Put name value limit) = refl
-begins_count v (call.Get name) = refl
-begins_count v (call.Del name limit) = refl
-begins_count v (call.Part low count) = refl
-begins_count v (call.Recheck node version) = refl
-begins_count v (call.Turn stamp release) = refl
+begins_count v c = (begins_so v c).count
 
 pub start_keeps : (s : Index) (party : ℕ) (state : PartyState) (c : CoreCall) (spare : ℕ) → IsIndex s → get_elem? s.states party ≡ some state → state.machine ≡ None
     → IsRunning (machine_of (view_of s party) c) → IsIndex (started_index s party state c spare)
 start_keeps s i state c spare is there idle here =
     let m = machine_of (view_of s i) c in
+    let begun = begins_so (view_of s i) c in
     let now = state_with state (length s.history) m in
     let there' = map_there party_of s.states i state there in
     let lawful = start_law (world s) i (party_of state) state.index is.lawful there' (ap machine_stage idle) in
     let parties : slice_set (map party_of s.states) i (record { caller = state.caller; index = state.index; since = length s.history; stage = Idle }) ≡ map party_of (slice_set s.states i now) =
-    ap (λ (u : Stage). set (map party_of s.states) i (record { caller = state.caller; index = state.index; since = length s.history; stage = u })) (sym (machine_idle s i c)) ∙ sym (map_set party_of s.states i now) in
+    ap (λ (u : Stage). set (map party_of s.states) i (record { caller = state.caller; index = state.index; since = length s.history; stage = u })) (sym begun.stage) ∙ sym (map_set party_of s.states i now) in
     let lawful' = subst (λ (parties : List Party). Lawful (record { layout = s.layout; generation = s.generation; words = s.words; parties = parties; base = map_of s.base; history = s.history })) parties lawful in
-    let footed = swap_footed s i state now (is.whole, is.tended) there refl (begins_free (view_of s i) c ∙ sym (ap machine_footing idle)) lawful' in
-    let permuted = one_permuted s i state now there (is.permuted, is.relying) lawful' refl (machine_idle s i c ∙ sym (ap machine_stage idle)) (begins_unsorted (view_of s i) c ∙ sym (ap machine_sorting idle)) (inl (begins_relying_on_nothing (view_of s i) c)) in
+    let footed = swap_footed s i state now (is.whole, is.tended) there refl (begun.footing ∙ sym (ap machine_footing idle)) lawful' in
+    let permuted = one_permuted s i state now there (is.permuted, is.relying) lawful' refl (begun.stage ∙ sym (ap machine_stage idle)) (begun.sorting ∙ sym (ap machine_sorting idle)) (inl begun.reading) in
     record {
       lawful = lawful';
       whole = footed.0;
       tended = footed.1;
-      layered = one_layered s i state now spare is.layered there refl (inl (machine_idle s i c)) footed;
+      layered = one_layered s i state now spare is.layered there refl (inl begun.stage) footed;
       parties = length-set s.states i now ∙ is.parties;
-      states = set_states s.layout s.generation s.states i now is.states (record { caller = (is.states i state there).caller; machine = machine_begins s i c here; op = machine_op s i c; own = begins_own s i c; turn = (is.states i state there).turn });
+      states = set_states s.layout s.generation s.states i now is.states (record { caller = (is.states i state there).caller; machine = record { layout = ap (λ (v : View). v.layout) begun.from; generation = ap (λ (v : View). v.generation) begun.from; here = here }; op = begun.asks; own = ap (λ (v : View). v.caller) begun.from; turn = (is.states i state there).turn });
       ordered = start_ordered s.states s.history i state m is.ordered;
       bounded = start_bounded s i state c is here;
       named = is.named;
@@ -388,12 +337,12 @@ start_owes s i state c there idle =
     let now = machine_writes s i c in
     omega arith
 
--- an idle party's index may be counted up
-pub count_keeps : (s : Index) (i : ℕ) (state : PartyState) (spare : ℕ) → IsIndex s → get_elem? s.states i ≡ some state → state.machine ≡ None
-    → IsIndex (record s { states = set s.states i (state_counted state); spare = spare })
-count_keeps s i state spare is there idle =
+-- an idle party may have another index
+pub reindex_keeps : (s : Index) (i : ℕ) (state : PartyState) (index spare : ℕ) → IsIndex s → get_elem? s.states i ≡ some state → state.machine ≡ None
+    → IsIndex (record s { states = set s.states i (record state { index = index }); spare = spare })
+reindex_keeps s i state index spare is there idle =
     let p = party_of state in
-    let now = state_counted state in
+    let now : PartyState = record state { index = index } in
     let there' = map_there party_of s.states i state there in
     let own = is.states i state there in
     let lawful = swap_law (world s) i p (party_of now) is.lawful there' (ap machine_stage idle) (ap machine_stage idle) (is.lawful.begun i p there') in
@@ -407,13 +356,18 @@ count_keeps s i state spare is there idle =
       layered = one_layered s i state now spare is.layered there refl (inr refl) footed;
       parties = length-set s.states i now ∙ is.parties;
       states = set_states s.layout s.generation s.states i now is.states (record { caller = own.caller; machine = own.machine; op = own.op; own = own.own; turn = own.turn });
-      ordered = count_ordered s.states s.history i state idle is.ordered;
-      bounded = count_bounded s i state is idle;
+      ordered = reindex_ordered s.states s.history i state index idle is.ordered;
+      bounded = reindex_bounded s i state index is idle;
       named = is.named;
       rechecks = checks_set s.layout s.generation s.history s.history (omega arith) s.states i state now there refl is.rechecks;
       permuted = permuted.0;
       relying = permuted.1;
     }
+
+-- so its index may be counted up
+pub count_keeps : (s : Index) (i : ℕ) (state : PartyState) (spare : ℕ) → IsIndex s → get_elem? s.states i ≡ some state → state.machine ≡ None
+    → IsIndex (record s { states = set s.states i (state_counted state); spare = spare })
+count_keeps s i state spare is there idle = reindex_keeps s i state (next_index state.index) spare is there idle
 
 -- and owes what it owed
 pub count_owes : (s : Index) (i : ℕ) (state : PartyState) → get_elem? s.states i ≡ some state → owed (set s.states i (state_counted state)) ≡ owed s.states

@@ -267,60 +267,39 @@ module _ (initial : Index) (begun : List BegunCall) (calls : List AnsweredCall) 
   start-is (op.Get name) place = refl
   start-is (op.Del name) place = refl
 
+  -- a record of one call alone spans what that call does
+  one-spans : (t : Told) (call : IsToldCall calls t) (i : Interval) → call.answered.call.caller ≡ t.what.caller → t.what.index ≡ call.answered.call.index → call.answered.next ≡ call.answered.call.index + 1
+      → call.answered.call.since ≤ i.start → i.end ≤ call.answered.until → i.end ≤ length s.history → Spans t i
+  one-spans t call i caller index counts since until within =
+      let has : Contains t.numbers call.number = subst (λ (ns : List ℕ). Contains ns call.number) (sym call.alone) (first-in call.number []) in
+      record {
+        first = call.number;
+        begins = call.answered;
+        there = call.there;
+        among = has;
+        by_caller = caller;
+        index = index;
+        counts = counts;
+        since = since;
+        last = record { number = call.number; answered = call.answered; there = call.there; by_caller = caller; among = has; until = until; within = within };
+      }
+
   call-spans : (t : Told) (call : IsToldCall calls t) → IsToldOf call.answered t.what → IfSome (interval t.what) (Spans t)
   call-spans t call (took_place placed is tells) =
       let c = call.answered in
       let took = placed-legal initial begun calls s legal call.number c placed call.there is in
       let later = took.took.later in
       let starts = start-is c.call.op placed.place in
-      let has : Contains t.numbers call.number = subst (λ (ns : List ℕ). Contains ns call.number) (sym call.alone) (first-in call.number []) in
-      let caller : c.call.caller ≡ t.what.caller = ap (λ (r : Record). r.caller) (sym tells) in
-      let spans : Spans t (interval_at c.call.op placed.place) = record {
-        first = call.number;
-        begins = c;
-        there = call.there;
-        among = has;
-        by_caller = caller;
-        index = ap (λ (r : Record). r.index) tells;
-        counts = counts-done call.number c placed call.there is;
-        since = omega arith;
-        last = record {
-          number = call.number;
-          answered = c;
-          there = call.there;
-          by_caller = caller;
-          among = has;
-          until = took.ended;
-          within = took.took.within;
-        };
-      } in
+      let spans : Spans t (interval_at c.call.op placed.place) =
+      one-spans t call (interval_at c.call.op placed.place) (ap (λ (r : Record). r.caller) (sym tells)) (ap (λ (r : Record). r.index) tells) (counts-done call.number c placed call.there is) (omega arith) took.ended took.took.within in
       subst (λ (r : Record). IfSome (interval r) (Spans t)) (sym tells) (subst (Spans t) (interval-is c.call.op placed.place) spans)
   call-spans t call (was_spent clock is tells) =
       let c = call.answered in
       let spent = spent-legal call.number c clock call.there is in
       let within = (legal.answers call.number c call.there).within in
       let until = spent.reached.within in
-      let has : Contains t.numbers call.number = subst (λ (ns : List ℕ). Contains ns call.number) (sym call.alone) (first-in call.number []) in
-      let caller : c.call.caller ≡ t.what.caller = ap (λ (r : Record). r.caller) (sym tells) in
-      let spans : Spans t (record { start = clock; end = clock }) = record {
-        first = call.number;
-        begins = c;
-        there = call.there;
-        among = has;
-        by_caller = caller;
-        index = ap (λ (r : Record). r.index) tells;
-        counts = counts-spent call.number c clock call.there is;
-        since = spent.reached.later;
-        last = record {
-          number = call.number;
-          answered = c;
-          there = call.there;
-          by_caller = caller;
-          among = has;
-          until = until;
-          within = omega arith;
-        };
-      } in
+      let spans : Spans t (record { start = clock; end = clock }) =
+      one-spans t call (record { start = clock; end = clock }) (ap (λ (r : Record). r.caller) (sym tells)) (ap (λ (r : Record). r.index) tells) (counts-spent call.number c clock call.there is) spent.reached.later until (omega arith) in
       subst (λ (r : Record). IfSome (interval r) (Spans t)) (sym tells) spans
   call-spans t call (was_full is tells) = subst (λ (r : Record). IfSome (interval r) (Spans t)) (sym tells) tt
 

@@ -46,6 +46,6 @@ pub turn_at : (s : Index) (i : ℕ) (e now : PartyState) (m : MakeTurn) (row : R
 turn_at s i e now m row spare at_row at_now at_spare = λ k. record { layout = (at_row k).layout; generation = s.generation; words = (at_row k).words; states = set s.states i (at_now k); base = s.base; history = s.history; spare = at_spare k }
 
 -- And the one that a start leaves.
-pub turn_begun_at : (s : Index) (i stamp release : ℕ) (e r : PartyState) (m : MakeTurn) (spare : ℕ) → r ≡ e → m ≡ making_from s.layout s.generation stamp release → spare ≡ s.spare
-    → Path Index (record s { states = set s.states i (record r { turn = Some m }); spare = spare }) (turn_begun s i e stamp release)
-turn_begun_at s i stamp release e r m spare at_r at_m at_spare = λ k. record s { states = set s.states i (record (at_r k) { turn = Some (at_m k) }); spare = at_spare k }
+pub turn_begun_at : (s : Index) (i stamp release : ℕ) (e : PartyState) (m : MakeTurn) (spare : ℕ) → m ≡ making_from s.layout s.generation stamp release → spare ≡ s.spare
+    → Path Index (record s { states = set s.states i (record e { turn = Some m }); spare = spare }) (turn_begun s i e stamp release)
+turn_begun_at s i stamp release e m spare at_m at_spare = λ k. record s { states = set s.states i (record e { turn = Some (at_m k) }); spare = at_spare k }

@@ -3,7 +3,7 @@ use Rattle.std.proofs.Common.{◌≡◌, ◌≢◌, ℕ, ◌+◌, ◌/◌, ◌<�
 use Rattle.std.proofs.Common.{refl, sym, ap, ◌∙◌, subst, arith}
 use Rattle.std.specs.Prelude.{Option, Some, IfSome}
 use mathlib.Core.Option.{some}
-use lib.ListN.{get_elem?, length-set}
+use lib.ListN.{get_elem?}
 use Rattle.pm_words.specs.Codes.{gone_status, free_status, untaken_lock}
 use Rattle.pm_words.specs.declared.layout.Layout.{Layout}
 use Rattle.pm_words.specs.declared.action.Action.{Action}
@@ -54,14 +54,14 @@ use Rattle.index_core.specs.PartyStates.{party_of, resting, turning_of, turn_aft
 use Rattle.index_core.specs.Indexes.{Index, IsIndex, world, footed, layered}
 use Rattle.index_core.specs.Turns.{turn_told, turned_index, FindsNoneFree, FreesReleased, TurnLaw, TurnKeeps}
 use Rattle.index_core.specs.Turns.{TurnBegins, TermsMayBeSet}
-use Rattle.index_core.proofs.Checks.{beside_bounded, beside_ordered, checks_set}
+use Rattle.index_core.proofs.Beside.{beside_index}
+use Rattle.index_core.proofs.Checks.{checks_set}
 use Rattle.index_core.proofs.Footings.{line_of, debt_of}
 use Rattle.index_core.proofs.Freeing.{AboutToFree, only_frees, comes_from}
 use Rattle.index_core.proofs.InUse.{ends_counting, counted_none, in_use_weighs}
 use Rattle.index_core.proofs.Layering.{turn_of, map_own}
 use Rattle.index_core.proofs.Lists.{map_there, map_set, set_twice}
-use Rattle.index_core.proofs.Permuting.{beside_permuted, row_by_facts}
-use Rattle.index_core.proofs.Stepping.{set_states}
+use Rattle.index_core.proofs.Permuting.{row_by_facts}
 
 -- The parties, of which one may have another turn.
 module _ (s : Index) (i : ℕ) (state : PartyState) (turn : Option MakeTurn) (there : get_elem? s.states i ≡ some state) where
@@ -96,25 +96,9 @@ module _ (s : Index) (i : ℕ) (state : PartyState) (turn : Option MakeTurn) (th
       → LeavesNodes (facts (world s)) (facts (record (world s) { words = words })) → ((n : ℕ) → n < s.layout.nodes → IsLeft s.layout s.words words n)
       → IfSome turn (IsTurnOf s.layout s.generation) → IsIndex (record s { words = words; states = states })
   with_turn words is law leaves left own_turn =
-      let own = is.states i state there in
-      let after : IsLayered (layered (record s { words = words; states = states })) =
-      subst IsLayered (layered_is words) law in
-      let permuted = beside_permuted s i state now there words (is.permuted, is.relying) after.whole.joint.lawful refl refl
-      (row_by_facts s.layout s.words words (map_of s.base) s.history (ap (λ (f : Facts). f.version) leaves.nodes) (ap (λ (f : Facts). f.now) leaves.nodes) (ap (λ (f : Facts). f.list) leaves.nodes) left) in
-      record {
-        lawful = after.whole.joint.lawful;
-        whole = after.whole;
-        tended = after.tended;
-        layered = after;
-        parties = length-set s.states i now ∙ is.parties;
-        states = set_states s.layout s.generation s.states i now is.states (record { caller = own.caller; machine = own.machine; op = own.op; own = own.own; turn = own_turn });
-        ordered = beside_ordered s i state turn state.recheck there is.ordered;
-        bounded = beside_bounded s i state turn state.recheck there is.bounded;
-        named = is.named;
-        rechecks = checks_set s.layout s.generation s.history s.history (omega arith) s.states i state now there refl is.rechecks;
-        permuted = permuted.0;
-        relying = permuted.1;
-      }
+      beside_index s i state turn state.recheck there words is (subst IsLayered (layered_is words) law)
+      (row_by_facts s.layout s.words words (map_of s.base) s.history (ap (λ (f : Facts). f.version) leaves.nodes) (ap (λ (f : Facts). f.now) leaves.nodes) (ap (λ (f : Facts). f.list) leaves.nodes) left)
+      own_turn (checks_set s.layout s.generation s.history s.history (omega arith) s.states i state now there refl is.rechecks)
 
 -- What the calls have lowered the weight by reads no status.
 lowered_same : (l : Layout) (f : Facts) (status : ℕ → ℕ) (parties : List Party) → lowered_sum l (record f { status = status }) parties ≡ lowered_sum l f parties

@@ -112,6 +112,11 @@ showing_put (op.Put key number) name value shown is = refl
 showing_put (op.Get key) name value shown is = absurd cc
 showing_put (op.Del key) name value shown is = absurd cc
 
+-- one that isn't a put adds no name
+adds_none : (asked : NameOp) (old : Option ℕ) → put_count asked ≡ 0 → 0 ≡ added_if asked old
+adds_none asked None puts = sym puts
+adds_none asked (Some old) puts = refl
+
 -- what an answer tells of such a put
 told_added : (asked : NameOp) (answer : Once Placed) → showing_of asked (told_new (Some answer)) ≡ added_by asked answer
 told_added (op.Put name value) (once.Done placed) = at placed.old
@@ -122,19 +127,11 @@ told_added (op.Put name value) (once.Done placed) = at placed.old
 told_added (op.Put name value) (once.Spent clock) = refl
 told_added (op.Put name value) (once.Worn node word) = refl
 told_added (op.Put name value) (once.Again why) = refl
-told_added (op.Get name) (once.Done placed) = at placed.old
-  where
-    at : (old : Option ℕ) → 0 ≡ added_if (op.Get name) old
-    at None = refl
-    at (Some old) = refl
+told_added (op.Get name) (once.Done placed) = adds_none (op.Get name) placed.old refl
 told_added (op.Get name) (once.Spent clock) = refl
 told_added (op.Get name) (once.Worn node word) = refl
 told_added (op.Get name) (once.Again why) = refl
-told_added (op.Del name) (once.Done placed) = at placed.old
-  where
-    at : (old : Option ℕ) → 0 ≡ added_if (op.Del name) old
-    at None = refl
-    at (Some old) = refl
+told_added (op.Del name) (once.Done placed) = adds_none (op.Del name) placed.old refl
 told_added (op.Del name) (once.Spent clock) = refl
 told_added (op.Del name) (once.Worn node word) = refl
 told_added (op.Del name) (once.Again why) = refl

@@ -6,7 +6,7 @@ ghost use Rattle.index_core.specs.CoreCalls.{IfRecheck, IfTurn, MayBegin, MaySta
 ghost use Rattle.index_core.specs.Bursts.{BurstsTo};
 ghost use Rattle.index_core.specs.Indexes.{IsBusy, IsInFlight, IsIndex, IsTurning, KeepsRoom, Starts, StepsTo, TurnsTo};
 ghost use Rattle.index_core.specs.Rechecks.{RecheckStepsTo, StartsRecheck};
-ghost use Rattle.index_core.specs.Indexes.{parties_of};
+ghost use Rattle.index_core.specs.Indexes.{parties_of, view_of};
 ghost use Rattle.index_core.specs.Turns.{StartsTurn, TurnStepsTo};
 ghost use Rattle.index_core.specs.declared.party.Stepped.TheVariants.{Going};
 ghost use Rattle.index_core.specs.Opened.{opened_index};
@@ -17,6 +17,7 @@ ghost use Rattle.index_core.specs.Lone.{CountsCall, HasListed, HasListing, HasNo
 ghost use Rattle.index_core.specs.PartyStates.{idle_states};
 ghost use Rattle.index_core.specs.Rounds.{BeginsRound};
 ghost use Rattle.call_stages.specs.Stages.{counted};
+ghost use Rattle.call_stages.specs.Views.{IsView};
 ghost use Rattle.node_ops.specs.CallStages.{stage_of};
 ghost use Rattle.node_ops.specs.RunningSteps.{IsRunning};
 ghost use Rattle.index_core.specs.Cores.{IsAdd};
@@ -198,7 +199,32 @@ impl Core {
         requires { party ≤ self.now.layout.callers }
         ensures { IsTrue result ↔ IsBusy self.now party }
     {
-        self.states[party as usize].is_busy()
+        self.may_begin(party).is_err()
+    }
+
+    /// Refuses the party's next call where its last one isn't answered.
+    pub(crate) fn may_begin(&self, party: u64) -> Result<(), InFlight>
+        requires { party ≤ self.now.layout.callers }
+        ensures in_flight { IsErr result ↔ IsBusy self.now party }
+        ensures index { IsIndex self.now }
+    {
+        if self.states[party as usize].is_busy() {
+            return Err(InFlight);
+        }
+        Ok(())
+    }
+
+    /// What a call of this caller has of the index.
+    pub(crate) fn seen_by(&self, caller: u64) -> View
+        requires { caller < self.now.layout.callers }
+        ensures sees { result ≡ view_of self.now caller }
+        ensures valid { IsView result }
+    {
+        View {
+            layout: self.memory.layout(),
+            generation: self.generation,
+            caller,
+        }
     }
 
     /// Whether the party has a call on a name in flight.
@@ -229,17 +255,10 @@ impl Core {
         ensures before { IsIndex self.old }
         ensures index { IsIndex self.new }
     {
-        let at = party as usize;
-        if self.states[at].is_busy() {
-            return Err(InFlight);
-        }
-        let view = View {
-            layout: self.memory.layout(),
-            generation: self.generation,
-            caller: party,
-        };
+        self.may_begin(party)?;
+        let view = self.seen_by(party);
         let since = self.history.len() as u64;
-        self.states[at].begins(since, view, call);
+        self.states[party as usize].begins(since, view, call);
         Ok(())
     }
 

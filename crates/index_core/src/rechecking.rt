@@ -12,7 +12,7 @@ ghost use Rattle.index_law.specs.Facts.{version_in};
 
 use crate::index::Core;
 use crate::party::InFlight;
-use call_stages::{Once, View};
+use call_stages::Once;
 use node_ops::{Recheck, Same};
 use pm_words::{Machine, Steps};
 use std::sync::ledger::Ledger;
@@ -33,18 +33,11 @@ impl Core {
         ensures before { IsIndex self.old }
         ensures index { IsIndex self.new }
     {
-        let at = party as usize;
-        if self.states[at].is_busy() {
-            return Err(InFlight);
-        }
-        let view = View {
-            layout: self.memory.layout(),
-            generation: self.generation,
-            caller: party,
-        };
+        self.may_begin(party)?;
+        let view = self.seen_by(party);
         let since = self.history().len() as u64;
         let recheck = Recheck::new(view, node, version);
-        self.states[at].begins_recheck(since, recheck);
+        self.states[party as usize].begins_recheck(since, recheck);
         Ok(())
     }
 

@@ -28,12 +28,9 @@ impl Core {
         ensures before { IsIndex self.old }
         ensures index { IsIndex self.new }
     {
-        let at = party as usize;
-        if self.states[at].is_busy() {
-            return Err(InFlight);
-        }
+        self.may_begin(party)?;
         let making = MakeTurn::new(self.memory.layout(), self.generation, stamp, release);
-        self.states[at].turn = Some(making);
+        self.states[party as usize].turn = Some(making);
         Ok(())
     }
 

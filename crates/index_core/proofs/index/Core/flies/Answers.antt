@@ -1,22 +1,15 @@
-use Rattle.std.proofs.Common.{sym, ap, ◌∙◌, arith}
+use Rattle.std.proofs.Common.{arith}
 use Rattle.std.specs.Prelude.{is_some}
-use lib.ListN.{get_elem?}
 use Rattle.index_core.specs.declared.party.PartyState.{PartyState}
-use Rattle.index_core.specs.Indexes.{Index}
-use Rattle.index_core.proofs.Either.{busy_there, flies_told, tells_flight}
-use Rattle.index_core.proofs.Lists.{within, read_is}
+use Rattle.index_core.specs.Indexes.{IsInFlight}
+use Rattle.index_core.proofs.Either.{flies_told, tells_flight}
+use Rattle.index_core.proofs.PartyPlaces.{busy_tests, busy_within}
 use Rattle.index_core.proofs.index.Core.flies.Goals as goal
 
 pub index-requires : goal.index-requires
-index-requires c =
-    let here = busy_there c.args.self.now c.args.party c.requires in
-    omega (arith, within c.self.inside.states.items c.args.party here.0 (ap (λ (v : Index). get_elem? v.states c.args.party) c.self.view_is ∙ here.1), c.self.inside.states.ok.0)
+index-requires c = omega (arith, busy_within c.self.inside c.args.self.now c.args.party c.self.view_is c.requires, c.self.inside.states.ok.0)
 
 pub returns : goal.returns
 returns c =
-    let s = c.args.self.now in
-    let i = c.args.party in
-    let here = busy_there s i c.requires in
-    let read = read_is c.self.inside.states.items i here.0 c.index.result.now (ap (λ (v : Index). get_elem? v.states i) c.self.view_is ∙ here.1) c.index.ensures in
-    let told = c.flies.ensures ∙ ap (λ (d : PartyState). is_some d.machine) read in
-    ((λ flies. flies_told s i here.0 here.1 (sym told ∙ flies)), (λ flies. told ∙ tells_flight s i here.0 here.1 flies))
+    busy_tests c.self.inside c.args.self.now c.args.party c.self.view_is c.requires c.index.result.now c.index.ensures
+    _ (λ (d : PartyState). is_some d.machine) (IsInFlight c.args.self.now c.args.party) c.flies.ensures (flies_told c.args.self.now c.args.party) (tells_flight c.args.self.now c.args.party)

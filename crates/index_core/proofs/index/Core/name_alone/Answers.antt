@@ -33,21 +33,16 @@ has_node g c = elim c.if-lacks_node.branch [
       (node_at_once c.args.self.now _ c.args.caller c.args.call _ (has_line g c) (sym c.lacks_node.ensures ∙ w.if-lacks_node.false))
 ]
 
-node_index : (g : _) (c : After-needs_split g) → IsIndex c.if-lacks_node.self
-node_index g c = elim c.if-lacks_node.branch [
-  | then-lacks_node w ↦ subst IsIndex (sym w.self-is) w.try_behind_turn-answer-then-lacks_node.ensures.index
-  | else-lacks_node w ↦ subst IsIndex (sym w.self-is) (elim c.if-lacks_line.branch [
-    | then-lacks_line v ↦ subst IsIndex (sym v.self-is) v.try_behind_turn-answer.ensures.index
-    | else-lacks_line v ↦ subst IsIndex (sym v.self-is) c.try_alone-answer.ensures.index
-  ])
-]
+-- the index is lawful still, and quiet
+abbrev IsKept : Index → Type 0
+IsKept s = IsIndex s × IsQuiet s
 
-node_quiet : (g : _) (c : After-needs_split g) → IsQuiet c.if-lacks_node.self
-node_quiet g c = elim c.if-lacks_node.branch [
-  | then-lacks_node w ↦ subst IsQuiet (sym w.self-is) w.try_behind_turn-answer-then-lacks_node.ensures.quiet
-  | else-lacks_node w ↦ subst IsQuiet (sym w.self-is) (elim c.if-lacks_line.branch [
-    | then-lacks_line v ↦ subst IsQuiet (sym v.self-is) v.try_behind_turn-answer.ensures.quiet
-    | else-lacks_line v ↦ subst IsQuiet (sym v.self-is) c.try_alone-answer.ensures.quiet
+node_kept : (g : _) (c : After-needs_split g) → IsKept c.if-lacks_node.self
+node_kept g c = elim c.if-lacks_node.branch [
+  | then-lacks_node w ↦ subst IsKept (sym w.self-is) (w.try_behind_turn-answer-then-lacks_node.ensures.index, w.try_behind_turn-answer-then-lacks_node.ensures.quiet)
+  | else-lacks_node w ↦ subst IsKept (sym w.self-is) (elim c.if-lacks_line.branch [
+    | then-lacks_line v ↦ subst IsKept (sym v.self-is) (v.try_behind_turn-answer.ensures.index, v.try_behind_turn-answer.ensures.quiet)
+    | else-lacks_line v ↦ subst IsKept (sym v.self-is) (c.try_alone-answer.ensures.index, c.try_alone-answer.ensures.quiet)
   ])
 ]
 
@@ -123,13 +118,13 @@ full_ran g c =
 tried_quiet : (g : _) (c : goal.After-count_call g) → IsQuiet c.if-needs_split.self
 tried_quiet g c = elim c.if-needs_split.branch [
   | then-needs_split w ↦ subst IsQuiet (sym w.self-is) w.try_alone-answer-then-needs_split.ensures.quiet
-  | else-needs_split w ↦ subst IsQuiet (sym w.self-is) (node_quiet g (goal.at.returns-in-Again-clause-runs g c).After-needs_split)
+  | else-needs_split w ↦ subst IsQuiet (sym w.self-is) (node_kept g (goal.at.returns-in-Again-clause-runs g c).After-needs_split).1
 ]
 
 pub count_call-requires-clause-idle : goal.count_call-requires-clause-idle
 count_call-requires-clause-idle g c = elim c.if-needs_split.branch [
   | then-needs_split w ↦ subst HasNoCalls (sym w.self-is) w.try_alone-answer-then-needs_split.ensures.quiet.calls
-  | else-needs_split w ↦ subst HasNoCalls (sym w.self-is) (node_quiet g (goal.at.count_call-requires-clause-idle g c).After-needs_split).calls
+  | else-needs_split w ↦ subst HasNoCalls (sym w.self-is) (node_kept g (goal.at.count_call-requires-clause-idle g c).After-needs_split).1.calls
 ]
 
 pub returns-in-Again-clause-runs : goal.returns-in-Again-clause-runs
@@ -175,13 +170,13 @@ returns-in_default-clause-each_lock g c = let all = other_ran g c in ran_each _ 
 pub returns-in_default-clause-quiet : goal.returns-in_default-clause-quiet
 returns-in_default-clause-quiet g c = elim c.if-needs_split.branch [
   | then-needs_split w ↦ subst IsQuiet (sym w.self-is) w.try_alone-answer-then-needs_split.ensures.quiet
-  | else-needs_split w ↦ subst IsQuiet (sym w.self-is) (node_quiet g (goal.at.returns-in_default-clause-runs g c).After-needs_split)
+  | else-needs_split w ↦ subst IsQuiet (sym w.self-is) (node_kept g (goal.at.returns-in_default-clause-runs g c).After-needs_split).1
 ]
 
 pub returns-in_default-clause-index : goal.returns-in_default-clause-index
 returns-in_default-clause-index g c = elim c.if-needs_split.branch [
   | then-needs_split w ↦ subst IsIndex (sym w.self-is) w.try_alone-answer-then-needs_split.ensures.index
-  | else-needs_split w ↦ subst IsIndex (sym w.self-is) (node_index g (goal.at.returns-in_default-clause-index g c).After-needs_split)
+  | else-needs_split w ↦ subst IsIndex (sym w.self-is) (node_kept g (goal.at.returns-in_default-clause-index g c).After-needs_split).0
 ]
 
 pub returns-in-Again-clause-acts : goal.returns-in-Again-clause-acts

@@ -1,6 +1,5 @@
 use Rattle.std.proofs.Common.{◌≡◌, ℕ, ◌+◌, length, arith, refl, ap, sym, ◌∙◌, subst}
-use Rattle.std.specs.Prelude.{◌-◌, slice_set, Option, IfSome, IsSome, IsSomeAnd}
-use lib.ListN.{get_elem?}
+use Rattle.std.specs.Prelude.{◌-◌, slice_set, Option, IfSome}
 use Rattle.pm_words.specs.Turns.{GoesBelow}
 use Rattle.cat_history.specs.Maps.{map_of}
 use Rattle.cat_history.specs.declared.op.NameOp.{NameOp}
@@ -25,39 +24,22 @@ use Rattle.pm_words.specs.declared.action.Action.{Action}
 use Rattle.index_core.specs.Cores.{IsAdd, index_with}
 use Rattle.index_core.specs.Indexes.{Index, IsIndex, world, told, stepped_index, MakesCall, FreesNone}
 use Rattle.index_core.proofs.Answering.{says_of}
-use Rattle.index_core.proofs.Lists.{within, read_is}
+use Rattle.index_core.proofs.CoreBursts.{core_flies, core_within}
+use Rattle.index_core.proofs.Lists.{read_is}
+use Rattle.index_core.proofs.PartyPlaces.{holds_in, told_of}
 use Rattle.index_core.proofs.Reading.{Reads, reads, Leaves, leaves}
 use Rattle.index_core.proofs.Stepping.{adds_if_counts, count_room}
 use Rattle.index_core.proofs.index.Core.step_call.Goals.{After-running-machine}
 use Rattle.index_core.proofs.index.Core.step_call.Goals as goal
 
 pub index-requires : goal.index-requires
-index-requires g c =
-    let s = index_with c.self.inside 0 in
-    let i = c.args.party in
-    let flies = c.requires.flies in
-    let e = flies.state in
-    let there = ap (λ (v : Index). get_elem? v.states i) c.self.view_is ∙ flies.there in
-    omega (arith, within s.states i e there, c.self.inside.states.ok.0)
+index-requires g c = omega (arith, core_within c.self.inside c.args.self.now c.args.party c.requires.flies c.self.view_is, c.self.inside.states.ok.0)
 
 pub index_mut-requires : goal.index_mut-requires
-index_mut-requires g c =
-    let s = index_with c.self.inside 0 in
-    let i = c.args.party in
-    let flies = c.requires.flies in
-    let e = flies.state in
-    let there = ap (λ (v : Index). get_elem? v.states i) c.self.view_is ∙ flies.there in
-    omega (arith, within s.states i e there, c.self.inside.states.ok.0)
+index_mut-requires g c = omega (arith, core_within c.self.inside c.args.self.now c.args.party c.requires.flies c.self.view_is, c.self.inside.states.ok.0)
 
 pub running-machine-requires : goal.running-machine-requires
-running-machine-requires g c =
-    let s = index_with c.self.inside 0 in
-    let i = c.args.party in
-    let flies = c.requires.flies in
-    let e = flies.state in
-    let there = ap (λ (v : Index). get_elem? v.states i) c.self.view_is ∙ flies.there in
-    let read = read_is s.states i e c.index.result.now there c.index.ensures in
-    subst IsSome (sym (ap (λ (d : PartyState). d.machine) read ∙ flies.flies)) refl
+running-machine-requires g c = core_flies c.self.inside c.args.self.now c.args.party c.requires.flies c.self.view_is c.index.result.now c.index.ensures
 
 -- what it has read of the party and its machine
 reads_first : (g : _) (c : After-running-machine g) → Reads (index_with c.self.inside 0) c.args.party c.requires.flies.state c.index.result.now c.requires.flies.machine c.running-machine.result.now
@@ -103,16 +85,13 @@ count-requires-clause-room g c =
 pub advance-requires : goal.advance-requires
 advance-requires g c =
     let s = index_with c.self.inside 0 in
-    let i = c.args.party in
     let flies = c.requires.flies in
     let m = flies.machine in
     let at = reads_first g (goal.at.advance-requires g c).After-running-machine in
     let given : c.act-got.result ≡ told s m = c.act-got.ensures.got ∙ ap (got s.layout s.words) (c.action-action.ensures ∙ ap running_asks at.same) in
-    let there = ap (λ (v : Index). get_elem? v.states i) c.self.view_is ∙ flies.there in
-    let read = read_is s.states i flies.state c.index_mut.result.now there c.index_mut.ensures.value in
-    subst (λ (d : PartyState). IsSomeAnd d.machine (λ q. running_takes q c.act-got.result)) (sym read)
-    (subst (λ (o : Option Running). IsSomeAnd o (λ q. running_takes q c.act-got.result)) (sym flies.flies)
-    (subst (λ (n : ℕ). running_takes m n) (sym given) at.facts.takes))
+    let read = read_is s.states c.args.party flies.state c.index_mut.result.now at.there c.index_mut.ensures.value in
+    holds_in (λ (d : PartyState). d.machine) c.index_mut.result.now flies.state m read flies.flies (λ (q : Running). running_takes q c.act-got.result)
+    (subst (λ (n : ℕ). running_takes m n) (sym given) at.facts.takes)
 
 -- what it has read, and what it has made, once it is done
 reads_at : (g : _) (c : goal.After-self-1 g) → Reads (index_with c.self.inside 0) c.args.party c.requires.flies.state c.index.result.now c.requires.flies.machine c.running-machine.result.now
@@ -126,7 +105,7 @@ of_call g c P says =
     let at = reads_at g c in
     let flies = c.requires.flies in
     let read = read_is (index_with c.self.inside 0).states c.args.party flies.state c.index_mut.result.now at.there c.index_mut.ensures.value in
-    subst (λ (o : Option Running). IfSome o (P flies.state)) flies.flies (subst (λ (d : PartyState). IfSome d.machine (P d)) read says)
+    told_of (λ (d : PartyState). d.machine) c.index_mut.result.now flies.state flies.machine read flies.flies P says
 
 goes_at : (g : _) (c : goal.After-self-1 g) → c.advance.new.self ≡ state_after c.index.result.now (running_turned c.running-machine.result.now c.act-got.result)
 goes_at g c =
@@ -197,12 +176,6 @@ returns-clause-turned g c =
 
 pub returns-clause-spare : goal.returns-clause-spare
 returns-clause-spare g c =
-    let s = index_with c.self.inside 0 in
-    let i = c.args.party in
-    let flies = c.requires.flies in
-    let e = flies.state in
-    let m = flies.machine in
-    let at = reads_at g c in
     let left = leaves_at g c in
     let was = ap (λ (v : Index). v.spare) c.self.view_is in
     let written = ap (λ (v : Index). length v.history) c.self.view_is in

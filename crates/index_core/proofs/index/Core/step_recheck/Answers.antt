@@ -1,5 +1,5 @@
 use Rattle.std.proofs.Common.{◌≡◌, ℕ, ◌-◌, ◌+◌, arith, refl, ap, sym, ◌∙◌, subst}
-use Rattle.std.specs.Prelude.{Option, IfSome, IsSome, IsSomeAnd, slice_set}
+use Rattle.std.specs.Prelude.{Option, IfSome, IsSome, slice_set}
 use lib.ListN.{get_elem?}
 use Rattle.pm_words.specs.Rows.{acted, got, CanAct}
 use Rattle.pm_words.specs.Turns.{GoesBelow}
@@ -16,20 +16,18 @@ use Rattle.index_core.specs.Cores.{index_with}
 use Rattle.index_core.specs.Indexes.{Index, IsIndex, world}
 use Rattle.index_core.specs.Rechecks.{GoesOnSame, recheck_told, rechecked_index}
 use Rattle.index_core.proofs.Checks.{recheck_owes}
-use Rattle.index_core.proofs.Lists.{within, read_is}
+use Rattle.index_core.proofs.Lists.{read_is}
+use Rattle.index_core.proofs.PartyPlaces.{holds_in, party_within, told_of}
 use Rattle.index_core.proofs.RecheckReading.{RecheckRead, recheck_at, recheck_reads}
 use Rattle.index_core.proofs.Stepping.{respare}
+use Rattle.index_core.proofs.index.Core.step_recheck.Goals.{After-rechecking-recheck}
 use Rattle.index_core.proofs.index.Core.step_recheck.Goals as goal
 
 pub index-requires : goal.index-requires
-index-requires g c =
-    let f = c.requires.checks in
-    omega (arith, within c.self.inside.states.items c.args.party f.state (ap (λ (v : Index). get_elem? v.states c.args.party) c.self.view_is ∙ f.there), c.self.inside.states.ok.0)
+index-requires g c = let f = c.requires.checks in omega (arith, party_within c.self.inside c.args.self.now c.args.party c.self.view_is f.state f.there, c.self.inside.states.ok.0)
 
 pub index_mut-requires : goal.index_mut-requires
-index_mut-requires g c =
-    let f = c.requires.checks in
-    omega (arith, within c.self.inside.states.items c.args.party f.state (ap (λ (v : Index). get_elem? v.states c.args.party) c.self.view_is ∙ f.there), c.self.inside.states.ok.0)
+index_mut-requires g c = let f = c.requires.checks in omega (arith, party_within c.self.inside c.args.self.now c.args.party c.self.view_is f.state f.there, c.self.inside.states.ok.0)
 
 pub rechecking-recheck-requires : goal.rechecking-recheck-requires
 rechecking-recheck-requires g c =
@@ -37,29 +35,31 @@ rechecking-recheck-requires g c =
     let read = read_is c.self.inside.states.items c.args.party f.state c.index.result.now (ap (λ (v : Index). get_elem? v.states c.args.party) c.self.view_is ∙ f.there) c.index.ensures in
     subst IsSome (sym (ap (λ (d : PartyState). d.recheck) read ∙ f.checks)) refl
 
+-- what it has read
+read_first : (g : _) (c : After-rechecking-recheck g) → RecheckRead (index_with c.self.inside 0) c.args.party c.requires.checks.state c.index.result.now c.requires.checks.rechecking c.rechecking-recheck.result
+read_first g c = recheck_reads (index_with c.self.inside 0) c.args.self.now c.args.party c.requires.checks c.index.result.now c.rechecking-recheck.result (ap (λ (v : Index). v.states) c.self.view_is) c.self.invariant.0 c.index.ensures c.rechecking-recheck.ensures
+
 pub action-action-requires : goal.action-action-requires
 action-action-requires g c =
-    let at = recheck_reads (index_with c.self.inside 0) c.args.self.now c.args.party c.requires.checks c.index.result.now c.rechecking-recheck.result (ap (λ (v : Index). v.states) c.self.view_is) c.self.invariant.0 c.index.ensures c.rechecking-recheck.ensures in
+    let at = read_first g (goal.at.action-action-requires g c).After-rechecking-recheck in
     subst (λ (r : Rechecking). IsRecheck r.machine) (sym at.same) at.law.sound
 
 pub act-got-requires : goal.act-got-requires
 act-got-requires g c =
     let s = index_with c.self.inside 0 in
-    let at = recheck_reads s c.args.self.now c.args.party c.requires.checks c.index.result.now c.rechecking-recheck.result (ap (λ (v : Index). v.states) c.self.view_is) c.self.invariant.0 c.index.ensures c.rechecking-recheck.ensures in
+    let at = read_first g (goal.at.act-got-requires g c).After-rechecking-recheck in
     subst (CanAct s.layout s.words) (sym (c.action-action.ensures ∙ ap (λ (r : Rechecking). recheck_asks r.machine) at.same)) at.law.can
 
 pub advance_recheck-requires : goal.advance_recheck-requires
 advance_recheck-requires g c =
     let s = index_with c.self.inside 0 in
     let f = c.requires.checks in
-    let at = recheck_reads s c.args.self.now c.args.party f c.index.result.now c.rechecking-recheck.result (ap (λ (v : Index). v.states) c.self.view_is) c.self.invariant.0 c.index.ensures c.rechecking-recheck.ensures in
+    let at = read_first g (goal.at.advance_recheck-requires g c).After-rechecking-recheck in
     let told : c.act-got.result ≡ recheck_told s f.rechecking.machine = c.act-got.ensures.got ∙ ap (got s.layout s.words) (c.action-action.ensures ∙ ap (λ (r : Rechecking). recheck_asks r.machine) at.same) in
     let state = read_is s.states c.args.party f.state c.index_mut.result.now at.there c.index_mut.ensures.value in
-    subst (λ (d : PartyState). IsSomeAnd d.recheck (λ m. recheck_takes m.machine c.act-got.result)) (sym state)
-    (subst (λ (o : Option Rechecking). IsSomeAnd o (λ m. recheck_takes m.machine c.act-got.result)) (sym f.checks)
-    (subst (λ (n : ℕ). recheck_takes f.rechecking.machine n) (sym told) at.law.takes))
+    holds_in (λ (d : PartyState). d.recheck) c.index_mut.result.now f.state f.rechecking state f.checks (λ (m : Rechecking). recheck_takes m.machine c.act-got.result)
+    (subst (λ (n : ℕ). recheck_takes f.rechecking.machine n) (sym told) at.law.takes)
 
--- what it has read
 read_at : (g : _) (c : goal.After-self-1 g) → RecheckRead (index_with c.self.inside 0) c.args.party c.requires.checks.state c.index.result.now c.requires.checks.rechecking c.rechecking-recheck.result
 read_at g c = recheck_reads (index_with c.self.inside 0) c.args.self.now c.args.party c.requires.checks c.index.result.now c.rechecking-recheck.result (ap (λ (v : Index). v.states) c.self.view_is) c.self.invariant.0 c.index.ensures c.rechecking-recheck.ensures
 
@@ -76,7 +76,7 @@ state_at g c = read_is c.self.inside.states.items c.args.party c.requires.checks
 of_recheck : (g : _) (c : goal.After-self-1 g) (P : PartyState → Rechecking → Type 0) → IfSome c.index_mut.result.now.recheck (P c.index_mut.result.now) → P c.requires.checks.state c.requires.checks.rechecking
 of_recheck g c P says =
     let f = c.requires.checks in
-    subst (λ (o : Option Rechecking). IfSome o (P f.state)) f.checks (subst (λ (d : PartyState). IfSome d.recheck (P d)) (state_at g c) says)
+    told_of (λ (d : PartyState). d.recheck) c.index_mut.result.now f.state f.rechecking (state_at g c) f.checks P says
 
 now_is : (g : _) (c : goal.After-self-1 g) → c.advance_recheck.new.self ≡ state_rechecked c.requires.checks.state c.requires.checks.rechecking.since (recheck_turned c.requires.checks.rechecking.machine c.act-got.result)
 now_is g c = of_recheck g c (λ e m. c.advance_recheck.new.self ≡ state_rechecked e m.since (recheck_turned m.machine c.act-got.result)) c.advance_recheck.ensures.state
@@ -99,10 +99,7 @@ owes_same g c =
     ∙ recheck_owes c.self.inside.states.items c.args.party f.state (recheck_after f.rechecking.since (recheck_turned f.rechecking.machine c.act-got.result)) (read_at g c).there
 
 pub invariant_of-self : goal.invariant_of-self
-invariant_of-self g c =
-    let same = owes_same g c in
-    let room = c.self.invariant.1 in
-    (subst IsIndex (sym (stepped_is g c 0 0 refl)) (read_at g c).law.kept, omega arith)
+invariant_of-self g c = (subst IsIndex (sym (stepped_is g c 0 0 refl)) (read_at g c).law.kept, omega (arith, owes_same g c, c.self.invariant.1))
 
 pub returns-clause-stepped : goal.returns-clause-stepped
 returns-clause-stepped g c =

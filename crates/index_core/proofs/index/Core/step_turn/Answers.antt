@@ -1,7 +1,6 @@
 use Rattle.std.proofs.Common.{◌≡◌, ℕ, ◌-◌, ◌+◌, arith, refl, ap, sym, ◌∙◌, subst}
-use Rattle.std.specs.Prelude.{Option, IfSome, IsSome, IsSomeAnd, slice_set}
+use Rattle.std.specs.Prelude.{IfSome, IsSome, slice_set}
 use Rattle.pm_words.specs.Turns.{GoesBelow}
-use lib.ListN.{get_elem?}
 use Rattle.pm_words.specs.Rows.{acted, got, CanAct}
 use Rattle.updater.specs.declared.making.MakeTurn.{MakeTurn}
 use Rattle.updater.specs.Makings.{IsMaking, making_asks, making_takes, making_turned, making_left}
@@ -10,50 +9,48 @@ use Rattle.index_core.specs.PartyStates.{owed, state_turned, turn_after, turn_re
 use Rattle.index_core.specs.Cores.{index_with}
 use Rattle.index_core.specs.Indexes.{Index, IsIndex}
 use Rattle.index_core.specs.Turns.{turn_told, turned_index, KeepsNodes, FreesReleased}
-use Rattle.index_core.proofs.Lists.{within, read_is}
+use Rattle.index_core.proofs.CorePasses.{some_turn, turn_within}
+use Rattle.index_core.proofs.Lists.{read_is}
+use Rattle.index_core.proofs.PartyPlaces.{holds_in, told_of}
 use Rattle.index_core.proofs.Stepping.{respare}
 use Rattle.index_core.proofs.TurnReading.{TurnRead, turn_reads, turn_owes, turn_at}
+use Rattle.index_core.proofs.index.Core.step_turn.Goals.{After-making}
 use Rattle.index_core.proofs.index.Core.step_turn.Goals as goal
 
 pub index-requires : goal.index-requires
-index-requires g c =
-    let f = c.requires.turns in
-    omega (arith, within c.self.inside.states.items c.args.party f.state (ap (λ (v : Index). get_elem? v.states c.args.party) c.self.view_is ∙ f.there), c.self.inside.states.ok.0)
+index-requires g c = omega (arith, turn_within c.self.inside c.args.self.now c.args.party c.requires.turns c.self.view_is, c.self.inside.states.ok.0)
 
 pub index_mut-requires : goal.index_mut-requires
-index_mut-requires g c =
-    let f = c.requires.turns in
-    omega (arith, within c.self.inside.states.items c.args.party f.state (ap (λ (v : Index). get_elem? v.states c.args.party) c.self.view_is ∙ f.there), c.self.inside.states.ok.0)
+index_mut-requires g c = omega (arith, turn_within c.self.inside c.args.self.now c.args.party c.requires.turns c.self.view_is, c.self.inside.states.ok.0)
 
 pub making-requires : goal.making-requires
-making-requires g c =
-    let f = c.requires.turns in
-    let read = read_is c.self.inside.states.items c.args.party f.state c.index.result.now (ap (λ (v : Index). get_elem? v.states c.args.party) c.self.view_is ∙ f.there) c.index.ensures in
-    subst IsSome (sym (ap (λ (d : PartyState). d.turn) read ∙ f.turns)) refl
+making-requires g c = subst IsSome (sym (some_turn c.self.inside c.args.self.now c.args.party c.requires.turns c.self.view_is c.index.result.now c.index.ensures)) refl
+
+-- what it has read
+read_first : (g : _) (c : After-making g) → TurnRead (index_with c.self.inside 0) c.args.party c.requires.turns.state c.index.result.now c.requires.turns.making c.making.result.now
+read_first g c = turn_reads (index_with c.self.inside 0) c.args.self.now c.args.party c.requires.turns c.index.result.now c.making.result.now (ap (λ (v : Index). v.states) c.self.view_is) c.self.invariant.0 c.index.ensures c.making.ensures
 
 pub action-action-requires : goal.action-action-requires
 action-action-requires g c =
-    let at = turn_reads (index_with c.self.inside 0) c.args.self.now c.args.party c.requires.turns c.index.result.now c.making.result.now (ap (λ (v : Index). v.states) c.self.view_is) c.self.invariant.0 c.index.ensures c.making.ensures in
+    let at = read_first g (goal.at.action-action-requires g c).After-making in
     subst IsMaking (sym at.same) at.sound
 
 pub act-got-requires : goal.act-got-requires
 act-got-requires g c =
     let s = index_with c.self.inside 0 in
-    let at = turn_reads s c.args.self.now c.args.party c.requires.turns c.index.result.now c.making.result.now (ap (λ (v : Index). v.states) c.self.view_is) c.self.invariant.0 c.index.ensures c.making.ensures in
+    let at = read_first g (goal.at.act-got-requires g c).After-making in
     subst (CanAct s.layout s.words) (sym (c.action-action.ensures ∙ ap making_asks at.same)) at.law.can
 
 pub advance_turn-requires : goal.advance_turn-requires
 advance_turn-requires g c =
     let s = index_with c.self.inside 0 in
     let f = c.requires.turns in
-    let at = turn_reads s c.args.self.now c.args.party f c.index.result.now c.making.result.now (ap (λ (v : Index). v.states) c.self.view_is) c.self.invariant.0 c.index.ensures c.making.ensures in
+    let at = read_first g (goal.at.advance_turn-requires g c).After-making in
     let told : c.act-got.result ≡ turn_told s f.making = c.act-got.ensures.got ∙ ap (got s.layout s.words) (c.action-action.ensures ∙ ap making_asks at.same) in
     let state = read_is s.states c.args.party f.state c.index_mut.result.now at.there c.index_mut.ensures.value in
-    subst (λ (d : PartyState). IsSomeAnd d.turn (λ m. making_takes m c.act-got.result)) (sym state)
-    (subst (λ (o : Option MakeTurn). IsSomeAnd o (λ m. making_takes m c.act-got.result)) (sym f.turns)
-    (subst (λ (n : ℕ). making_takes f.making n) (sym told) at.law.takes))
+    holds_in (λ (d : PartyState). d.turn) c.index_mut.result.now f.state f.making state f.turns (λ (m : MakeTurn). making_takes m c.act-got.result)
+    (subst (λ (n : ℕ). making_takes f.making n) (sym told) at.law.takes)
 
--- what it has read
 read_at : (g : _) (c : goal.After-self-1 g) → TurnRead (index_with c.self.inside 0) c.args.party c.requires.turns.state c.index.result.now c.requires.turns.making c.making.result.now
 read_at g c = turn_reads (index_with c.self.inside 0) c.args.self.now c.args.party c.requires.turns c.index.result.now c.making.result.now (ap (λ (v : Index). v.states) c.self.view_is) c.self.invariant.0 c.index.ensures c.making.ensures
 
@@ -67,7 +64,10 @@ state_at g c = read_is c.self.inside.states.items c.args.party c.requires.turns.
 of_turn : (g : _) (c : goal.After-self-1 g) (P : PartyState → MakeTurn → Type 0) → IfSome c.index_mut.result.now.turn (P c.index_mut.result.now) → P c.requires.turns.state c.requires.turns.making
 of_turn g c P says =
     let f = c.requires.turns in
-    subst (λ (o : Option MakeTurn). IfSome o (P f.state)) f.turns (subst (λ (d : PartyState). IfSome d.turn (P d)) (state_at g c) says)
+    told_of (λ (d : PartyState). d.turn) c.index_mut.result.now f.state f.making (state_at g c) f.turns P says
+
+now_is : (g : _) (c : goal.After-self-1 g) → c.advance_turn.new.self ≡ state_turned c.requires.turns.state (making_turned c.requires.turns.making c.act-got.result)
+now_is g c = of_turn g c (λ e m. c.advance_turn.new.self ≡ state_turned e (making_turned m c.act-got.result)) c.advance_turn.ensures.state
 
 -- the index that it leaves
 stepped_is : (g : _) (c : goal.After-self-1 g) (k spare : ℕ) → spare ≡ k
@@ -76,24 +76,18 @@ stepped_is : (g : _) (c : goal.After-self-1 g) (k spare : ℕ) → spare ≡ k
 stepped_is g c k spare same =
     let s = index_with c.self.inside k in
     let f = c.requires.turns in
-    let told = told_at g c in
-    let now : c.advance_turn.new.self ≡ state_turned f.state (making_turned f.making c.act-got.result) = of_turn g c (λ e m. c.advance_turn.new.self ≡ state_turned e (making_turned m c.act-got.result)) c.advance_turn.ensures.state in
     turn_at s c.args.party f.state c.advance_turn.new.self f.making c.act-got.new.self spare
     (c.act-got.ensures.row ∙ ap (λ a. record { layout = s.layout; words = acted s.layout s.words a }) (c.action-action.ensures ∙ ap making_asks (read_at g c).same))
-    (now ∙ ap (λ n. state_turned f.state (making_turned f.making n)) told) same
+    (now_is g c ∙ ap (λ n. state_turned f.state (making_turned f.making n)) (told_at g c)) same
 
 owes_same : (g : _) (c : goal.After-self-1 g) → owed (slice_set c.self.inside.states.items c.args.party c.advance_turn.new.self) ≡ owed c.self.inside.states.items
 owes_same g c =
     let f = c.requires.turns in
-    let now : c.advance_turn.new.self ≡ state_turned f.state (making_turned f.making c.act-got.result) = of_turn g c (λ e m. c.advance_turn.new.self ≡ state_turned e (making_turned m c.act-got.result)) c.advance_turn.ensures.state in
-    ap (λ (d : PartyState). owed (slice_set c.self.inside.states.items c.args.party d)) now
+    ap (λ (d : PartyState). owed (slice_set c.self.inside.states.items c.args.party d)) (now_is g c)
     ∙ turn_owes c.self.inside.states.items c.args.party f.state (turn_after (making_turned f.making c.act-got.result)) (read_at g c).there
 
 pub invariant_of-self : goal.invariant_of-self
-invariant_of-self g c =
-    let same = owes_same g c in
-    let room = c.self.invariant.1 in
-    (subst IsIndex (sym (stepped_is g c 0 0 refl)) (read_at g c).law.kept, omega arith)
+invariant_of-self g c = (subst IsIndex (sym (stepped_is g c 0 0 refl)) (read_at g c).law.kept, omega (arith, owes_same g c, c.self.invariant.1))
 
 pub returns-clause-stepped : goal.returns-clause-stepped
 returns-clause-stepped g c =
