@@ -36,8 +36,8 @@ use Rattle.index_core.proofs.Lists.{set_twice, some_same}
 use Rattle.index_core.proofs.CrashLaws.{placed_are_timely}
 use Rattle.index_core.proofs.MachineLaw.{machine_law, begin_law}
 use Rattle.atomic_table.specs.Table.{State, Me, keeps}
+use Rattle.epochs.proofs.Lists.{alone}
 use Rattle.epochs.proofs.ViewSums.{in_set, in_two}
-use Rattle.pac_index.proofs.Rows.{alone}
 use Rattle.pac_index.specs.declared.rule.About.{About}
 use Rattle.pac_index.specs.declared.rule.AnsweredPart.{AnsweredPart}
 use Rattle.pac_index.specs.declared.rule.Member.{Member}
@@ -148,6 +148,21 @@ may about words slots id me action shows tells lone within tell leaves = (
       ),
 )
 
+-- So it goes on with what its party has in flight, of which this is the next action.
+module _ {A : Type 0} (asks : A → Action) (flying : Member → Option A) (goes : A → Member → ℕ → Member → Type 0) where
+  pub may_go_on : (about : About) (words slots id : ℕ) (me : Me (Unit {0}) (List Member)) (tells : Me (Unit {0}) (List Member) → ℕ → Me (Unit {0}) (List Member) → Type 0) (m : A) → IsLone me → flying (party me) ≡ Some m → action_address about.layout (asks m) < words
+      → ((found : ℕ) (after : Me (Unit {0}) (List Member)) → ((n : A) → flying (party me) ≡ Some n → IsLone after × goes n (party me) (given (asks n) found) (party after)) → tells me found after)
+      → ((f : ℕ → ℕ) → ((n : ℕ) → n < 2 ^ 64 → CanChange (asks m) n → f n ≡ word_after (asks m) n) → (s : State (Unit {0}) (List Member)) → Kept about s → get_elem? s.views id ≡ some (party me ∷ []) → slice_index s.words (action_address about.layout (asks m)) < 2 ^ 64
+      → Leaves about s id (asks m) f (goes m (party me)))
+      → May about words slots id me (asks m) tells
+  may_go_on about words slots id me tells m lone is within tell leaves =
+      may about words slots id me (asks m) (goes m (party me)) tells lone within
+      (λ found after alone went. tell found after (λ n is'. (
+        alone,
+        subst (λ (x : A). goes x (party me) (given (asks x) found) (party after)) (some_same (sym is ∙ is')) went,
+      )))
+      leaves
+
 -- The same where the party begins with the step: its seat has had it as it begins.
 pub leaves_first : (about : About) (s : State (Unit {0}) (List Member)) (id : ℕ) (action : Action) (f : ℕ → ℕ) (begun : Member) (shows shown : ℕ → Member → Type 0) → ((x : ℕ) (w : Member) → shows x w → shown x w)
     → Leaves about (record { words = s.words; homes = s.homes; views = set s.views id (begun ∷ []) }) id action f shows → Leaves about s id action f shown
@@ -243,12 +258,7 @@ place_inside l (Drain place value) may = let top = may.0.1 in omega arith
 pub allows : (about : About) (words slots id : ℕ) (me : Me (Unit {0}) (List Member)) (m : Running) → IsLone me → (party me).state.machine ≡ Some m → action_address about.layout (running_asks m) < words
     → May about words slots id me (running_asks m) Tells
 allows about words slots id me m lone is within =
-    may about words slots id me (running_asks m) (Goes m (party me)) Tells lone within
-    (λ found after alone goes m' is'. (
-      alone,
-      subst (λ (x : Running). Goes x (party me) (given (running_asks x) found) (party after)) (some_same (sym is ∙ is')) goes,
-    ))
-    (λ f same. done about id (party me) m f is same)
+    may_go_on running_asks (λ (v : Member). v.state.machine) Goes about words slots id me Tells m lone is within (λ found after told. told) (λ f same. done about id (party me) m f is same)
 
 -- the parties and the views once a party has begun its call
 begun : (about : About) (id : ℕ) (v : Member) (c : CoreCall) (index : ℕ) (s : State (Unit {0}) (List Member)) (kept : Kept about s) → get_elem? s.views id ≡ some (v ∷ []) → v.state.machine ≡ None → IsRunning (machine_in v c)

@@ -12,8 +12,10 @@ use Rattle.index_core.proofs.Lists.{map_there, there_is, within}
 use Rattle.atomic_table.specs.Table.{Final, Me, Seen, State}
 use Rattle.pac_index.specs.declared.rule.About.{About}
 use Rattle.pac_index.specs.declared.caller.Caller.{Caller}
+use Rattle.pac_index.specs.declared.caller.PlacedWrite.{PlacedWrite}
 use Rattle.pac_index.specs.declared.shared.Shared.{Shared}
 use Rattle.pm_words.specs.declared.layout.Layout.{Layout}
+use Rattle.pm_words.specs.Images.{Row}
 use Rattle.pac_index.specs.Stamps.{stamp_in, SettlesTo}
 use Rattle.pac_index.specs.Kept.{index_of, placed_by, Begins, Fits, added_in, added_in_all, one_of, opening_weight, Kept}
 use Rattle.epochs.proofs.ViewSums.{in_two}
@@ -146,3 +148,42 @@ meeting_in s callers words settled z states core idle settles is index =
           subst (λ (i : Index). stamp_in i.layout i.words n ≤ 1) (sym is) one;
       writers = λ place w at. z.writers place w (ap (λ (l : List Write). slice_get l place) (sym history) ∙ at);
     }
+
+-- What is taken of the callers, and of the words as the table closed: idle parties, the writes that were kept, and the
+-- clock, which is the length of their history.
+pub record IsTaken (s : Shared) (callers : List Caller) (words : List ℕ) (states : List PartyState) (kept : List PlacedWrite) (clock : ℕ) : Type 0 where
+  pub closed : IsClosed s callers words
+  pub idle : AreIdle states (parties_of s.about.layout)
+  pub long : length closed.history ≡ clock
+  pub writes : AreWritesOf kept closed.history
+
+pub taken : (s : Shared) (callers : List Caller) (id : ℕ) (me : Me (Unit {0}) (List Member)) (words : List ℕ) (slots : List (Unit {0})) (states : List PartyState) (kept : List PlacedWrite) (clock d : ℕ) (looked : List Caller) → HasCallers s (parties_of s.about.layout) callers → AreAtRest callers
+    → me ≡ (map seen_by callers, []) → Final (Seen (Kept s.table.shared.key) id me.0) words slots → looked ≡ callers → AreIdle states (length looked) → kept ≡ kept_by callers → clock ≡ get_or words 0 d → IsTaken s callers words states kept clock
+taken s callers id me words slots states kept clock d looked has rests all final same are_idle keeps first =
+    let z = closes s callers id words slots has rests (final_of s callers id me words slots all final) in
+    let idle = subst (λ (n : ℕ). AreIdle states n) (ap length same ∙ has.count) are_idle in
+    record {
+      closed = z;
+      idle = idle;
+      long = closed_word s callers words z states idle d ∙ sym first;
+      writes = subst (λ (l : List PlacedWrite). AreWritesOf l z.history) (sym keeps) (closed_writes s callers words z);
+    }
+
+-- the row that is made of the words, once its stamps are settled
+pub settled_so : (s : Shared) (words found : List ℕ) (before after : Row) → before ≡ record { layout = s.about.layout; words = found } → found ≡ words → after.layout ≡ before.layout → SettlesTo before.layout before.words after.words → (after.layout ≡ s.about.layout) × SettlesTo s.about.layout words after.words
+settled_so s words found before after of is layout settles =
+    let made : before ≡ record { layout = s.about.layout; words = words } = of ∙ (λ k. record { layout = s.about.layout; words = is k }) in (
+      layout ∙ ap (λ (r : Row). r.layout) made,
+      subst (λ (r : Row). SettlesTo r.layout r.words after.words) made settles,
+    )
+
+-- and the index that is made of it, and of what is taken
+module _ (s : Shared) (callers : List Caller) (words : List ℕ) (states : List PartyState) (kept : List PlacedWrite) (clock : ℕ) (row : Row) (history : List Write) (t : IsTaken s callers words states kept clock) (same : history ≡ t.closed.history) (made : (row.layout ≡ s.about.layout) × SettlesTo s.about.layout words row.words) where
+  pub settled_index : IsIndex (record { layout = row.layout; generation = s.about.generation; words = row.words; states = states; base = s.about.base; history = history; spare = 0 })
+  settled_index =
+      subst IsIndex (λ k. record { layout = sym made.0 k; generation = s.about.generation; words = row.words; states = states; base = s.about.base; history = sym same k; spare = 0 }) (made.1.keeps (index_of s.about words states t.closed.history) (record { calls = t.idle.idle; turns = t.idle.resting; rechecks = t.idle.unchecked }) (t.closed.index states t.idle))
+
+  pub settled_meets : (core : Index) → core ≡ record { layout = row.layout; generation = s.about.generation; words = row.words; states = states; base = s.about.base; history = history; spare = core.spare } → IsIndex core → Meeting s callers core
+  settled_meets core is index =
+      meeting_in s callers words row.words t.closed states core t.idle made.1
+      (is ∙ (λ k. record { layout = made.0 k; generation = s.about.generation; words = row.words; states = states; base = s.about.base; history = same k; spare = core.spare })) index

@@ -18,9 +18,10 @@ use Rattle.index_core.specs.CrashLaws.{chosen_index, evicted_by}
 use Rattle.index_core.specs.Crashes.{cut_change, cut_changes, unplaced}
 use Rattle.index_core.specs.Indexes.{Index, IsIndex, parties_of, world}
 use Rattle.index_core.specs.CoreCalls.{op_of}
-use Rattle.index_core.specs.MachineLaws.{put_shows, showing, shown_by, shows}
+use Rattle.index_core.specs.MachineLaws.{put_shows, showing, shows}
 use Rattle.index_core.proofs.CrashLaws.{chosen_keep, chosen_weighs, crash_leaves, crash_keeps_generation}
 use Rattle.index_core.proofs.Lists.{map_there}
+use Rattle.index_core.proofs.Shown.{shows_few}
 use Rattle.atomic_table.specs.Table.{Final, Seen}
 use Rattle.pac_index.specs.declared.rule.About.{About}
 use Rattle.pac_index.specs.declared.caller.Caller.{Caller}
@@ -29,8 +30,6 @@ use Rattle.pac_index.specs.Kept.{index_of, placed_by, Begins, Fits, added_in, ad
 use Rattle.cat_history.specs.Records.{change_of}
 use Rattle.cat_history.specs.declared.op.NameOp.{NameOp}
 use Rattle.cat_history.specs.declared.op.NameOp.TheVariants as op
-use Rattle.call_stages.specs.Stages.{Stage}
-use Rattle.call_stages.specs.Stages.Stage.{Idle, Saw, Wears, Reads, Holds, Eyes, Splits, Leaves, Meets, Joins}
 use Rattle.node_ops.specs.Asked.{op_in}
 use Rattle.node_ops.specs.CallStages.{stage_of}
 use Rattle.image_rules.specs.Rules.{header_generation}
@@ -56,25 +55,6 @@ changes_are (c ∷ cs) tells =
     (λ k. change_is c.cut (seen_by c).state (tells 0 c refl) k ++ changes_are cs (λ i d at. tells (suc i) d at) k)
 
 -- and so are the puts
-shown_one : (old : Option (Option ℕ)) (pending : Option Change) (placed : Option ℕ) → shown_by old pending placed ≤ 1
-shown_one (Some None) (Some change) placed = omega arith
-shown_one (Some None) None (Some place) = omega arith
-shown_one (Some None) None None = omega arith
-shown_one (Some (Some value)) pending placed = omega arith
-shown_one None pending placed = omega arith
-
-shows_one : (s : Stage) → shows s ≤ 1
-shows_one Idle = omega arith
-shows_one (Saw n v w k) = omega arith
-shows_one (Wears n v) = omega arith
-shows_one (Reads n v sight told) = omega arith
-shows_one (Holds n w h) = shown_one h.old h.pending h.placed
-shows_one (Eyes n w h m v u free) = shown_one h.old None h.placed
-shows_one (Splits left fresh phase) = omega arith
-shows_one (Leaves left) = omega arith
-shows_one (Meets n w h right) = shown_one h.old None h.placed
-shows_one (Joins h left right pace) = shown_one h.old None h.placed
-
 put_one : (o : NameOp) (n : ℕ) → n ≤ 1 → put_shows o n ≤ one_put o
 put_one (op.Put name value) n less = less
 put_one (op.Get name) n less = omega arith
@@ -85,7 +65,7 @@ put_is None state is = let none = ap showing is in omega arith
 put_is (Some cut) state is =
     let here = ap showing is.flies in
     let one : put_shows (op_in is.machine) (shows (stage_of is.machine)) ≤ one_put (op_of cut.call) =
-    subst (λ (o : NameOp). put_shows (op_in is.machine) (shows (stage_of is.machine)) ≤ one_put o) is.op (put_one (op_in is.machine) (shows (stage_of is.machine)) (shows_one (stage_of is.machine))) in
+    subst (λ (o : NameOp). put_shows (op_in is.machine) (shows (stage_of is.machine)) ≤ one_put o) is.op (put_one (op_in is.machine) (shows (stage_of is.machine)) (shows_few (stage_of is.machine))) in
     omega arith
 
 puts_are : (callers : List Caller) → ((i : ℕ) (c : Caller) → get_elem? callers i ≡ some c → TellsCut c.cut (seen_by c).state) → added_in (map seen_by callers) ≤ added_by_all callers + puts_in_flight (map cut_of callers)

@@ -6,6 +6,7 @@ use mathlib.Core.Option.{some, some-injective}
 use lib.ListN.{get_elem?}
 use Rattle.cat_history.specs.Maps.{map_of}
 use Rattle.cat_history.specs.declared.op.Write.{Write}
+use Rattle.pm_words.specs.declared.action.Action.{Action}
 use Rattle.pm_words.specs.declared.action.Action.TheVariants.{Load}
 use Rattle.pm_words.specs.declared.again.Again.TheVariants.{Moved}
 use Rattle.pm_words.specs.declared.layout.Layout.{Layout}
@@ -36,7 +37,7 @@ use Rattle.pac_index.specs.declared.rule.About.{About}
 use Rattle.pac_index.specs.declared.rule.AnsweredPart.{AnsweredPart}
 use Rattle.pac_index.specs.declared.rule.Member.{Member}
 use Rattle.pac_index.specs.Calls.{run_of}
-use Rattle.pac_index.specs.Kept.{Fits, IsLone, IsPartKnown, Kept, KnowsParts, May, index_of, known_part, party, placed_by, view_in}
+use Rattle.pac_index.specs.Kept.{Fits, IsLone, IsPartKnown, Kept, KnowsParts, May, WasTold, index_of, known_part, party, placed_by, view_in}
 use Rattle.pac_index.specs.Rechecked.{AreStill, Checks, Dates, EndsRecheck, IsStill, Looks, Rechecked, SaysSame, StartsRecheck}
 use Rattle.pac_index.proofs.Allowed.{Leaves, may, moved, stayed}
 use Rattle.pac_index.proofs.Lists.{begins_le, begins_self, begins_trans}
@@ -179,6 +180,20 @@ still_before old mid h a place same before is = subst (λ (b : About). IsStill b
   lists = λ between late soon. is.lists between late (omega arith);
   whole = λ many between late soon. is.whole many between late (omega arith);
 })
+
+-- what the load of the clock gave is what it tells
+pub dates_told : (me after : Me (Unit {0}) (List Member)) (action : Action) (x : ℕ) (view : View) (node version : ℕ) (first : Recheck) → WasTold StartsRecheck me action x after → action ≡ recheck_asks first → first ≡ Dating view node version → Dates (party me) x (party after)
+dates_told me after action x view node version first told asks is =
+    let got : x ≡ told.found = told.is ∙ ap (λ (a : Action). given a told.found) (asks ∙ ap recheck_asks is) in
+    subst (λ (n : ℕ). Dates (party me) n (party after)) (sym got) told.heard.1
+
+-- and so it is with that of the version word
+pub checks_told : (me after : Me (Unit {0}) (List Member)) (action : Action) (x : ℕ) (view : View) (node version clock chosen : ℕ) (last : Recheck) → WasTold (EndsRecheck chosen) me action x after → node ≡ chosen → action ≡ recheck_asks last → last ≡ Checking view node version clock
+    → IsLone after × Checks node (party me) x (party after)
+checks_told me after action x view node version clock chosen last told same asks is =
+    let got : x ≡ told.found = told.is ∙ ap (λ (a : Action). given a told.found) (asks ∙ ap recheck_asks is) in
+    let heard : EndsRecheck node me told.found after = subst (λ (n : ℕ). EndsRecheck n me told.found after) (sym same) told.heard in
+    (heard.0, subst (λ (n : ℕ). Checks node (party me) n (party after)) (sym got) heard.1)
 
 -- What a recheck is answered that has made its two loads.
 pub rechecks_so : (node version : ℕ) (old mid new : Member) (clock found : ℕ) → Dates old clock mid → Checks node mid found new → Rechecked node version old (rechecked node version clock found) new

@@ -1,6 +1,6 @@
 -- Elements of a list by their number.
-use Rattle.std.proofs.Common.{◌≡◌, ℕ, zero, suc, ◌<◌, List, [], ◌∷◌, length, slice_index_or, sym, ap, subst, arith}
-use mathlib.Core.Option.{some, some-injective, some-ne-none}
+use Rattle.std.proofs.Common.{◌≡◌, ℕ, zero, suc, ◌<◌, List, [], ◌∷◌, length, slice_index_or, sym, ap, arith}
+use mathlib.Core.Option.{some, some-injective}
 use lib.ListN.{get_elem?}
 
 -- what is read at a number in range stands there
@@ -19,8 +19,3 @@ pub stands_read : {X : Type 0} (xs : List X) (i : ℕ) (x : X) → get_elem? xs 
 stands_read [] i x at = absurd (cc)
 stands_read (y ∷ ys) zero x at = some-injective _ _ at
 stands_read (y ∷ ys) (suc i) x at = stands_read ys i x at
-
--- the only one of a list of one
-pub alone : {X : Type 0} (Q : X → Type 0) (x : X) → Q x → (i : ℕ) (y : X) → get_elem? (x ∷ []) i ≡ some y → Q y
-alone Q x is zero y at = subst Q (some-injective x y at) is
-alone Q x is (suc i) y at = absurd (some-ne-none y (sym at))

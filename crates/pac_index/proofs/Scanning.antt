@@ -213,18 +213,18 @@ module _ (from : List ℕ) (count : ℕ) (old now new : Member) (low : List ℕ)
       part_follows (after (map_of old.about.base) h) from count (length old.seen) low left was.place parts part (was.goes h (begins_trans now.seen new.seen h reads.seen begins)) (of_longer was.reads is was.place was.reached h begins)
 
   -- with names left the next part begins where this one ends
-  pub scans_more : Scans from count old now (Some low) left parts → HasOnlyRead now new → IsRead low left now new part → left' ≡ left - length part.pairs → 0 < left' → parts' ≡ parts ++ part ∷ [] →
+  pub scans_more : HasOnlyRead now new → left' ≡ left - length part.pairs → 0 < left' → parts' ≡ parts ++ part ∷ [] → Scans from count old now (Some low) left parts → IsRead low left now new part →
       Scans from count old new part.high left' parts'
-  scans_more was reads is fewer some grown =
+  scans_more reads fewer some grown was is =
       scans_next part.high was reads is grown
       (λ h begins. subst (λ (k : ℕ). GoesOn (after (map_of old.about.base) h) from count (length old.seen) part.high k part.place (parts ++ part ∷ [])) (sym fewer) ((follows was reads is h begins).0 (omega (arith, fewer, some))))
       (λ h begins. subst (λ (k : ℕ). CutsHere (after (map_of old.about.base) h) from count (length old.seen) part.high k part.place (parts ++ part ∷ [])) (sym fewer)
       (cuts_next (after (map_of old.about.base) h) from count (length old.seen) low left was.place parts part (was.cuts h (begins_trans now.seen new.seen h reads.seen begins)) (of_longer was.reads is was.place was.reached h begins) (omega (arith, fewer, some)) part.high refl))
 
   -- and with none it was the last one
-  pub scans_last : Scans from count old now (Some low) left parts → HasOnlyRead now new → IsRead low left now new part → left' ≡ left - length part.pairs → left' ≤ 0 → parts' ≡ parts ++ part ∷ [] →
+  pub scans_last : HasOnlyRead now new → left' ≡ left - length part.pairs → left' ≤ 0 → parts' ≡ parts ++ part ∷ [] → Scans from count old now (Some low) left parts → IsRead low left now new part →
       Scans from count old new None left' parts'
-  scans_last was reads is fewer none grown = scans_next None was reads is grown (λ h begins. (follows was reads is h begins).1 (omega (arith, fewer, none))) (λ h begins. tt)
+  scans_last reads fewer none grown was is = scans_next None was reads is grown (λ h begins. (follows was reads is h begins).1 (omega (arith, fewer, none))) (λ h begins. tt)
 
 pub scans_end : (from : List ℕ) (count : ℕ) (old now : Member) (left : ℕ) (parts : List ScanPart) → Scans from count old now None left parts → AreScanned from count false old now parts
 scans_end from count old now left parts is =
@@ -285,16 +285,19 @@ ReadSoFar s from count old now next left parts = record {
   scans : Scans from count (seen_by old) (seen_by now) next left parts;
 }
 
--- one part more
-pub part_on : (s : Shared) (from : List ℕ) (count : ℕ) (old b a : Caller) (next next' : Option (List ℕ)) (left left' : ℕ) (parts parts' : List ScanPart) → ReadSoFar s from count old b next left parts → StaysCaller s b a → a.index ≡ b.index → IsAtRest a → HasPaid b a
-    → spare_of b ≤ spare_of a → Scans from count (seen_by old) (seen_by a) next' left' parts' → ReadSoFar s from count old a next' left' parts'
-part_on s from count old b a next next' left left' parts parts' was stays index rests paid less scans = record {
-  caller = stays.0;
-  number = stays.1 ∙ was.number;
-  index = index ∙ was.index;
-  still = inr rests;
-  over = λ none. rests;
-  paid = pays_then old.left b.left a.left (seen_by old).taken (seen_by b).taken (seen_by a).taken was.paid paid;
-  spare = let more = was.spare in omega arith;
-  scans = scans;
-}
+-- one part more, which was read behind those so far
+pub part_on : (E : Type 0) (s : Shared) (from : List ℕ) (count : ℕ) (old b a : Caller) (next next' : Option (List ℕ)) (left left' : ℕ) (parts parts' : List ScanPart) (read : Option ScanPart) (part : ScanPart) (low : List ℕ) → ReadSoFar s from count old b next left parts → next ≡ Some low
+    → read ≡ Some part → StaysCaller s b a → a.index ≡ b.index → PartEnds {E = E} (Ok read) b a → HasPaid b a → spare_of b ≤ spare_of a → IfSome read (IsRead low left (seen_by b) (seen_by a))
+    → (Scans from count (seen_by old) (seen_by b) (Some low) left parts → IsRead low left (seen_by b) (seen_by a) part → Scans from count (seen_by old) (seen_by a) next' left' parts') → ReadSoFar s from count old a next' left' parts'
+part_on E s from count old b a next next' left left' parts parts' read part low was at is stays index ends paid less told scans =
+    let rests = part_rests E read part b a is ends in
+    record {
+      caller = stays.0;
+      number = stays.1 ∙ was.number;
+      index = index ∙ was.index;
+      still = inr rests;
+      over = λ none. rests;
+      paid = pays_then old.left b.left a.left (seen_by old).taken (seen_by b).taken (seen_by a).taken was.paid paid;
+      spare = let more = was.spare in omega arith;
+      scans = scans (subst (λ (o : Option (List ℕ)). Scans from count (seen_by old) (seen_by b) o left parts) at was.scans) (part_read (IsRead low left (seen_by b) (seen_by a)) read part is told);
+    }

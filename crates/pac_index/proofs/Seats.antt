@@ -4,7 +4,6 @@ use Rattle.std.proofs.lemmas.Bool.{cases_eq}
 use Rattle.std.specs.Prelude.{◌==◌}
 use mathlib.Core.Option.{some, some-ne-none}
 use lib.ListN.{get_elem?}
-use Rattle.cat_history.specs.declared.op.Write.{Write}
 use Rattle.index_law.proofs.Parties.{set_else, each_set, each_snoc}
 use Rattle.index_core.specs.declared.party.PartyState.{PartyState}
 use Rattle.index_core.specs.PartyStates.{idle_state, idle_states}
@@ -22,8 +21,8 @@ use Rattle.index_core.specs.MachineLaws.{AreIdle}
 use Rattle.index_core.proofs.MachineLaw.{with_idle, idle_weigh}
 use Rattle.pac_index.specs.Kept.{AllKnow, KnowsParts}
 use Rattle.pac_index.specs.Kept.{index_of, Fits, AllFit, one_of, times_in, added_in, added_of, opening_weight, IsHalfPaid, AllPaid, Kept, member_of, first_view, first_of, rest_of}
-use Rattle.pac_index.proofs.Rows.{alone}
 use Rattle.epochs.specs.Views.{one_if}
+use Rattle.epochs.proofs.Lists.{alone, each_append}
 use Rattle.epochs.proofs.ViewSums.{in_append, in_set, in_snoc}
 
 pub none_idle : (n : ℕ) → AreIdle (idle_states n) n
@@ -101,6 +100,17 @@ both_added : (v : List Member) → added_in (rest_of v) + added_in (first_of v) 
 both_added [] = omega arith
 both_added (x ∷ xs) = omega arith
 
+-- what holds of each party of a view holds of those behind its first
+behind : (P : Member → Type 0) (v : List Member) → ((k : ℕ) (m : Member) → get_elem? v k ≡ some m → P m) → (k : ℕ) (m : Member) → get_elem? (rest_of v) k ≡ some m → P m
+behind P [] all k m at = absurd (some-ne-none m (sym at))
+behind P (x ∷ xs) all k m at = all (suc k) m at
+
+-- and of the first
+front : (P : Member → Type 0) (v : List Member) → ((k : ℕ) (m : Member) → get_elem? v k ≡ some m → P m) → (k : ℕ) (m : Member) → get_elem? (first_of v) k ≡ some m → P m
+front P [] all k m at = absurd (some-ne-none m (sym at))
+front P (x ∷ xs) all zero m at = all 0 m at
+front P (x ∷ xs) all (suc k) m at = absurd (some-ne-none m (sym at))
+
 -- a view is cut in two
 pub divides : (about : About) (id : ℕ) (v : List Member) → Splits (Kept about) id v (rest_of v) (first_of v)
 divides about id v s kept at = record {
@@ -108,8 +118,8 @@ divides about id v s kept at = record {
   history = kept.history;
   index = kept.index;
   fits = each_snoc (AllFit about kept.states kept.history) (set s.views id (rest_of v)) (first_of v)
-      (each_set (AllFit about kept.states kept.history) s.views id (rest_of v) (λ j u other there. kept.fits j u there) (behind v (kept.fits id v at)))
-      (front v (kept.fits id v at));
+      (each_set (AllFit about kept.states kept.history) s.views id (rest_of v) (λ j u other there. kept.fits j u there) (behind (Fits about kept.states kept.history) v (kept.fits id v at)))
+      (front (Fits about kept.states kept.history) v (kept.fits id v at));
   once = λ n.
       let set_is = in_set (one_of n) s.views id v (rest_of v) at in
       let snoc_is = in_snoc (one_of n) (set s.views id (rest_of v)) (first_of v) in
@@ -123,11 +133,11 @@ divides about id v s kept at = record {
       let before = kept.weight in
       omega arith;
   full = each_snoc (AllPaid about views) (set s.views id (rest_of v)) (first_of v)
-      (each_set (AllPaid about views) s.views id (rest_of v) (λ j u other there k m at' noted. still (kept.full j u there k m at' noted)) (paid_behind v (λ k m at' noted. still (kept.full id v at k m at' noted))))
-      (paid_front v (λ k m at' noted. still (kept.full id v at k m at' noted)));
+      (each_set (AllPaid about views) s.views id (rest_of v) (λ j u other there k m at' noted. still (kept.full j u there k m at' noted)) (behind (λ (m : Member). m.none_free ≡ true → IsHalfPaid about views) v (λ k m at' noted. still (kept.full id v at k m at' noted))))
+      (front (λ (m : Member). m.none_free ≡ true → IsHalfPaid about views) v (λ k m at' noted. still (kept.full id v at k m at' noted)));
   known = each_snoc (AllKnow index) (set s.views id (rest_of v)) (first_of v)
-      (each_set (AllKnow index) s.views id (rest_of v) (λ j u other there. kept.known j u there) (known_behind v (kept.known id v at)))
-      (known_front v (kept.known id v at));
+      (each_set (AllKnow index) s.views id (rest_of v) (λ j u other there. kept.known j u there) (behind (KnowsParts index) v (kept.known id v at)))
+      (front (KnowsParts index) v (kept.known id v at));
 }
   where
     views : List (List Member)
@@ -136,15 +146,6 @@ divides about id v s kept at = record {
     index : Index
     index = index_of about s.words kept.states kept.history
 
-    known_behind : (v : List Member) → AllKnow index v → AllKnow index (rest_of v)
-    known_behind [] all k m at = absurd (some-ne-none m (sym at))
-    known_behind (x ∷ xs) all k m at = all (suc k) m at
-
-    known_front : (v : List Member) → AllKnow index v → AllKnow index (first_of v)
-    known_front [] all k m at = absurd (some-ne-none m (sym at))
-    known_front (x ∷ xs) all zero m at = all 0 m at
-    known_front (x ∷ xs) all (suc k) m at = absurd (some-ne-none m (sym at))
-
     still : IsHalfPaid about s.views → IsHalfPaid about views
     still was =
         let set_is = in_set added_of s.views id v (rest_of v) at in
@@ -152,42 +153,9 @@ divides about id v s kept at = record {
         let parts = both_added v in
         omega arith
 
-    paid_behind : (v : List Member) → AllPaid about views v → AllPaid about views (rest_of v)
-    paid_behind [] all k m at = absurd (some-ne-none m (sym at))
-    paid_behind (x ∷ xs) all k m at = all (suc k) m at
-
-    paid_front : (v : List Member) → AllPaid about views v → AllPaid about views (first_of v)
-    paid_front [] all k m at = absurd (some-ne-none m (sym at))
-    paid_front (x ∷ xs) all zero m at = all 0 m at
-    paid_front (x ∷ xs) all (suc k) m at = absurd (some-ne-none m (sym at))
-
-    behind : (v : List Member) → AllFit about kept.states kept.history v → AllFit about kept.states kept.history (rest_of v)
-    behind [] all k m at = absurd (some-ne-none m (sym at))
-    behind (x ∷ xs) all k m at = all (suc k) m at
-
-    front : (v : List Member) → AllFit about kept.states kept.history v → AllFit about kept.states kept.history (first_of v)
-    front [] all k m at = absurd (some-ne-none m (sym at))
-    front (x ∷ xs) all zero m at = all 0 m at
-    front (x ∷ xs) all (suc k) m at = absurd (some-ne-none m (sym at))
-
     both_of : (n : ℕ) (v : List Member) → times_in n (rest_of v) + times_in n (first_of v) ≡ times_in n v
     both_of n [] = omega arith
     both_of n (x ∷ xs) = omega arith
-
-all_append : (about : About) (states : List PartyState) (h : List Write) (v w : List Member) → AllFit about states h v → AllFit about states h w → AllFit about states h (v ++ w)
-all_append about states h [] w left right k m at = right k m at
-all_append about states h (x ∷ xs) w left right zero m at = left 0 m at
-all_append about states h (x ∷ xs) w left right (suc k) m at = all_append about states h xs w (λ j. left (suc j)) right k m at
-
-paid_append : (about : About) (views : List (List Member)) (v w : List Member) → AllPaid about views v → AllPaid about views w → AllPaid about views (v ++ w)
-paid_append about views [] w left right k m at = right k m at
-paid_append about views (x ∷ xs) w left right zero m at = left 0 m at
-paid_append about views (x ∷ xs) w left right (suc k) m at = paid_append about views xs w (λ j. left (suc j)) right k m at
-
-known_append : (s : Index) (v w : List Member) → AllKnow s v → AllKnow s w → AllKnow s (v ++ w)
-known_append s [] w left right k m at = right k m at
-known_append s (x ∷ xs) w left right zero m at = left 0 m at
-known_append s (x ∷ xs) w left right (suc k) m at = known_append s xs w (λ j. left (suc j)) right k m at
 
 -- two views are made one
 pub meets : (about : About) (id : ℕ) (v : List Member) (other : ℕ) (w : List Member) → Joins (Kept about) id v other w (v ++ w) []
@@ -198,7 +166,7 @@ meets about id v other w s kept at apart there =
       history = kept.history;
       index = kept.index;
       fits = each_set (AllFit about kept.states kept.history) (set s.views id (v ++ w)) other []
-          (λ j u away at'. each_set (AllFit about kept.states kept.history) s.views id (v ++ w) (λ i d off at''. kept.fits i d at'') (all_append about kept.states kept.history v w (kept.fits id v at) (kept.fits other w found)) j u at')
+          (λ j u away at'. each_set (AllFit about kept.states kept.history) s.views id (v ++ w) (λ i d off at''. kept.fits i d at'') (each_append (Fits about kept.states kept.history) v w (kept.fits id v at) (kept.fits other w found)) j u at')
           (λ k m at'. absurd (some-ne-none m (sym at')));
       once = λ n.
           let one = in_set (one_of n) s.views id v (v ++ w) at in
@@ -221,12 +189,12 @@ meets about id v other w s kept at apart there =
           omega arith) in
           each_set (AllPaid about views) (set s.views id (v ++ w)) other []
           (λ j u away at'. each_set (AllPaid about views) s.views id (v ++ w) (λ i d off at'' k m here noted. still (kept.full i d at'' k m here noted))
-          (paid_append about views v w (λ k m here noted. still (kept.full id v at k m here noted)) (λ k m here noted. still (kept.full other w found k m here noted))) j u at')
+          (each_append (λ (m : Member). m.none_free ≡ true → IsHalfPaid about views) v w (λ k m here noted. still (kept.full id v at k m here noted)) (λ k m here noted. still (kept.full other w found k m here noted))) j u at')
           (λ k m at'. absurd (some-ne-none m (sym at')));
       known =
           let index = index_of about s.words kept.states kept.history in
           each_set (AllKnow index) (set s.views id (v ++ w)) other []
-          (λ j u away at'. each_set (AllKnow index) s.views id (v ++ w) (λ i d off at''. kept.known i d at'') (known_append index v w (kept.known id v at) (kept.known other w found)) j u at')
+          (λ j u away at'. each_set (AllKnow index) s.views id (v ++ w) (λ i d off at''. kept.known i d at'') (each_append (KnowsParts index) v w (kept.known id v at) (kept.known other w found)) j u at')
           (λ k m at'. absurd (some-ne-none m (sym at')));
     }
 

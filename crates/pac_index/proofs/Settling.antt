@@ -19,6 +19,7 @@ use Rattle.index_law.proofs.Rows.{facts-elsewhere}
 use Rattle.index_law.proofs.Twins.{nearer, store_closer}
 use Rattle.index_core.specs.Indexes.{Index, IsIndex, footed, world}
 use Rattle.index_law.proofs.Footed.{stamp_footed}
+use Rattle.index_core.proofs.Crashing.{words_keep}
 use Rattle.index_core.proofs.Layering.{stamp_layered}
 use Rattle.index_core.proofs.Permuting.{row_by_facts, words_permuted}
 use Rattle.index_core.specs.Lone.{IsQuiet}
@@ -44,23 +45,10 @@ keeps_index l words n here large s quiet is =
     (at-set_other l words (Volatile n stamp_offset) Clock 1 has tt (λ e. cc))
     (λ v there none. at-set_other l words (Volatile n stamp_offset) (Cached v) 1 has there (λ e. cc)) in
     let footed = stamp_footed (footed (with_words s l words)) n (is.whole, is.tended) here lawful in
-    let permuted = words_permuted (with_words s l words) (stamped l words n) (is.permuted, is.relying) lawful
+    words_keep (with_words s l words) (stamped l words n) is lawful footed (stamp_layered (with_words s l words) n 1 is.layered quiet.turns here (λ none. omega (arith, large, none)) (λ none. omega arith) footed)
+    (words_permuted (with_words s l words) (stamped l words n) (is.permuted, is.relying) lawful
     (row_by_facts l words (stamped l words n) (map_of s.base) s.history (ap (λ (f : Facts). f.version) same) (ap (λ (f : Facts). f.now) same) (ap (λ (f : Facts). f.list) same)
-    (λ m low. left_stored l words (Volatile n stamp_offset) 1 m has (λ o least e. let no : o ≡ stamp_offset = ap offset_at e in omega arith))) in
-    record {
-      lawful = lawful;
-      whole = footed.0;
-      tended = footed.1;
-      layered = stamp_layered (with_words s l words) n 1 is.layered quiet.turns here (λ none. omega (arith, large, none)) (λ none. omega arith) footed;
-      parties = is.parties;
-      states = is.states;
-      ordered = is.ordered;
-      bounded = is.bounded;
-      named = is.named;
-      rechecks = is.rechecks;
-      permuted = permuted.0;
-      relying = permuted.1;
-    }
+    (λ m low. left_stored l words (Volatile n stamp_offset) 1 m has (λ o least e. let no : o ≡ stamp_offset = ap offset_at e in omega arith))))
 
 keeps_weight : (l : Layout) (words : List ℕ) (n : ℕ) → n < l.nodes → (s : Index) → weight_of (with_words s l (stamped l words n)) ≡ weight_of (with_words s l words)
 keeps_weight l words n here s =

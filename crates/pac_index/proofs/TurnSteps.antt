@@ -21,7 +21,6 @@ use Rattle.index_core.specs.declared.party.PartyState.{PartyState}
 use Rattle.index_core.specs.PartyStates.{state_turned, turn_after, IsTurnOf}
 use Rattle.index_core.specs.Indexes.{Index, IsIndex, world}
 use Rattle.index_core.specs.Turns.{turn_begun, turned_index, with_terms, FindsNoneFree}
-use Rattle.index_core.proofs.Lists.{some_same}
 use Rattle.index_core.proofs.Rechecks.{turns_keep_known}
 use Rattle.index_core.proofs.Turning.{parties_same, turns_keep, turn_begins, terms_may_be_set}
 use Rattle.atomic_table.specs.Table.{State, Me}
@@ -30,7 +29,7 @@ use Rattle.pac_index.specs.declared.rule.AnsweredPart.{AnsweredPart}
 use Rattle.pac_index.specs.declared.rule.Member.{Member}
 use Rattle.pac_index.specs.Kept.{index_of, Fits, IsPartKnown, Kept, May, known_part, party, IsLone}
 use Rattle.pac_index.specs.Turns.{turn_in, turning, turning_at, work_in, TurnReady, noted_by, TurnGoes, TellsTurn, StartsTurn, StartsWork}
-use Rattle.pac_index.proofs.Allowed.{Leaves, may, leaves_first, moved, stayed, place_inside}
+use Rattle.pac_index.proofs.Allowed.{Leaves, may, may_go_on, leaves_first, moved, stayed, place_inside}
 use Rattle.pac_index.proofs.Lists.{begins_self}
 
 -- A turn in flight of an index is sound, and its next action is on a word of the row.
@@ -99,12 +98,7 @@ module _ (about : About) (id : ℕ) (v : Member) (making : MakeTurn) (f : ℕ �
 pub turn_allows : (about : About) (words slots id : ℕ) (me : Me (Unit {0}) (List Member)) (making : MakeTurn) → IsLone me → (party me).state.turn ≡ Some making → action_address about.layout (making_asks making) < words
     → May about words slots id me (making_asks making) TellsTurn
 turn_allows about words slots id me making lone is within =
-    may about words slots id me (making_asks making) (TurnGoes making (party me)) TellsTurn lone within
-    (λ found after alone goes making' is'. (
-      alone,
-      subst (λ (m : MakeTurn). TurnGoes m (party me) (given (making_asks m) found) (party after)) (some_same (sym is ∙ is')) goes,
-    ))
-    (λ f same. done about id (party me) making f is same)
+    may_go_on making_asks (λ (v : Member). v.state.turn) TurnGoes about words slots id me TellsTurn making lone is within (λ found after told. told) (λ f same. done about id (party me) making f is same)
 
 -- the parties and the views once a party has begun its turn
 begun : (about : About) (id : ℕ) (v : Member) (s : State (Unit {0}) (List Member)) (kept : Kept about s) → get_elem? s.views id ≡ some (v ∷ []) → v.state.turn ≡ None

@@ -7,7 +7,7 @@ use Rattle.pac_index.specs.Callers.{seen_by}
 use Rattle.pac_index.specs.Scanned.{AreScanned}
 use Rattle.pac_index.proofs.Budgeting.{pays_nothing}
 use Rattle.pac_index.proofs.Repeating.{back_trans, none_else}
-use Rattle.pac_index.proofs.Scanning.{Scans, scans_first, scans_more, scans_last, scans_cut, scans_end, part_on, part_read, part_rests, to_come, one_to_come, fewer_to_come}
+use Rattle.pac_index.proofs.Scanning.{Scans, scans_first, scans_more, scans_last, scans_cut, scans_end, part_on, part_read, to_come, one_to_come, fewer_to_come}
 use Rattle.pac_index.proofs.shared.Shared.read_parts.Goals as goal
 
 pub loop-next-init : goal.loop-next-init
@@ -37,12 +37,8 @@ pub loop-next-preserved-then-left-gt0 : goal.loop-next-preserved-then-left-gt0
 loop-next-preserved-then-left-gt0 g c =
     let old = c.args.caller.now in
     let on = c.in_ok-read.ensures in
-    let part = c.in-Some-read.part in
-    let so_far = subst (λ (o : Option _). Scans c.args.from c.args.count (seen_by old) (seen_by c.loop-next.caller) o c.loop-next.left c.loop-next.parts.items) c.in-Some.is c.loop-next.invariant.scans in
-    part_on c.args.self.now c.args.from c.args.count old c.loop-next.caller c.read_part.new.caller c.loop-next.next _ c.loop-next.left _ c.loop-next.parts.items _ c.loop-next.invariant on.stays on.index
-    (part_rests AllocError c.in_ok-read.read part c.loop-next.caller c.read_part.new.caller c.in-Some-read.is on.ends) on.paid on.spare
-    (scans_more c.args.from c.args.count (seen_by old) (seen_by c.loop-next.caller) (seen_by c.read_part.new.caller) c.in-Some.low c.loop-next.left _ c.loop-next.parts.items _ part so_far on.reads (part_read _ c.in_ok-read.read part c.in-Some-read.is on.part)
-    (ap (λ ps. c.loop-next.left - length ps) c.as_slice.ensures) c.if-left-gt0.true c.in_ok-push.ensures.items)
+    part_on AllocError c.args.self.now c.args.from c.args.count old c.loop-next.caller c.read_part.new.caller c.loop-next.next _ c.loop-next.left _ c.loop-next.parts.items _ c.in_ok-read.read c.in-Some-read.part c.in-Some.low c.loop-next.invariant c.in-Some.is c.in-Some-read.is on.stays on.index on.ends on.paid on.spare on.part
+    (scans_more c.args.from c.args.count (seen_by old) (seen_by c.loop-next.caller) (seen_by c.read_part.new.caller) c.in-Some.low c.loop-next.left _ c.loop-next.parts.items _ c.in-Some-read.part on.reads (ap (λ ps. c.loop-next.left - length ps) c.as_slice.ensures) c.if-left-gt0.true c.in_ok-push.ensures.items)
 
 -- no name is left
 pub loop-next-smaller : goal.loop-next-smaller
@@ -55,12 +51,8 @@ pub loop-next-preserved : goal.loop-next-preserved
 loop-next-preserved g c =
     let old = c.args.caller.now in
     let on = c.in_ok-read.ensures in
-    let part = c.in-Some-read.part in
-    let so_far = subst (λ (o : Option _). Scans c.args.from c.args.count (seen_by old) (seen_by c.loop-next.caller) o c.loop-next.left c.loop-next.parts.items) c.in-Some.is c.loop-next.invariant.scans in
-    part_on c.args.self.now c.args.from c.args.count old c.loop-next.caller c.read_part.new.caller c.loop-next.next _ c.loop-next.left _ c.loop-next.parts.items _ c.loop-next.invariant on.stays on.index
-    (part_rests AllocError c.in_ok-read.read part c.loop-next.caller c.read_part.new.caller c.in-Some-read.is on.ends) on.paid on.spare
-    (scans_last c.args.from c.args.count (seen_by old) (seen_by c.loop-next.caller) (seen_by c.read_part.new.caller) c.in-Some.low c.loop-next.left _ c.loop-next.parts.items _ part so_far on.reads (part_read _ c.in_ok-read.read part c.in-Some-read.is on.part)
-    (ap (λ ps. c.loop-next.left - length ps) c.as_slice.ensures) c.if-left-gt0.false c.in_ok-push.ensures.items)
+    part_on AllocError c.args.self.now c.args.from c.args.count old c.loop-next.caller c.read_part.new.caller c.loop-next.next _ c.loop-next.left _ c.loop-next.parts.items _ c.in_ok-read.read c.in-Some-read.part c.in-Some.low c.loop-next.invariant c.in-Some.is c.in-Some-read.is on.stays on.index on.ends on.paid on.spare on.part
+    (scans_last c.args.from c.args.count (seen_by old) (seen_by c.loop-next.caller) (seen_by c.read_part.new.caller) c.in-Some.low c.loop-next.left _ c.loop-next.parts.items _ c.in-Some-read.part on.reads (ap (λ ps. c.loop-next.left - length ps) c.as_slice.ensures) c.if-left-gt0.false c.in_ok-push.ensures.items)
 
 pub returns-in_err-read-clause-reads : goal.returns-in_err-read-clause-reads
 returns-in_err-read-clause-reads g c = back_trans (seen_by c.args.caller.now) (seen_by c.loop-next.caller) (seen_by c.read_part.new.caller) c.loop-next.invariant.scans.reads c.read_part.ensures.reads
