@@ -57,8 +57,8 @@ use Rattle.core_rounds.specs.index_core.specs.Crashes.{cut_change, cut_changes, 
 use Rattle.core_rounds.specs.index_core.specs.Fulls.{HasLowStamps}
 use Rattle.core_rounds.specs.index_core.specs.Indexes.{Index, IsIndex, map_of_index, world}
 use Rattle.core_rounds.specs.index_core.specs.Weights.{put_count}
-use Rattle.core_rounds.specs.index_core.specs.Lone.{FindsNoRoom, HasNoCalls, IsMadeAgain, IsQuiet, IsStill, RunsAlone}
-use Rattle.core_rounds.specs.index_core.specs.Lone.{state_done, locks_left, TakesLocks, most_tries, whole_of}
+use Rattle.core_rounds.specs.index_core.specs.Lone.{FindsNoRoom, HasNoCalls, IsQuiet, IsStill, RunsAlone}
+use Rattle.core_rounds.specs.index_core.specs.Lone.{state_done, whole_of}
 use Rattle.core_rounds.specs.index_core.specs.Withins.{CutsOff, CutsTurnOff, RanAlone, HasWritten, flight_place}
 use Rattle.core_rounds.specs.index_core.specs.Turns.{TurnsAlone}
 use Rattle.core_rounds.specs.updater.specs.declared.terms.Turned.{Turned}
@@ -99,7 +99,7 @@ fewest_few g version (suc n) =
     let few = fewest_few g version n in
     omega (arith, least, few)
 
-pub few_calls : (s : Index) → calls_left_of s ≤ LAST_COUNT
+few_calls : (s : Index) → calls_left_of s ≤ LAST_COUNT
 few_calls s = let few = fewest_few s.generation (facts (world s)).version s.layout.nodes in omega (arith, few)
 
 pub few_writes_left : (s : Index) → writes_left_of s ≤ 2 ^ 62
@@ -139,22 +139,22 @@ calls_shape s index none =
 was_quiet : (s new : Index) (caller : ℕ) (c : CoreCall) (r : Whole) → RunsAlone s caller c new r → HasNoCalls s → IsQuiet new → IsQuiet s
 was_quiet s new caller c r runs none quiet = record {
   calls = none;
-  turns = λ i e at. ⊎_elim
-      (λ (mine : i ≡ caller).
-      let same : runs.state ≡ e = some-injective runs.state e (sym runs.there ∙ ap (get_elem? s.states) (sym mine) ∙ at) in
-      sym (ap (λ (d : PartyState). d.turn) same) ∙ quiet.turns caller done (ap (λ (l : List PartyState). get_elem? l caller) runs.states ∙ set_here s.states caller done runs.state runs.there))
-      (λ (other : i ≢ caller). quiet.turns i e (ap (λ (l : List PartyState). get_elem? l i) runs.states ∙ set_else s.states caller i done other ∙ at))
-      (cases_eq i caller);
-  rechecks = λ i e at. ⊎_elim
-      (λ (mine : i ≡ caller).
-      let same : runs.state ≡ e = some-injective runs.state e (sym runs.there ∙ ap (get_elem? s.states) (sym mine) ∙ at) in
-      sym (ap (λ (d : PartyState). d.recheck) same) ∙ quiet.rechecks caller done (ap (λ (l : List PartyState). get_elem? l caller) runs.states ∙ set_here s.states caller done runs.state runs.there))
-      (λ (other : i ≢ caller). quiet.rechecks i e (ap (λ (l : List PartyState). get_elem? l i) runs.states ∙ set_else s.states caller i done other ∙ at))
-      (cases_eq i caller);
+  turns = kept (λ (d : PartyState). d.turn) refl quiet.turns;
+  rechecks = kept (λ (d : PartyState). d.recheck) refl quiet.rechecks;
 }
   where
     done : PartyState
     done = state_done runs.state (length s.history)
+
+    -- what the answer leaves of each party was nothing before if it is nothing then
+    kept : {A : Type 0} (part : PartyState → Option A) → part done ≡ part runs.state → ((i : ℕ) (e : PartyState) → get_elem? new.states i ≡ some e → part e ≡ None) →
+        (i : ℕ) (e : PartyState) → get_elem? s.states i ≡ some e → part e ≡ None
+    kept part stays nothing i e at = ⊎_elim
+        (λ (mine : i ≡ caller).
+        let same : runs.state ≡ e = some-injective runs.state e (sym runs.there ∙ ap (get_elem? s.states) (sym mine) ∙ at) in
+        sym (ap part same) ∙ sym stays ∙ nothing caller done (ap (λ (l : List PartyState). get_elem? l caller) runs.states ∙ set_here s.states caller done runs.state runs.there))
+        (λ (other : i ≢ caller). nothing i e (ap (λ (l : List PartyState). get_elem? l i) runs.states ∙ set_else s.states caller i done other ∙ at))
+        (cases_eq i caller)
 
 -- ---- while none is cut off
 
@@ -180,6 +180,9 @@ module _ (first : Anchors) (s : Index) (stopped turning placed_so : Bool) (was :
 
   pub calls_are : calls_of old ≡ calls_left_of s
   calls_are = ap (λ (b : Bool). calls_of (record { index = s; stopped = b; turning = turning; placed = placed_so })) going
+
+  pub few_are_left : (seen : Stoppable) → old ≡ seen → calls_of seen ≤ LAST_COUNT
+  few_are_left seen is = subst (λ (m : Stoppable). calls_of m ≤ LAST_COUNT) is (subst (λ n. n ≤ LAST_COUNT) (sym calls_are) (few_calls s))
 
   pub writes_are : writes_of old ≡ writes_left_of s
   writes_are = ap (λ (b : Bool). writes_of (record { index = s; stopped = b; turning = turning; placed = placed_so })) going
@@ -298,20 +301,6 @@ made_is s (call.Turn stamp release) anchors unlimited is = absurd unlimited
 left_is : (slots : ℕ) (state : MapState) (o : Option Change) → anchors_left slots state o ≡ anchors_pended slots state.contents state.anchors o
 left_is slots state None = refl
 left_is slots state (Some change) = refl
-
-tries_few : (c : CoreCall) → most_tries c ≤ 4
-tries_few (call.Put name value limit) = omega arith
-tries_few (call.Del name limit) = omega arith
-tries_few (call.Get name) = omega arith
-tries_few (call.Part low count) = omega arith
-tries_few (call.Recheck node version) = omega arith
-tries_few (call.Turn stamp release) = omega arith
-
-pub calls_fall : (s new : Index) (c : CoreCall) (caller : ℕ) → TakesLocks caller c s new → calls_left_of s ≤ calls_left_of new + 1
-calls_fall s new c caller takes = ⊎_elim
-    (λ (one : locks_left s ≤ locks_left new + 1). omega (arith, one))
-    (λ (more : IsMadeAgain caller c s × (locks_left s ≤ locks_left new + most_tries c)). let few = tries_few c in let less = more.1 in omega (arith, few, less))
-    takes
 
 module _ (first : Anchors) (s : Index) (stopped turning placed_so : Bool) (was : IsStoppable first (record { index = s; stopped = stopped; turning = turning; placed = placed_so })) (going : stopped ≡ false) where
   abbrev then : Stoppable

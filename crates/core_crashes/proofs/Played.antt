@@ -48,6 +48,7 @@ use Rattle.core_rounds.specs.index_core.specs.Rounds.{BeginsRound, round_index}
 use Rattle.core_rounds.specs.index_core.specs.Weights.{weight_of}
 use Rattle.core_rounds.specs.index_core.proofs.MachineLaw.{idle_weigh}
 use Rattle.core_rounds.specs.index_core.proofs.Rounds.{round_is}
+use Rattle.caller_rounds.proofs.Settling.{settled_stay}
 use Rattle.core_rounds.specs.CoreMaps.{IsCoreMap}
 use Rattle.core_rounds.specs.Rounds.{IsLoneCrash}
 use Rattle.core_rounds.specs.Waiting.{puts_among}
@@ -58,7 +59,7 @@ use Rattle.core_crashes.specs.CrashMaps.{state_of, weighs_of}
 use Rattle.core_crashes.specs.Power.{IsBehindCrash}
 use Rattle.core_crashes.specs.Rounds.{IsPlayedLoneCrash}
 use Rattle.core_crashes.specs.Stops.{StopsOn}
-use Rattle.core_crashes.proofs.Settled.{added-settled, answered-settled, calls-settled, names-found, paid-settled}
+use Rattle.core_crashes.proofs.Settled.{answered-settled, calls-settled, names-found}
 use Rattle.core_crashes.proofs.Settled.{told-settled, writes-settled}
 use Rattle.core_crashes.proofs.Turnless.{in_time-of, in_time-settled}
 
@@ -255,23 +256,26 @@ module _ (core mid stopped next : Index) (plan : RoundPlan) (crash : CrashPlan) 
       IsPlayedLoneCrash core plan crash (record { records = told; crashed = true; writes = round.writes; names = names }) next
   crash_played names counted writes-fit names-fit told is =
       let found : map_of next.base ≡ end = sym (ap (after_all (map_of next.base)) behind.opened.history) in
-      let same : puts_added records ≡ added = added-settled end round.records in
+      let stay = settled_stay round.records end in
+      let same : puts_added records ≡ added = stay.added in
       let count : names ≡ len end = counted ∙ (opened_is_map image next behind.opened).counted in
       subst (λ (rs : List Record). IsPlayedLoneCrash core plan crash (record { records = rs; crashed = true; writes = round.writes; names = names }) next)
       (sym (is ∙ ap (λ (m : Map). all_settled m round.records) found))
       (record {
         round = record { legal = legal; crashed = refl; placed = stops.placed ∙ ap length (sym (writes-settled end round.records)); names_are = count };
         answers = lone_crash;
-        paid = subst (λ (n : ℕ). All (FullIsPaid slots nodes (weight_of core + n) (len base + n)) records) (sym same)
-            (paid-settled end slots nodes (weight_of core + added) (len base + added) round.records paid);
         told = record {
           records = told-settled end round.records stops.told;
           by_caller = lone_stand caller plan.ops records lone calls;
           writes = writes-fit;
           names = names-fit;
         };
-        within = subst (λ (n : ℕ). IsShapeWithin slots nodes (weight_of core + n) (len base + n) end (anchors_in (world next))) (sym same) within;
-        weighs = omega (arith, light, same);
+        pays = record {
+          paid = subst (λ (n : ℕ). All (FullIsPaid slots nodes (weight_of core + n) (len base + n)) records) (sym same)
+              (stay.paid slots nodes (weight_of core + added) (len base + added) paid);
+          within = subst (λ (n : ℕ). IsShapeWithin slots nodes (weight_of core + n) (len base + n) end (anchors_in (world next))) (sym same) within;
+          weighs = omega (arith, light, same);
+        };
         in_time = λ of given own gives none named still. in_time-settled end most_events given round.records
             (in_time-of caller of budget given plan.ops crash.budgets most_events round.records lone own h.in_script_order has gives (stops.in_time (turnless plan.ops none) named still));
         in_time_with_turns = λ of given own gives none room named timely.

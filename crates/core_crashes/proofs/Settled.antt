@@ -1,5 +1,5 @@
 -- What the records of a round keep once their marks are settled, and how many names the map has that was found.
-use Rattle.std.proofs.Common.{◌≡◌, ℕ, ◌+◌, ◌≤◌, ⊎_elim, Bool, true, false, not, cond, List, [], ◌∷◌, ◌++◌, length, get_or, map, All, refl, sym, ap, subst, ◌∙◌, arith, append-nil}
+use Rattle.std.proofs.Common.{◌≡◌, ℕ, ◌+◌, ◌≤◌, ⊎_elim, Bool, true, false, not, cond, List, [], ◌∷◌, ◌++◌, length, map, All, refl, sym, ap, subst, ◌∙◌, arith, append-nil}
 use Rattle.std.proofs.lemmas.Bool.{false≢true}
 use Rattle.std.proofs.lemmas.List.Elements.{All-map, filter_map-append, recursion_from_All}
 use Rattle.std.proofs.lemmas.List.Sums.{fold-append}
@@ -27,7 +27,7 @@ use Rattle.cat_history.specs.declared.record.Reply.TheVariants.{Old, Parts, Full
 use Rattle.cat_history.proofs.LoneRoundLemmas.{writes_of-append, writes_of-cons}
 use Rattle.cat_history.proofs.SettleLemmas.{alike, alike_given, write-same}
 use Rattle.cat_text.specs.ReportGrammar.{IsReportRecord}
-use Rattle.shapes.specs.ShapeRounds.{FullIsPaid, one_added, puts_added}
+use Rattle.shapes.specs.ShapeRounds.{one_added, puts_added}
 use Rattle.shapes.specs.Weights.{one_if}
 use Rattle.shapes.proofs.RoundLemmas.{del-names, put-names}
 use Rattle.stopped_rounds.specs.LoneStops.{IsCutNow, IsLoneStop, IsStop}
@@ -72,33 +72,6 @@ module _ (end : Map) where
   pub answered-settled : (records : List Record) → answered_records (all_settled end records) ≡ answered_records records
   answered-settled [] = refl
   answered-settled (r ∷ records) = answered-cons r (answered_records (all_settled end records)) (answered_records records) (is_answered r.reply) refl (answered-settled records)
-
-  one-settled : (op : Op) (reply : Reply) → one_added op (settled_reply end op reply) ≡ one_added op reply
-  one-settled op (Old old place) = refl
-  one-settled op (Parts parts cut) = refl
-  one-settled op Full = refl
-  one-settled op (Spent clock) = refl
-  one-settled (Put name value) (Cut mark) = refl
-  one-settled (Get name) (Cut mark) = refl
-  one-settled (Del name) (Cut mark) = refl
-  one-settled (Scan from count) (Cut mark) = refl
-  one-settled op Unstarted = refl
-
-  pub added-settled : (records : List Record) → puts_added (all_settled end records) ≡ puts_added records
-  added-settled [] = refl
-  added-settled (r ∷ records) = λ k. one-settled r.op r.reply k + added-settled records k
-
-  full-settled : (op : Op) (reply : Reply) → settled_reply end op reply ≡ Full → reply ≡ Full
-  full-settled op (Old old place) is = is
-  full-settled op (Parts parts cut) is = is
-  full-settled op Full is = is
-  full-settled op (Spent clock) is = is
-  full-settled op (Cut mark) is = cc
-  full-settled op Unstarted is = is
-
-  pub paid-settled : (slots nodes weighs names : ℕ) (records : List Record) → All (FullIsPaid slots nodes weighs names) records → All (FullIsPaid slots nodes weighs names) (all_settled end records)
-  paid-settled slots nodes weighs names records paid =
-      All-map (FullIsPaid slots nodes weighs names) (settled end) records (λ k r inside full. paid k r inside (full-settled (get_or records k r).op (get_or records k r).reply full))
 
   pub told-settled : (records : List Record) → All SettlesToReport records → All IsReportRecord (all_settled end records)
   told-settled records told = All-map IsReportRecord (settled end) records (λ k r inside. told k r inside end)

@@ -21,6 +21,15 @@ use Rattle.core_rounds.specs.Waiting.{puts_among}
 use Rattle.core_rounds.specs.CrashWork.{most_events}
 use Rattle.core_crashes.specs.CrashMaps.{MakeNoTurns, most_between}
 
+-- What is paid for behind a round on this core that a crash ended, by the weight and the names before the round and the
+-- puts that added a name, or were cut off: each full answer, and the shape and the weight of the core that was opened.
+pub record IsPaidBehindCrash (core : Index) (report : RoundReport) (next : Index) : Type 0 where
+  pub paid : All (FullIsPaid core.layout.slots core.layout.nodes (weight_of core + puts_added report.records)
+      (len (map_of_index core) + puts_added report.records)) report.records
+  pub within : IsShapeWithin core.layout.slots core.layout.nodes (weight_of core + puts_added report.records)
+      (len (map_of_index core) + puts_added report.records) (map_of_index next) (anchors_in (world next))
+  pub weighs : weight_of next ≤ weight_of core + puts_added report.records
+
 -- A round of one caller was played on the map of this core up to its crash, and reported; and the image was opened that
 -- the crash left. That has the map which is reported found, and a shape that the weight and the names before the round
 -- and the puts that may have added a name pay for.
@@ -29,12 +38,8 @@ pub record IsPlayedLoneCrash (core : Index) (plan : RoundPlan) (crash : CrashPla
   pub round : IsCrashedRound (map_of_index core) plan crash report (writes_of report.records) (map_of_index next)
   pub answers : IsLoneCrash core.layout.slots core.layout.nodes (map_of_index core) (anchors_in (world core)) plan
       report.records
-  pub paid : All (FullIsPaid core.layout.slots core.layout.nodes (weight_of core + puts_added report.records)
-      (len (map_of_index core) + puts_added report.records)) report.records
   pub told : IsReportRound report
-  pub within : IsShapeWithin core.layout.slots core.layout.nodes (weight_of core + puts_added report.records)
-      (len (map_of_index core) + puts_added report.records) (map_of_index next) (anchors_in (world next))
-  pub weighs : weight_of next ≤ weight_of core + puts_added report.records
+  pub pays : IsPaidBehindCrash core report next
   -- where neither the calls nor the updater make turns, each call on a name is answered for which, and for each one
   -- before it, its caller's budget has 70,000 events
   pub in_time : (caller budget : ℕ) → All (λ a. a.caller ≡ caller) plan.ops →

@@ -85,23 +85,28 @@ use Rattle.core_rounds.specs.Waiting.{one_if}
 use Rattle.recovery.specs.Opened.{IsOpenedFrom}
 use Rattle.recovery.proofs.Opened.{with_room}
 
+-- names are counted beside what leaves a map of so many names
+names_counted : (s s' : Index) (m : Map) (count : ℕ → ℕ) (names names' : ℕ) → IsCoreMap s names → {calls writes : ℕ} → StaysQuiet s s' calls writes →
+    map_of_index s' ≡ m → len m ≡ count (len (map_of_index s)) → names' ≡ count names → IsCoreMap s' names'
+names_counted s s' m count names names' was stays after size counts = record {
+  index = stays.index;
+  quiet = stays.quiet;
+  stamps = stays.stamps was.stamps;
+  counted = counts ∙ ap count was.counted ∙ sym (ap len after ∙ size);
+}
+
 -- a put of a name that the map lacks adds one, and of one that it has adds none
 pub put_counted : (s s' : Index) (name : List ℕ) (value names names' : ℕ) (old : Option ℕ) (b : Bool) → IsCoreMap s names → {calls writes : ℕ} → StaysQuiet s s' calls writes →
     old ≡ at (map_of_index s) name → map_of_index s' ≡ insert (map_of_index s) name value → is_some old ≡ b → names' ≡ cond b names (names + 1) → IsCoreMap s' names'
 put_counted s s' name value names names' old b was stays told after is counts =
     let m = map_of_index s in
     let has : is_some (at m name) ≡ b = sym (ap is_some told) ∙ is in
-    record {
-      index = stays.index;
-      quiet = stays.quiet;
-      stamps = stays.stamps was.stamps;
-      counted = counts ∙ ap (λ (n : ℕ). cond b n (n + 1)) was.counted
-          ∙ sym (ap len after ∙ len-insert nat_list_cmp_total m name value ∙ ap (λ (c : Bool). cond c (len m) (len m + 1)) has);
-    }
+    names_counted s s' (insert m name value) (λ (n : ℕ). cond b n (n + 1)) names names' was stays after
+    (len-insert nat_list_cmp_total m name value ∙ ap (λ (c : Bool). cond c (len m) (len m + 1)) has) counts
 
 -- and so many names it has as long as it holds the same
 pub same_counted : (s s' : Index) (names : ℕ) → IsCoreMap s names → {calls writes : ℕ} → StaysQuiet s s' calls writes → HoldsSame (state_of s) (state_of s') → IsCoreMap s' names
-same_counted s s' names was stays same = record { index = stays.index; quiet = stays.quiet; stamps = stays.stamps was.stamps; counted = was.counted ∙ sym (ap len same.contents) }
+same_counted s s' names was stays same = names_counted s s' (map_of_index s) (λ (n : ℕ). n) names names was stays same.contents refl refl
 
 -- a map that has a name has one at least
 some_name : (m : Map) (name : List ℕ) → is_some (at m name) ≡ true → 1 ≤ len m
@@ -123,13 +128,8 @@ pub removal_counted : (s s' : Index) (name : List ℕ) (names names' : ℕ) (old
 removal_counted s s' name names names' old b was stays told after is counts =
     let m = map_of_index s in
     let has : is_some (at m name) ≡ b = sym (ap is_some told) ∙ is in
-    record {
-      index = stays.index;
-      quiet = stays.quiet;
-      stamps = stays.stamps was.stamps;
-      counted = counts ∙ ap (λ (n : ℕ). cond b (n - 1) n) was.counted
-          ∙ sym (ap len after ∙ len-remove nat_list_cmp_total m name ∙ ap (λ (c : Bool). cond c (len m - 1) (len m)) has);
-    }
+    names_counted s s' (remove m name) (λ (n : ℕ). cond b (n - 1) n) names names' was stays after
+    (len-remove nat_list_cmp_total m name ∙ ap (λ (c : Bool). cond c (len m - 1) (len m)) has) counts
 
 -- members have no more names in all than slots
 each_few : (members_are : List Member) (slots : ℕ) → slots ≤ 64 → AllByRecursion (λ (m : Member). length m.names ≤ slots) members_are →

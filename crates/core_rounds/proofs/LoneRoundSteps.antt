@@ -1,5 +1,5 @@
 -- How a round of one caller goes on by one call.
-use Rattle.std.proofs.Common.{◌≡◌, ℕ, ◌+◌, ◌<◌, ◌≤◌, Bool, true, false, cond, List, [], ◌∷◌, ◌++◌, length, get_or, take, map, fold, All, ◌↔◌, refl, sym, ap, subst, ◌∙◌, arith, append-nil, zero-add}
+use Rattle.std.proofs.Common.{◌≡◌, ℕ, ◌+◌, ◌<◌, ◌≤◌, List, [], ◌∷◌, ◌++◌, length, get_or, take, map, fold, All, ◌↔◌, refl, sym, ap, subst, ◌∙◌, arith, append-nil, zero-add}
 use Rattle.std.proofs.lemmas.List.{map-append, take_all, take_more, length-take-le}
 use Rattle.std.proofs.lemmas.List.Elements.{All-push, All-take}
 use Rattle.std.proofs.lemmas.List.Sums.{fold-append}
@@ -16,6 +16,7 @@ use Rattle.shapes.specs.Anchors.{Anchors}
 use Rattle.cat_history.specs.Rounds.{IsWriter}
 use Rattle.cat_history.specs.declared.record.Reply.TheVariants.{Full}
 use Rattle.cat_text.specs.ReportGrammar.{IsReportRecord, IsReportReply}
+use Rattle.stopped_rounds.proofs.Stopping.{recorded}
 use Rattle.core_rounds.specs.LoneCalls.{AreReportCalls, IsReportCall}
 use Rattle.core_rounds.specs.Rounds.{StopsWithin}
 use Rattle.shapes.specs.ShapeRounds.{anchors_end, anchors_after, PutsFull, EndsWithMembers, IsBoundedByShape}
@@ -23,14 +24,6 @@ use Rattle.shapes.specs.Runs.{Standing, stands_after, ComesLate, IsFullInTime}
 use Rattle.shapes.proofs.RoundLemmas.{HoldsInShape-push, anchors_end-push}
 use Rattle.shapes.proofs.RunLemmas.{HoldsFrom-push, late_is}
 use Rattle.cat_history.proofs.LoneRoundLemmas.{writes_of-append, writes_of-cons, HoldsAlong-push, numbered-push}
-
-pub one_at_most : (b : Bool) (n : ℕ) → n ≡ cond b 1 0 → n ≤ 1
-one_at_most true n is = omega (arith, is)
-one_at_most false n is = omega (arith, is)
-
--- the record of a call that was answered so
-abbrev pub recorded : ℕ → CallerOp → Reply → Record
-recorded index call reply = record { caller = call.caller; index = index; op = call.op; reply = reply }
 
 pub writes_of-push : (records : List Record) (r : Record) → writes_of (records ++ r ∷ []) ≡ writes_of records ++ write_of r
 writes_of-push records r = writes_of-append records (r ∷ []) ∙ ap (λ ws. writes_of records ++ ws) (writes_of-cons r [] ∙ append-nil (write_of r))

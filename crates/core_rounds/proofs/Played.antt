@@ -104,33 +104,33 @@ module _ (slots nodes : ℕ) where
   none-left (lone_crash callers crash ended round answers paid next within played) none = absurd (omega (arith, none))
   none-left (crowd_crash several crash ended writes round paid next within played) none = absurd (omega (arith, none))
 
+  -- what the first one comes to is said of the only one
+  only-one : (base end : Map) (p plan : RoundPlan) (r report : RoundReport) (plans : List RoundPlan) (reports : List RoundReport) → p ∷ plans ≡ plan ∷ [] → r ∷ reports ≡ report ∷ [] →
+      IsRoundTo base p r end → IsRoundTo base plan report end
+  only-one base end p plan r report plans reports is told round =
+      let same : p ≡ plan = ap (λ (qs : List RoundPlan). get_or qs 0 p) is in
+      let said : r ≡ report = ap (λ (qs : List RoundReport). get_or qs 0 r) told in
+      subst (λ (q : RoundPlan). IsRoundTo base q report end) same (subst (λ (q : RoundReport). IsRoundTo base p q end) said round)
+
   first-only : {weighs names : ℕ} {base end : Map} {anchors shape : Anchors} {plans : List RoundPlan} {reports : List RoundReport} → ArePlayed slots nodes weighs names base anchors plans reports end shape →
       (plan : RoundPlan) (report : RoundReport) → plan.crash ≡ None → plans ≡ plan ∷ [] → reports ≡ report ∷ [] → IsRoundTo base plan report end
   first-only ends plan report none is told = absurd (let clash = ap length is in omega (arith, clash))
-  first-only (lone {base = base} {end = end} {plan = p} {report = r} {plans = ps} callers joined round paid played) plan report none is told =
+  first-only (lone {base = base} {end = end} {plan = p} {report = r} {plans = ps} {reports = rs} callers joined round paid played) plan report none is told =
       let left = ap length is in
-      let same : p ≡ plan = ap (λ (qs : List RoundPlan). get_or qs 0 p) is in
-      let said : r ≡ report = ap (λ (qs : List RoundReport). get_or qs 0 r) told in
       let last = none-left played (omega (arith, left)) in
-      subst (λ (q : RoundPlan). IsRoundTo base q report end) same
-      (subst (λ (q : RoundReport). IsRoundTo base p q end) said
-      (record {
+      only-one base end p plan r report ps rs is told (record {
         writes = writes_of r.records;
         legal = subst (IsJoinedRound base (numbered p.ops) p.limit r.records (writes_of r.records)) (sym last) round.legal;
         names_are = round.names ∙ ap len (sym last);
-      }))
-  first-only (crowd {base = base} {end = end} {plan = p} {report = r} {plans = ps} several joined writes round next within played) plan report none is told =
+      })
+  first-only (crowd {base = base} {end = end} {plan = p} {report = r} {plans = ps} {reports = rs} several joined writes round next within played) plan report none is told =
       let left = ap length is in
-      let same : p ≡ plan = ap (λ (qs : List RoundPlan). get_or qs 0 p) is in
-      let said : r ≡ report = ap (λ (qs : List RoundReport). get_or qs 0 r) told in
       let last = none-left played (omega (arith, left)) in
-      subst (λ (q : RoundPlan). IsRoundTo base q report end) same
-      (subst (λ (q : RoundReport). IsRoundTo base p q end) said
-      (record {
+      only-one base end p plan r report ps rs is told (record {
         writes = writes;
         legal = subst (IsJoinedRound base (numbered p.ops) p.limit r.records writes) (sym last) round.legal;
         names_are = round.names_are ∙ ap len (sym last);
-      }))
+      })
   first-only (lone_crash {plan = p} callers crash ended round answers paid next within played) plan report none is told =
       absurd (none-some crash (sym none ∙ ap (λ (qs : List RoundPlan). (get_or qs 0 p).crash) (sym is) ∙ ended))
   first-only (crowd_crash {plan = p} several crash ended writes round paid next within played) plan report none is told =

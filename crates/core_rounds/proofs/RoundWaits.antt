@@ -1,5 +1,5 @@
 -- What waits for the updater behind calls and behind rounds.
-use Rattle.std.proofs.Common.{◌≡◌, ℕ, ◌+◌, ◌<◌, List, [], ◌∷◌, ◌++◌, length, take, get_or, sym, ap, ◌∙◌, subst, arith}
+use Rattle.std.proofs.Common.{◌≡◌, ℕ, ◌+◌, ◌<◌, List, [], ◌∷◌, ◌++◌, length, take, get_or, sum_by, sym, ap, ◌∙◌, subst, arith}
 use Rattle.std.proofs.lemmas.List.Sums.{sum_by_more}
 use Rattle.cat_history.specs.Maps.{Map}
 use Rattle.cat_history.specs.Writes.{after_all}
@@ -51,25 +51,28 @@ waits-more first was now writes_so puts_so more_writes more_puts writes_then put
     let sum : (c + so) + change ≡ c + total = omega (arith, total_is) in
     subst (λ (n : ℕ). now n w p) sum (step (c + so) w p (before c (w + more_writes) (p + more_puts) given))
 
+-- one item more of a list, of calls or of rounds
+waits-item : {A : Type 0} (writes puts : A → ℕ) (first was now : ℕ → ℕ → ℕ → Type 0) (items : List A) (index : ℕ) (item : A) (so change total : ℕ) →
+    ((c w p : ℕ) → first c (w + sum_by writes (take index items)) (p + sum_by puts (take index items)) → was (c + so) w p) →
+    ((c w p : ℕ) → was c (w + writes item) (p + puts item) → now (c + change) w p) → index < length items → item ≡ get_or items index item → total ≡ so + change →
+    (c w p : ℕ) → first c (w + sum_by writes (take (index + 1) items)) (p + sum_by puts (take (index + 1) items)) → now (c + total) w p
+waits-item {A = A} writes puts first was now items index item so change total before step within is =
+    waits-more first was now (sum_by writes (take index items)) (sum_by puts (take index items)) (writes item) (puts item) (sum_by writes (take (index + 1) items))
+    (sum_by puts (take (index + 1) items)) so change total before step
+    (sum_by_more writes items index item within ∙ ap (λ (a : A). sum_by writes (take index items) + writes a) (sym is))
+    (sum_by_more puts items index item within ∙ ap (λ (a : A). sum_by puts (take index items) + puts a) (sym is))
+
 pub waits-call : (first was now : ℕ → ℕ → ℕ → Type 0) (asked : List CallerOp) (index : ℕ) (call : CallerOp) (so change total : ℕ) →
     ((c w p : ℕ) → first c (w + writes_among (take index asked)) (p + puts_among (take index asked)) → was (c + so) w p) →
     ((c w p : ℕ) → was c (w + one_write call.op) (p + one_put call.op) → now (c + change) w p) → index < length asked → call ≡ get_or asked index call → total ≡ so + change →
     (c w p : ℕ) → first c (w + writes_among (take (index + 1) asked)) (p + puts_among (take (index + 1) asked)) → now (c + total) w p
-waits-call first was now asked index call so change total before step within is =
-    waits-more first was now (writes_among (take index asked)) (puts_among (take index asked)) (one_write call.op) (one_put call.op) (writes_among (take (index + 1) asked))
-    (puts_among (take (index + 1) asked)) so change total before step
-    (sum_by_more (λ (a : CallerOp). one_write a.op) asked index call within ∙ ap (λ (a : CallerOp). writes_among (take index asked) + one_write a.op) (sym is))
-    (sum_by_more (λ (a : CallerOp). one_put a.op) asked index call within ∙ ap (λ (a : CallerOp). puts_among (take index asked) + one_put a.op) (sym is))
+waits-call first was now asked = waits-item (λ (a : CallerOp). one_write a.op) (λ (a : CallerOp). one_put a.op) first was now asked
 
 pub waits-round : (first was now : ℕ → ℕ → ℕ → Type 0) (plans : List RoundPlan) (index : ℕ) (plan : RoundPlan) (so change total : ℕ) →
     ((c w p : ℕ) → first c (w + writes_asked (take index plans)) (p + puts_asked (take index plans)) → was (c + so) w p) →
     ((c w p : ℕ) → was c (w + writes_among plan.ops) (p + puts_among plan.ops) → now (c + change) w p) → index < length plans → plan ≡ get_or plans index plan → total ≡ so + change →
     (c w p : ℕ) → first c (w + writes_asked (take (index + 1) plans)) (p + puts_asked (take (index + 1) plans)) → now (c + total) w p
-waits-round first was now plans index plan so change total before step within is =
-    waits-more first was now (writes_asked (take index plans)) (puts_asked (take index plans)) (writes_among plan.ops) (puts_among plan.ops) (writes_asked (take (index + 1) plans))
-    (puts_asked (take (index + 1) plans)) so change total before step
-    (sum_by_more (λ (q : RoundPlan). writes_among q.ops) plans index plan within ∙ ap (λ (q : RoundPlan). writes_asked (take index plans) + writes_among q.ops) (sym is))
-    (sum_by_more (λ (q : RoundPlan). puts_among q.ops) plans index plan within ∙ ap (λ (q : RoundPlan). puts_asked (take index plans) + puts_among q.ops) (sym is))
+waits-round first was now plans = waits-item (λ (q : RoundPlan). writes_among q.ops) (λ (q : RoundPlan). puts_among q.ops) first was now plans
 
 -- nothing is asked yet
 pub waits-first : (P : ℕ → ℕ → ℕ → Type 0) (c w p : ℕ) → P c (w + 0) (p + 0) → P (c + 0) w p

@@ -1,45 +1,17 @@
 -- How a scan goes on by one part.
-use Rattle.std.proofs.Common.{◌≡◌, ℕ, ◌+◌, ◌-◌, ◌<◌, ◌≤◌, true, false, Option, Some, None, List, [], ◌∷◌, ◌++◌, length, take, refl, sym, ap, subst, ◌∙◌, arith, All}
+use Rattle.std.proofs.Common.{◌≡◌, ℕ, ◌+◌, ◌-◌, ◌<◌, ◌≤◌, false, Option, Some, None, List, [], ◌∷◌, ◌++◌, length, sym, ap, subst, ◌∙◌, arith, All}
 use Rattle.std.proofs.lemmas.List.Elements.{All-push}
-use Rattle.std.specs.Prelude.{IfSome}
-use Rattle.cat_key.specs.declared.Pair.{Pair}
 use Rattle.cat_history.specs.Maps.{Map}
-use Rattle.cat_history.specs.Scans.{is_below, range, IsPart, GoesOn}
+use Rattle.cat_history.specs.Scans.{IsPart, GoesOn}
 use Rattle.cat_history.proofs.ScanLemmas.{part_follows, parts_later}
 use Rattle.cat_history.specs.declared.record.ScanPart.{ScanPart}
 use Rattle.cat_text.specs.ReportGrammar.{IsReportPart}
 use Rattle.shapes.specs.Anchors.{Anchors, past, next_of}
-use Rattle.shapes.specs.Weights.{IsShape}
-use Rattle.shapes.proofs.ScansByShape.{next-above, past-shorter, past-within}
+use Rattle.stopped_rounds.proofs.ScanStops.{to_come, fewer-to-come}
 use Rattle.core_rounds.specs.Updated.{HoldsSame, KeepsBounds, UpdatedState, UsesUp, WaitOn}
 use Rattle.core_rounds.proofs.Using.{bounds-first, bounds-then, same-first, same-then}
 
--- ---- its parts
-
--- a part of the shape at this place
-pub part-is : (m : Map) (anchors : Anchors) (low : List ℕ) (left place : ℕ) (high : Option (List ℕ)) (pairs : List Pair) → high ≡ next_of anchors low → pairs ≡ take left (range m low high) →
-    IsPart (λ _. m) low left place (record { low = low; high = high; place = place; pairs = pairs })
-part-is m anchors low left place high pairs bound lists = record { begins = refl; bounds = bounded high bound; later = omega arith; lists = lists }
-  where
-    bounded : (o : Option (List ℕ)) → o ≡ next_of anchors low → IfSome o (λ high. is_below low high ≡ true)
-    bounded None is = tt
-    bounded (Some high) is = next-above anchors low high (sym is)
-
--- ---- how many
-
--- so many parts are to come at most
-abbrev pub to_come : Anchors → Option (List ℕ) → ℕ
-to_come anchors None = 0
-to_come anchors (Some low) = length (past anchors low) + 1
-
-pub fewer-to-come : (anchors : Anchors) (low : List ℕ) (next : Option (List ℕ)) → next ≡ next_of anchors low → to_come anchors next + 1 ≤ to_come anchors (Some low)
-fewer-to-come anchors low None is = omega arith
-fewer-to-come anchors low (Some high) is = let less = past-shorter anchors low high (sym is) in omega arith
-
--- there are no more of them than members
-pub parts-fit : (slots most : ℕ) (m : Map) (anchors : Anchors) (from : List ℕ) → IsShape slots most m anchors → length (past anchors from) + 1 ≤ most
-parts-fit slots most m anchors from shape = let few = past-within anchors from shape.ordered in omega (arith, few, shape.few)
-
+-- the last part is one that was to come
 pub one-to-come : (anchors : Anchors) (low : List ℕ) → 0 + 1 ≤ to_come anchors (Some low)
 one-to-come anchors low = omega arith
 

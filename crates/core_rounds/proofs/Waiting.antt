@@ -1,5 +1,5 @@
 -- What calls on an index leave to the updater.
-use Rattle.std.proofs.Common.{◌≡◌, ℕ, zero, suc, ◌+◌, ◌*◌, ◌<◌, ◌≤◌, ◌==◌, ◌⊎◌, ⊎_elim, inl, inr, Bool, false, cond}
+use Rattle.std.proofs.Common.{◌≡◌, ℕ, ◌+◌, ◌*◌, ◌<◌, ◌≤◌, ◌==◌, ◌⊎◌, ⊎_elim, inl, inr, false}
 use Rattle.std.proofs.Common.{List, length, refl, sym, ap, ◌∙◌, subst, arith}
 use Rattle.std.proofs.lemmas.Bool.{cases_eq}
 use Rattle.pm_words.specs.Codes.{empty_state, ready_state}
@@ -12,9 +12,8 @@ use Rattle.recovery.specs.lone_call_law.specs.Merging.{NextIsWorn}
 use Rattle.index_law.specs.Worlds.{World}
 use Rattle.recovery.specs.lone_updater_law.specs.CallLogs.{KeepsLines, MakesReady, empty_lines, is_own_empty}
 use Rattle.recovery.specs.lone_updater_law.specs.LoneTurns.{line_state}
-use Rattle.recovery.specs.lone_updater_law.proofs.ReadyCounts.{empty_are_counted, ready_are_counted}
+use Rattle.recovery.specs.lone_updater_law.proofs.ReadyCounts.{count_same, empty_are_counted, ready_are_counted}
 use Rattle.updater_law.proofs.Columns.{other}
-use Rattle.recovery.specs.updater.specs.Events.{how_many}
 use Rattle.recovery.specs.index_core.specs.CoreCalls.{most_writes}
 use Rattle.recovery.specs.index_core.specs.Indexes.{Index, IsIndex, map_of_index, world}
 use Rattle.recovery.specs.index_core.specs.Lone.{HasNoCalls, HasSameList, LeavesList, MergesFor, MergesNothing}
@@ -91,13 +90,6 @@ merge_is_other s new (call.Recheck node version) same merge = merge
 merge_is_other s new (call.Turn stamp release) same merge = merge
 
 -- a caller whose line is made READY has one EMPTY line fewer, and any other as many as it had
-count_same : (test then : ℕ → Bool) (n : ℕ) → ((k : ℕ) → k < n → then k ≡ test k) → how_many then n ≡ how_many test n
-count_same test then zero same = refl
-count_same test then (suc n) same =
-    let before : how_many then n ≡ how_many test n = count_same test then n (λ k small. same k (omega arith)) in
-    let last : then n ≡ test n = same n (omega arith) in
-    λ k. cond (last k) (before k + 1) (before k)
-
 one-fewer : (caller of : ℕ) (w0 w : World) → MakesReady caller w0 w → empty_lines of w0 ≤ empty_lines of w + 1
 one-fewer caller of w0 w made = elim (cases_eq of caller) [
   | inl own ↦

@@ -119,8 +119,6 @@ module _ (core mid next : Index) (plan : RoundPlan) (crash : CrashPlan) (image :
   crash-played writes-fit names-fit = record {
     writes = run.history;
     round = subst (λ (m : Map). IsCrashedRound m plan crash report run.history (map_of_index next)) (base-is core mid begins) round;
-    paid = subst (λ (q : Layout × ℕ × Map). All (FullIsPaid (q.0).slots (q.0).nodes (q.1 + puts_added settled-records) (len q.2 + puts_added settled-records)) settled-records)
-        (λ k. (same-layout core mid begins k, begins.weighs k, base-is core mid begins k)) paid;
     told = record {
       records = records_are_told (map_of mid.base) plan.ops plan.limit settled-records run.history legal.legal told
           (All-from_recursion (λ (r : Record). IsReportReply r.op r.reply) settled-records (settled-told found records (recursion_from_All IsToldOnceSettled records run.replies)));
@@ -128,9 +126,13 @@ module _ (core mid next : Index) (plan : RoundPlan) (crash : CrashPlan) (image :
       writes = writes-fit;
       names = names-fit;
     };
-    within = subst (λ (q : Layout × ℕ × Map). IsShapeWithin (q.0).slots (q.0).nodes (q.1 + puts_added settled-records) (len q.2 + puts_added settled-records) (map_of_index next) (anchors_in (world next)))
-        (λ k. (same-layout core mid begins k, begins.weighs k, base-is core mid begins k)) within;
-    weighs = let most = light in let weight = begins.weighs in omega arith;
+    pays = record {
+      paid = subst (λ (q : Layout × ℕ × Map). All (FullIsPaid (q.0).slots (q.0).nodes (q.1 + puts_added settled-records) (len q.2 + puts_added settled-records)) settled-records)
+          (λ k. (same-layout core mid begins k, begins.weighs k, base-is core mid begins k)) paid;
+      within = subst (λ (q : Layout × ℕ × Map). IsShapeWithin (q.0).slots (q.0).nodes (q.1 + puts_added settled-records) (len q.2 + puts_added settled-records) (map_of_index next) (anchors_in (world next)))
+          (λ k. (same-layout core mid begins k, begins.weighs k, base-is core mid begins k)) within;
+      weighs = let most = light in let weight = begins.weighs in omega arith;
+    };
     layout = opened.layout ∙ run.layout ∙ same-layout core mid begins;
     generation = opened.generation ∙ ap suc (run.generation ∙ same-generation core mid begins);
     image = image;

@@ -54,10 +54,10 @@ joined-restart core next plan report several joined round =
 crashed-restart : (core next : Index) (plan : RoundPlan) (crash : CrashPlan) (report : RoundReport) → is_crowd plan.ops ≡ true → plan.crash ≡ Some crash → IsPlayedCrowdCrash core plan crash report next →
     IsPlayedRestart core plan report next
 crashed-restart core next plan crash report several ended round = record {
-  played = crowd_crash ((crowd_or_lone plan.ops).0 several) crash ended round.writes round.round round.paid (anchors_in (world next)) round.within ends;
+  played = crowd_crash ((crowd_or_lone plan.ops).0 several) crash ended round.writes round.round round.pays.paid (anchors_in (world next)) round.pays.within ends;
   told = round.told;
-  weighs = round.weighs;
-  names = round.within.few;
+  weighs = round.pays.weighs;
+  names = round.pays.within.few;
   layout = round.layout;
   generation = round.generation;
   works = crowd-works core plan report several;
@@ -74,10 +74,10 @@ crowd-restart core next plan report (Some crash) is several round = crashed-rest
 pub crash-restart : (core next : Index) (plan : RoundPlan) (crash : CrashPlan) (report : RoundReport) → AreLoneCalls plan.ops → plan.crash ≡ Some crash → IsPlayedLoneCrash core plan crash report next →
     IsPlayedRestart core plan report next
 crash-restart core next plan crash report lone ended round = record {
-  played = lone_crash lone crash ended round.round round.answers round.paid (anchors_in (world next)) round.within ends;
+  played = lone_crash lone crash ended round.round round.answers round.pays.paid (anchors_in (world next)) round.pays.within ends;
   told = round.told;
-  weighs = round.weighs;
-  names = round.within.few;
+  weighs = round.pays.weighs;
+  names = round.pays.within.few;
   layout = round.layout;
   generation = round.generation;
   works = crash-works core next plan crash report ended round;

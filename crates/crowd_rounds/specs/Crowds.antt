@@ -1,5 +1,5 @@
 -- A round of several callers, and the core that an image opens as behind it.
-use Rattle.std.specs.Prelude.{◌≡◌, ℕ, suc, ◌+◌, ◌<◌, ◌≤◌, ◌^◌, true, false, List, All, Option, Some, None, length}
+use Rattle.std.specs.Prelude.{◌≡◌, ℕ, suc, ◌+◌, ◌<◌, ◌≤◌, ◌^◌, true, false, List, Option, Some, None, length}
 use Rattle.std.specs.FinMap.{len}
 use Rattle.cat_history.specs.CrashRounds.{all_settled}
 use Rattle.cat_history.specs.Maps.{map_of}
@@ -11,7 +11,7 @@ use Rattle.cat_history.specs.declared.record.Record.{Record}
 use Rattle.cat_text.specs.ReportGrammar.{IsReportRound}
 use Rattle.cat_text.specs.declared.report.RoundReport.{RoundReport}
 use Rattle.pm_words.specs.Images.{Row}
-use Rattle.shapes.specs.ShapeRounds.{puts_added, FullIsPaid, IsShapeWithin}
+use Rattle.shapes.specs.ShapeRounds.{puts_added, IsShapeWithin}
 use Rattle.index_law.specs.Anchors.{anchors_in}
 use Rattle.thread_rounds.specs.index_core.specs.CrashLaws.{chosen_index, crash_image}
 use Rattle.thread_rounds.specs.index_core.specs.Indexes.{Index, IsIndex, map_of_index, world}
@@ -19,6 +19,7 @@ use Rattle.thread_rounds.specs.index_core.specs.Weights.{weight_of}
 use Rattle.core_crashes.specs.recovery.specs.Opened.{IsOpenedFrom}
 use Rattle.core_crashes.specs.recovery.specs.Cores.{IsReopened}
 use Rattle.core_crashes.specs.core_rounds.specs.Rounds.{IsCrashedRound, IsCrowdRound}
+use Rattle.core_crashes.specs.Rounds.{IsPaidBehindCrash}
 
 -- A round of several callers was played on the map of this core, with these writes, and reported; and the image was
 -- opened again in which they met. That has the map which the writes leave, and a shape that the weight and the names
@@ -45,12 +46,8 @@ pub record IsPlayedCrowdCrash (core : Index) (plan : RoundPlan) (crash : CrashPl
     (next : Index) : Type 0 where
   pub writes : List Write
   pub round : IsCrashedRound (map_of_index core) plan crash report writes (map_of_index next)
-  pub paid : All (FullIsPaid core.layout.slots core.layout.nodes (weight_of core + puts_added report.records)
-      (len (map_of_index core) + puts_added report.records)) report.records
   pub told : IsReportRound report
-  pub within : IsShapeWithin core.layout.slots core.layout.nodes (weight_of core + puts_added report.records)
-      (len (map_of_index core) + puts_added report.records) (map_of_index next) (anchors_in (world next))
-  pub weighs : weight_of next ≤ weight_of core + puts_added report.records
+  pub pays : IsPaidBehindCrash core report next
   pub layout : next.layout ≡ core.layout
   pub generation : next.generation ≡ suc core.generation
   pub image : Row

@@ -1,4 +1,4 @@
-use Rattle.std.proofs.Common.{◌≡◌, ℕ, zero, suc, ◌+◌, ◌*◌, ◌/◌, ◌%◌, ◌<◌, ◌==◌, Bool, cond, inl, inr, ⊎_elim, refl}
+use Rattle.std.proofs.Common.{◌≡◌, ℕ, ◌+◌, ◌*◌, ◌/◌, ◌%◌, ◌<◌, ◌==◌, inl, inr, ⊎_elim, refl}
 use Rattle.std.proofs.Common.{sym, ap, ◌∙◌, subst, arith}
 use Rattle.std.proofs.lemmas.Result.{IfOk-weaker}
 use Rattle.pm_words.specs.Codes.{empty_state, ready_state}
@@ -10,7 +10,7 @@ use Rattle.pm_words.proofs.Made.{cached_row-at}
 use Rattle.recovery.specs.updater_row_law.specs.Columns.{line_count, line_word}
 use Rattle.recovery.specs.updater_row_law.proofs.RowColumns.{column-here}
 use Rattle.recovery.specs.lone_updater_law.specs.LoneTurns.{is_ready, line_state}
-use Rattle.recovery.specs.updater.specs.Events.{how_many}
+use Rattle.recovery.specs.lone_updater_law.proofs.ReadyCounts.{count_same}
 use Rattle.recovery.specs.index_image_law.specs.Rest.{IsRestImage, cached_image}
 use Rattle.recovery.specs.index_core.specs.Indexes.{Index, IsIndex, world}
 use Rattle.recovery.specs.index_core.specs.Lone.{IsQuiet}
@@ -33,13 +33,6 @@ image_line_is s k small =
     let same : 8 * (k / 8) + k % 8 ≡ k = omega arith in
     cached_row-at s.layout s.words (Line (k / 8) (k % 8) state_offset) (omega arith, omega arith, omega arith) ∙ line_is s (k / 8) (k % 8) (omega arith) (omega arith)
     ∙ ap (line_state (world s)) same
-
-count_same : (test then : ℕ → Bool) (n : ℕ) → ((k : ℕ) → k < n → then k ≡ test k) → how_many then n ≡ how_many test n
-count_same test then zero same = refl
-count_same test then (suc n) same =
-    let before : how_many then n ≡ how_many test n = count_same test then n (λ k small. same k (omega arith)) in
-    let last : then n ≡ test n = same n (omega arith) in
-    λ k. cond (last k) (before k + 1) (before k)
 
 -- the image of an index with nothing in flight keeps it
 keeps : (s : Index) (image : Row) → image ≡ record { layout = s.layout; words = cached_image (world s) } → IsIndex s → IsQuiet s → IsRestImage (world s) → IsImageOf s image

@@ -1,5 +1,5 @@
 use Rattle.std.proofs.Common.{arith}
-use Rattle.core_rounds.proofs.ScanSteps.{parts-fit}
+use Rattle.stopped_rounds.proofs.ScanStops.{parts-fit}
 use Rattle.core_rounds.proofs.Using.{uses-more}
 use Rattle.core_rounds.proofs.round.answer_in_time.Goals as goal
 

@@ -1,7 +1,7 @@
 use Rattle.std.proofs.Common.{rules, sym, subst}
 use Rattle.cat_history.specs.Scans.{Rise}
 use Rattle.cat_history.proofs.ScanLemmas.{range_rises}
-use Rattle.core_rounds.proofs.ScanSteps.{part-is}
+use Rattle.stopped_rounds.proofs.ScanStops.{part-is}
 use Rattle.core_rounds.proofs.round.read_part.Goals as goal
 
 pub returns-clause-part : goal.returns-clause-part

@@ -13,7 +13,8 @@ use Rattle.cat_text.proofs.LoneReports.{lone_stand}
 use Rattle.shapes.specs.Runs.{Standing, opening}
 use Rattle.shapes.specs.ShapeRounds.{PutsFull, anchors_after}
 use Rattle.caller_rounds.proofs.Rooms.{added-append}
-use Rattle.core_rounds.proofs.LoneRoundSteps.{one_at_most, recorded, writes_of-push, calls-push, calls-whole, along-push, ends-push, full-push, stands-push, anchors-push, bounds-push, told-push, none-so-far}
+use Rattle.stopped_rounds.proofs.Stopping.{one_at_most, recorded}
+use Rattle.core_rounds.proofs.LoneRoundSteps.{writes_of-push, calls-push, calls-whole, along-push, ends-push, full-push, stands-push, anchors-push, bounds-push, told-push, none-so-far}
 use Rattle.std.proofs.lemmas.List.{take_all}
 use Rattle.core_rounds.specs.Updated.{change_by, changes_by}
 use Rattle.core_rounds.specs.Waiting.{one_change, puts_among, writes_among}

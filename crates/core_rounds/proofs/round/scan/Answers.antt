@@ -1,6 +1,7 @@
 use Rattle.std.proofs.Common.{◌-◌, ◌∙◌, ap, arith, length}
 use Rattle.shapes.specs.Anchors.{next_of}
-use Rattle.core_rounds.proofs.ScanSteps.{to_come, fewer-to-come, scanned-first, scanned-last, scanned-more}
+use Rattle.stopped_rounds.proofs.ScanStops.{to_come, fewer-to-come}
+use Rattle.core_rounds.proofs.ScanSteps.{scanned-first, scanned-last, scanned-more}
 use Rattle.core_rounds.proofs.round.scan.Goals as goal
 
 pub loop-next-init : goal.loop-next-init

@@ -1,4 +1,5 @@
-use Rattle.core_rounds.proofs.ScanSteps.{Scanned, to_come}
+use Rattle.stopped_rounds.proofs.ScanStops.{to_come}
+use Rattle.core_rounds.proofs.ScanSteps.{Scanned}
 use Rattle.core_rounds.proofs.round.scan.Given as goal
 
 -- the scan goes on behind its parts so far

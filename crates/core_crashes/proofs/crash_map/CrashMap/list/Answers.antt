@@ -1,12 +1,11 @@
 use Rattle.std.proofs.Common.{◌≡◌, ◌<◌, ◌≤◌, [], false, true, arith, ap, sym, subst}
 use Rattle.pm_words.specs.declared.layout.Layout.{Layout}
-use Rattle.version_lock.specs.declared.TheConstants.{LAST_COUNT}
 use Rattle.core_rounds.specs.index_core.specs.Lone.{part_whole}
 use Rattle.stopped_rounds.specs.Bounded.{IsSame}
 use Rattle.core_rounds.proofs.CoreMaps.{same_run}
 use Rattle.core_rounds.specs.index_core.specs.declared.party.CoreCall.TheVariants as call
-use Rattle.core_crashes.specs.CrashMaps.{Stoppable, calls_of, state_of, weighs_of}
-use Rattle.core_crashes.proofs.CrashMaps.{few_calls, calls_are, cut_weighs, listed_weighs, part_cut, part_goes_on}
+use Rattle.core_crashes.specs.CrashMaps.{Stoppable, state_of, weighs_of}
+use Rattle.core_crashes.proofs.CrashMaps.{few_are_left, cut_weighs, listed_weighs, part_cut, part_goes_on}
 use Rattle.core_crashes.proofs.CrashMaps.{goes, no_calls, part_same, stops_same}
 use Rattle.core_crashes.proofs.crash_map.CrashMap.list.Goals as goal
 
@@ -23,9 +22,8 @@ returns-in_default-clause-same g c =
 
 pub returns-in_default-clause-calls_left : goal.returns-in_default-clause-calls_left
 returns-in_default-clause-calls_left g c =
-    let known : calls_of c.args.self.now ≤ LAST_COUNT =
-    subst (λ (m : Stoppable). calls_of m ≤ LAST_COUNT) c.self.view_is
-    (subst (λ n. n ≤ LAST_COUNT) (sym (calls_are g.K.CrashRun.anchors c.self.inside.core c.self.inside.stopped c.self.inside.turning c.self.inside.placed c.self.invariant.0 c.if-self.false)) (few_calls c.self.inside.core)) in
+    let known =
+    few_are_left g.K.CrashRun.anchors c.self.inside.core c.self.inside.stopped c.self.inside.turning c.self.inside.placed c.self.invariant.0 c.if-self.false c.args.self.now c.self.view_is in
     omega (arith, known)
 
 pub invariant_of-self-2 : goal.invariant_of-self-2

@@ -4,17 +4,16 @@ use Rattle.std.specs.Prelude.{Option, Result, Ok, Err, nat_lt}
 use Rattle.shapes.specs.declared.map.Full.{Full}
 use Rattle.stopped_rounds.specs.declared.bounded_map.Bounded.{Bounded}
 use Rattle.stopped_rounds.specs.declared.bounded_map.Bounded.TheVariants as bounded
-use Rattle.version_lock.specs.declared.TheConstants.{LAST_COUNT}
 use Rattle.cat_history.specs.Records.{change_of}
 use Rattle.core_rounds.specs.index_core.specs.CoreCalls.{most_writes, op_of}
 use Rattle.core_rounds.specs.index_core.specs.Lone.{whole_of}
 use Rattle.stopped_rounds.specs.Bounded.{ComesTo}
 use Rattle.core_rounds.specs.CoreMaps.{calls_left_of}
-use Rattle.core_rounds.proofs.CoreMaps.{goes_through, same_run, writes_fall}
+use Rattle.core_rounds.proofs.CoreMaps.{calls_fall, goes_through, same_run, writes_fall}
 use Rattle.core_rounds.specs.CrashWork.{most_events}
 use Rattle.core_crashes.specs.CrashMaps.{FindRoom, Gave, IsTurnless, Stoppable, WasCutBy, added_within, calls_of}
 use Rattle.core_crashes.specs.CrashMaps.{state_of, weighs_of, writes_of}
-use Rattle.core_crashes.proofs.CrashMaps.{few_calls, calls_are, calls_fall, cut_name, cut_weighs, gave, gave_weighs}
+use Rattle.core_crashes.proofs.CrashMaps.{few_are_left, calls_are, cut_name, cut_weighs, gave, gave_weighs}
 use Rattle.core_crashes.proofs.CrashMaps.{goes, no_calls, some_calls, writes_are, writes_now}
 use Rattle.std.proofs.lemmas.Bool.{false≢true}
 use Rattle.pm_words.specs.declared.layout.Layout.{Layout}
@@ -50,9 +49,8 @@ returns-in_default-clause-ends g c =
 
 pub returns-in_default-clause-calls_left : goal.returns-in_default-clause-calls_left
 returns-in_default-clause-calls_left g c =
-    let known : calls_of c.args.self.now ≤ LAST_COUNT =
-    subst (λ (m : Stoppable). calls_of m ≤ LAST_COUNT) c.self.view_is
-    (subst (λ n. n ≤ LAST_COUNT) (sym (calls_are g.K.CrashRun.anchors c.self.inside.core c.self.inside.stopped c.self.inside.turning c.self.inside.placed c.self.invariant.0 c.if-self.false)) (few_calls c.self.inside.core)) in
+    let known =
+    few_are_left g.K.CrashRun.anchors c.self.inside.core c.self.inside.stopped c.self.inside.turning c.self.inside.placed c.self.invariant.0 c.if-self.false c.args.self.now c.self.view_is in
     omega (arith, known)
 
 pub returns-in_default-clause-weighs : goal.returns-in_default-clause-weighs
