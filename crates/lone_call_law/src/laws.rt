@@ -1,25 +1,32 @@
 //! The laws of lone calls.
 
+ghost use Rattle.lone_call_law.specs.Locks.{FewestLose, LocksGo, StagesLose, WornHasNone};
+ghost use Rattle.lone_call_law.specs.LoneCalls.{LoneCallsBegin, LoneCallsGo, LoneCallsLose, LonePartsAreServed};
+ghost use Rattle.lone_call_law.specs.LoneCalls.{LonePartsBegin};
+ghost use Rattle.lone_call_law.specs.Merging.{MergeIsTried};
+ghost use Rattle.lone_call_law.specs.Rooms.{AddedHadRoom, RefusedWasFull, SplitWasFull, CutHasRoom, OneSplit};
+ghost use Rattle.lone_call_law.specs.Rooms.{FullIsFirst};
+ghost use Rattle.lone_call_law.specs.Shapes.{RoomIsNoSplit, CutIsSplit, FullIsNoRoom, NoRoomIsFull};
+ghost use Rattle.lone_call_law.specs.Splitting.{SplitsComeThere};
+ghost use Rattle.lone_call_law.specs.Targets.{TargetStands};
 ghost use Rattle.lone_call_law.specs.There.{LooksComeThere, RestIsStill, IdleIsQuiet};
+ghost use Rattle.lone_call_law.specs.Tries.{TriesGo, TriesEnd};
 
 /// A look-up that nobody disturbs comes to the target of its name. Where nobody is about a call, walks come to their
-/// targets from every node.
+/// targets from every node. While the version word of a walk's target stands, the target is listed with the bounds that
+/// the walk told, whatever other parties do.
 pub fn looks_come_there()
     ensures still { RestIsStill }
     ensures quiet { IdleIsQuiet }
     ensures comes { LooksComeThere }
+    ensures stands { TargetStands }
 {}
-
-ghost use Rattle.lone_call_law.specs.Tries.{TriesGo, TriesEnd};
 
 /// What a try of any call, by kinds of step alone, leaves and answers where no other call is in flight.
 pub fn lone_tries()
     ensures goes { TriesGo }
     ensures ends { TriesEnd }
 {}
-
-ghost use Rattle.lone_call_law.specs.Rooms.{AddedHadRoom, RefusedWasFull, SplitWasFull, CutHasRoom, OneSplit};
-ghost use Rattle.lone_call_law.specs.Rooms.{FullIsFirst};
 
 /// Whether a put finds room is told by the index before it and after it.
 pub fn rooms()
@@ -30,10 +37,6 @@ pub fn rooms()
     ensures one { OneSplit }
     ensures first { FullIsFirst }
 {}
-
-ghost use Rattle.lone_call_law.specs.LoneCalls.{LoneCallsBegin, LoneCallsGo, LoneCallsLose, LonePartsAreServed};
-ghost use Rattle.lone_call_law.specs.LoneCalls.{LonePartsBegin};
-ghost use Rattle.lone_call_law.specs.Locks.{FewestLose, LocksGo, StagesLose, WornHasNone};
 
 /// Each turn of a lone call, whatever its op, and how it is answered. To this law a part of a range scan is a get of
 /// its low name.
@@ -53,32 +56,15 @@ pub fn lone_locks()
     ensures worn { WornHasNone }
 {}
 
-ghost use Rattle.lone_call_law.specs.Targets.{TargetStands};
-
-/// While the version word of a walk's target stands, the target is listed with the bounds that the walk told, whatever
-/// other parties do.
-pub fn target_law()
-    ensures { TargetStands }
-{}
-
-ghost use Rattle.lone_call_law.specs.Merging.{MergeIsTried};
-ghost use Rattle.lone_call_law.specs.Shapes.{RoomIsNoSplit, CutIsSplit, FullIsNoRoom, NoRoomIsFull};
-
 /// What a lone put makes of the shape: where it has room it splits nothing, a cut for its name is its split, and it
 /// finds no room exactly where its target is full and no node is FREE. A delete that merges by the shape tries to, for
-/// which it takes a log line.
+/// which it takes a log line. A split that nobody disturbs takes one exactly where its caller has an EMPTY one, and
+/// then claims a node exactly where one is FREE whose lock can be taken.
 pub fn lone_shapes()
     ensures room { RoomIsNoSplit }
     ensures cut { CutIsSplit }
     ensures full { FullIsNoRoom }
     ensures no_room { NoRoomIsFull }
     ensures tried { MergeIsTried }
-{}
-
-ghost use Rattle.lone_call_law.specs.Splitting.{SplitsComeThere};
-
-/// A split that nobody disturbs takes a log line exactly where its caller has an EMPTY one, and then claims a node
-/// exactly where one is FREE whose lock can be taken.
-pub fn splits_come_there()
-    ensures { SplitsComeThere }
+    ensures splits { SplitsComeThere }
 {}

@@ -1,4 +1,5 @@
 use Rattle.lone_call_law.proofs.Shapes as lemma
+use Rattle.lone_call_law.proofs.Splitting.{splits_come_there}
 use Rattle.lone_call_law.proofs.Standing.{shape_tries}
 use Rattle.lone_call_law.proofs.laws.lone_shapes.Goals as goal
 
@@ -16,3 +17,6 @@ returns-clause-no_room c = lemma.no_room_is_full
 
 pub returns-clause-tried : goal.returns-clause-tried
 returns-clause-tried c = λ w name rest. shape_tries w name rest.list
+
+pub returns-clause-splits : goal.returns-clause-splits
+returns-clause-splits c = splits_come_there
