@@ -1,16 +1,12 @@
-//! The laws. The functions do nothing: they name what is proved.
+//! The laws. The function does nothing: it names what is proved.
 
 ghost use Rattle.index_image_law.specs.Crash.{CrashLeavesSoundByAll};
 ghost use Rattle.index_image_law.specs.Rest.{RestLeavesImage};
 
 /// At any moment, whichever calls are in flight and however far a turn of the updater is, the durable words are an
-/// image that is sound by all rules.
-pub fn crash_law()
-    ensures { CrashLeavesSoundByAll }
-{}
-
-/// With no call and no turn in flight, the cached words are an image that is sound by all rules, of this run of the
-/// index, with its map, its anchors, its weight and its log lines.
-pub fn rest_law()
-    ensures { RestLeavesImage }
+/// image that is sound by all rules. With no call and no turn in flight the cached words are one, too, of this run of
+/// the index, with its map, its anchors, its weight and its log lines.
+pub fn image_law()
+    ensures crash { CrashLeavesSoundByAll }
+    ensures rest { RestLeavesImage }
 {}
