@@ -1,5 +1,14 @@
-use Rattle.index_core.proofs.Rechecks.{rechecks_act, rechecks_go_on, rechecks_are_answered, same_tells, same_is_soon, same_outlasts}
+use Rattle.index_core.proofs.Rechecks.{parts_become_known, steps_keep_known, turns_keep_known, rechecks_act, rechecks_go_on, rechecks_are_answered, same_tells, same_is_soon, same_outlasts}
 use Rattle.index_core.proofs.laws.recheck_law.Goals as goal
+
+pub returns-clause-known : goal.returns-clause-known
+returns-clause-known c = parts_become_known
+
+pub returns-clause-steps : goal.returns-clause-steps
+returns-clause-steps c = steps_keep_known
+
+pub returns-clause-turns : goal.returns-clause-turns
+returns-clause-turns c = turns_keep_known
 
 pub returns-clause-acts : goal.returns-clause-acts
 returns-clause-acts c = rechecks_act

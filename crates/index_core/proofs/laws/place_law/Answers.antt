@@ -1,5 +1,0 @@
-use Rattle.index_core.proofs.MachineLaw as lemma
-use Rattle.index_core.proofs.laws.place_law.Goals as goal
-
-pub returns : goal.returns
-returns c = lemma.places_follow
