@@ -183,14 +183,18 @@ module _ (initial : Index) (begun : List BegunCall) (calls : List AnsweredCall) 
           let until = (scan-until caller least low left number part call).0 in
           omega arith
 
-  -- the last call of some, which ends no earlier than this place
-  record IsLastOf (caller : ℕ) (numbers : List ℕ) (place : ℕ) : Type 0 where
+  -- one call of some, all of this caller
+  record IsOneOf (caller : ℕ) (numbers : List ℕ) : Type 0 where
     number : ℕ
     answered : AnsweredCall
     there : get_elem? calls number ≡ some answered
     by_caller : answered.call.caller ≡ caller
     among : Contains numbers number
-    until : place ≤ answered.until
+
+  -- the last call of some, which ends no earlier than this place
+  record IsLastOf (caller : ℕ) (numbers : List ℕ) (place : ℕ) : Type 0 where
+    call : IsOneOf caller numbers
+    until : place ≤ call.answered.until
     within : place ≤ length s.history
 
   scan-last : (caller least : ℕ) (low : List ℕ) (left : ℕ) (numbers : List ℕ) (parts : List ScanPart) (place : ℕ) → AreScanCalls calls caller least low left numbers parts → IsLastOf caller numbers (last_place place parts)
@@ -202,11 +206,7 @@ module _ (initial : Index) (begun : List BegunCall) (calls : List AnsweredCall) 
       let at_end = ap (last_place part.place) last.2 in
       let until = scan-until caller least low left number part are.0 in
       let here : IsLastOf caller (number ∷ numbers) (last_place part.place parts) = record {
-        number = number;
-        answered = are.0.answered;
-        there = are.0.there;
-        by_caller = are.0.by_caller;
-        among = first-in number numbers;
+        call = record { number = number; answered = are.0.answered; there = are.0.there; by_caller = are.0.by_caller; among = first-in number numbers };
         until = (let u = until.0 in omega arith);
         within = (let u = until.1 in omega arith);
       } in
@@ -214,11 +214,13 @@ module _ (initial : Index) (begun : List BegunCall) (calls : List AnsweredCall) 
       (λ (more : (high : List ℕ) × (length part.pairs < left) × (part.high ≡ Some high) × AreScanCalls calls caller (number + 1) high (left - length part.pairs) numbers parts).
       let rest = scan-last caller (number + 1) more.0 (left - length part.pairs) numbers parts part.place more.3 in
       let here : IsLastOf caller (number ∷ numbers) (last_place part.place parts) = record {
-        number = rest.number;
-        answered = rest.answered;
-        there = rest.there;
-        by_caller = rest.by_caller;
-        among = Contains-append_right (number ∷ []) numbers rest.number rest.among;
+        call = record {
+          number = rest.call.number;
+          answered = rest.call.answered;
+          there = rest.call.there;
+          by_caller = rest.call.by_caller;
+          among = Contains-append_right (number ∷ []) numbers rest.call.number rest.call.among;
+        };
         until = rest.until;
         within = rest.within;
       } in
@@ -246,14 +248,10 @@ module _ (initial : Index) (begun : List BegunCall) (calls : List AnsweredCall) 
 
   -- where the record has an interval: its first call, which used up its index and began before it, and its last one
   record Spans (t : Told) (i : Interval) : Type 0 where
-    first : ℕ
-    begins : AnsweredCall
-    there : get_elem? calls first ≡ some begins
-    among : Contains t.numbers first
-    by_caller : begins.call.caller ≡ t.what.caller
-    index : t.what.index ≡ begins.call.index
-    counts : begins.next ≡ begins.call.index + 1
-    since : begins.call.since ≤ i.start
+    first : IsOneOf t.what.caller t.numbers
+    index : t.what.index ≡ first.answered.call.index
+    counts : first.answered.next ≡ first.answered.call.index + 1
+    since : first.answered.call.since ≤ i.start
     last : IsLastOf t.what.caller t.numbers i.end
 
   counts-done : (i : ℕ) (c : AnsweredCall) (placed : Placed) → get_elem? calls i ≡ some c → c.answer ≡ once.Done placed → c.next ≡ c.call.index + 1
@@ -272,17 +270,8 @@ module _ (initial : Index) (begun : List BegunCall) (calls : List AnsweredCall) 
       → call.answered.call.since ≤ i.start → i.end ≤ call.answered.until → i.end ≤ length s.history → Spans t i
   one-spans t call i caller index counts since until within =
       let has : Contains t.numbers call.number = subst (λ (ns : List ℕ). Contains ns call.number) (sym call.alone) (first-in call.number []) in
-      record {
-        first = call.number;
-        begins = call.answered;
-        there = call.there;
-        among = has;
-        by_caller = caller;
-        index = index;
-        counts = counts;
-        since = since;
-        last = record { number = call.number; answered = call.answered; there = call.there; by_caller = caller; among = has; until = until; within = within };
-      }
+      let one : IsOneOf t.what.caller t.numbers = record { number = call.number; answered = call.answered; there = call.there; by_caller = caller; among = has } in
+      record { first = one; index = index; counts = counts; since = since; last = record { call = one; until = until; within = within } }
 
   call-spans : (t : Told) (call : IsToldCall calls t) → IsToldOf call.answered t.what → IfSome (interval t.what) (Spans t)
   call-spans t call (took_place placed is tells) =
@@ -313,11 +302,13 @@ module _ (initial : Index) (begun : List BegunCall) (calls : List AnsweredCall) 
           let one : scan.answered ≡ call.answered = some-injective _ _ (sym scan.there ∙ call.there) in
           let was = scan-listed t.what.caller 0 scan.from scan.count scan.first part call in
           let spans : Spans t (record { start = part.place; end = last_place part.place parts }) = record {
-            first = scan.first;
-            begins = call.answered;
-            there = call.there;
-            among = subst (λ (ns : List ℕ). Contains ns scan.first) (sym scan.begins) (first-in scan.first scan.rest);
-            by_caller = call.by_caller;
+            first = record {
+              number = scan.first;
+              answered = call.answered;
+              there = call.there;
+              by_caller = call.by_caller;
+              among = subst (λ (ns : List ℕ). Contains ns scan.first) (sym scan.begins) (first-in scan.first scan.rest);
+            };
             index = scan.index ∙ ap (λ (c : AnsweredCall). c.call.index) one;
             counts = counts-done scan.first call.answered was.placed call.there was.done;
             since = scan-since t.what.caller 0 scan.from scan.count scan.first part call;
@@ -488,27 +479,27 @@ module _ (initial : Index) (begun : List BegunCall) (calls : List AnsweredCall) 
 
       told-in-order : (i j : ℕ) (t u : Told) → get_elem? told i ≡ some t → get_elem? told j ≡ some u → t.what.caller ≡ u.what.caller → t.what.index < u.what.index → (p q : Interval) → Spans t p → Spans u q → p.end ≤ q.start
       told-in-order i j t u at_i at_j caller less p q a b =
-          let callers : a.begins.call.caller ≡ b.begins.call.caller = a.by_caller ∙ caller ∙ sym b.by_caller in
+          let callers : a.first.answered.call.caller ≡ b.first.answered.call.caller = a.first.by_caller ∙ caller ∙ sym b.first.by_caller in
           let here = a.index in
           let there = b.index in
           let different : i ≢ j = λ same. (let one : t ≡ u = some-injective _ _ (sym at_i ∙ ap (get_elem? told) same ∙ at_j) in let index = ap (λ (v : Told). v.what.index) one in omega arith) in
-          let rising : a.first < b.first = ⊎_elim
-          (λ (same : a.first ≡ b.first).
-          let one : a.begins ≡ b.begins = some-injective _ _ (sym a.there ∙ ap (get_elem? calls) same ∙ b.there) in
+          let rising : a.first.number < b.first.number = ⊎_elim
+          (λ (same : a.first.number ≡ b.first.number).
+          let one : a.first.answered ≡ b.first.answered = some-injective _ _ (sym a.first.there ∙ ap (get_elem? calls) same ∙ b.first.there) in
           let index = ap (λ (c : AnsweredCall). c.call.index) one in absurd (omega arith))
-          (λ (apart : (a.first < b.first) ⊎ (b.first < a.first)). ⊎_elim
-          (λ (before : a.first < b.first). before)
-          (λ (behind : b.first < a.first).
-          let next = (legal.in_order b.first a.first b.begins a.begins b.there a.there behind (sym callers)).index in
+          (λ (apart : (a.first.number < b.first.number) ⊎ (b.first.number < a.first.number)). ⊎_elim
+          (λ (before : a.first.number < b.first.number). before)
+          (λ (behind : b.first.number < a.first.number).
+          let next = (legal.in_order b.first.number a.first.number b.first.answered a.first.answered b.first.there a.first.there behind (sym callers)).index in
           let counts = b.counts in absurd (omega arith))
           apart)
-          (cases_order a.first b.first) in
+          (cases_order a.first.number b.first.number) in
           let z = a.last in
-          let past : z.number < b.first = ⊎_elim
-          (λ (before : z.number < b.first). before)
-          (λ (within : b.first ≤ z.number). absurd (are.apart i j t u at_i at_j different caller a.first b.first z.number a.among b.among z.among (omega arith) within))
-          (cases_lt z.number b.first) in
-          let ended = (legal.in_order z.number b.first z.answered b.begins z.there b.there past (z.by_caller ∙ caller ∙ sym b.by_caller)).ended in
+          let past : z.call.number < b.first.number = ⊎_elim
+          (λ (before : z.call.number < b.first.number). before)
+          (λ (within : b.first.number ≤ z.call.number). absurd (are.apart i j t u at_i at_j different caller a.first.number b.first.number z.call.number a.first.among b.first.among z.call.among (omega arith) within))
+          (cases_lt z.call.number b.first.number) in
+          let ended = (legal.in_order z.call.number b.first.number z.call.answered b.first.answered z.call.there b.first.there past (z.call.by_caller ∙ caller ∙ sym b.first.by_caller)).ended in
           let until = z.until in
           let since = b.since in
           omega arith
