@@ -222,7 +222,7 @@ needs_none s s1 i c r is idle t none = (
 )
   where
     back : (lacks_line r ≡ true) ⊎ (lacks_node r ≡ true) → ⊥
-    back lacks = (turned_back s s1 i c is idle t.state (is.states i t.state t.there).caller r lacks t.answered).turned none
+    back lacks = (turned_back s s1 i c is idle t.state (is.states i t.state t.there).caller r lacks t.answered).waits.turned none
 
 unworn_is : (answer : Once Placed) → IsUnwornWhole (whole_of answer) → IsUnworn answer
 unworn_is (once.Done placed) unworn = tt

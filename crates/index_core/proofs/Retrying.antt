@@ -97,12 +97,16 @@ was_low w n = ⊎_elim
 is_low : (w : World) (n : ℕ) → stamp_in w n ≤ 1 → stamp_then w 1 n ≤ 1
 is_low w n low = elim (stamp_in w n == 0) as (λ b. cond b 1 (stamp_in w n) ≤ 1) [ true ↦ omega arith | false ↦ low ]
 
--- What a call was turned back with: it is made again, and has changed nothing but the version word of its node.
-pub record TurnedBack (s s1 : Index) (i : ℕ) (c : CoreCall) : Type 0 where
+-- Why a call is made again behind a turn.
+pub record WaitsForTurn (s : Index) (i : ℕ) (c : CoreCall) : Type 0 where
   unworn : FindsWornNode c s → ⊥
   below : IsOver c s → ⊥
   again : IsMadeAgain i c s
   pub turned : NeedsNoTurn i c s → ⊥
+
+-- What a call was turned back with: it is made again, and has changed nothing but the version word of its node.
+pub record TurnedBack (s s1 : Index) (i : ℕ) (c : CoreCall) : Type 0 where
+  pub waits : WaitsForTurn s i c
   history : s1.history ≡ s.history
   list : HasSameList s s1
   unmoved : IsUnmoved s.layout s.words s1.words (node_for s (name_asked (op_of c)))
@@ -135,19 +139,23 @@ module _ (s s1 : Index) (i : ℕ) (c : CoreCall) (is : IsIndex s) (idle : HasNoC
 
   pub turned_back : (r : Once Placed) → (lacks_line r ≡ true) ⊎ (lacks_node r ≡ true) → IsAnswered (world s) (op_of c) (limit_of c) (world s1) (party_of state) r → TurnedBack s s1 i c
   turned_back (once.Again again.LogFull) lacks (unworn, below, needs, lacks_lines, same, kept, unmoved) = record {
-    unworn = unworn;
-    below = λ over. below (late_was (limit_of c) (length s.history) over);
-    again = needs_line c needs (subst (LacksLine s.layout s.words) caller lacks_lines);
-    turned = λ none. lined c needs none (subst (LacksLine s.layout s.words) caller lacks_lines);
+    waits = record {
+      unworn = unworn;
+      below = λ over. below (late_was (limit_of c) (length s.history) over);
+      again = needs_line c needs (subst (LacksLine s.layout s.words) caller lacks_lines);
+      turned = λ none. lined c needs none (subst (LacksLine s.layout s.words) caller lacks_lines);
+    };
     history = same;
     list = kept.0;
     unmoved = unmoved;
   }
   turned_back (once.Again again.NoFree) lacks (unworn, below, full, has, none, same, kept, unmoved) = record {
-    unworn = unworn;
-    below = λ over. below (late_was (limit_of c) (length s.history) over);
-    again = full_again_if s i c (rests s is idle) full;
-    turned = λ has_both. noded c full has_both none;
+    waits = record {
+      unworn = unworn;
+      below = λ over. below (late_was (limit_of c) (length s.history) over);
+      again = full_again_if s i c (rests s is idle) full;
+      turned = λ has_both. noded c full has_both none;
+    };
     history = same;
     list = kept.0;
     unmoved = unmoved;
@@ -167,10 +175,7 @@ module _ (s s1 : Index) (i : ℕ) (c : CoreCall) (is : IsIndex s) (idle : HasNoC
 pub record Later (s0 s : Index) (i : ℕ) (c : CoreCall) (tries : ℕ) : Type 0 where
   state : PartyState
   there : get_elem? s0.states i ≡ some state
-  unworn : FindsWornNode c s0 → ⊥
-  below : IsOver c s0 → ⊥
-  again : IsMadeAgain i c s0
-  turned : NeedsNoTurn i c s0 → ⊥
+  waits : WaitsForTurn s0 i c
   layout : s.layout ≡ s0.layout
   generation : s.generation ≡ s0.generation
   base : s.base ≡ s0.base
@@ -333,7 +338,7 @@ module _ (s s1 s2 : Index) (i : ℕ) (c : CoreCall) (answer : Once Placed) (turn
 
   next_then : IsSome (limit_of c) → NextIsWorn (world s) (name_asked (op_of c)) → NextIsWorn (world s2) (name_asked (op_of c))
   next_then writes worn = ⊎_elim
-      (λ (own : next_node (world s) (name_asked (op_of c)) ≡ target). absurd (b.unworn (worn_found (world s) c writes (subst (λ (n : ℕ). IsWorn (f.version n) s.generation) own worn))))
+      (λ (own : next_node (world s) (name_asked (op_of c)) ≡ target). absurd (b.waits.unworn (worn_found (world s) c writes (subst (λ (n : ℕ). IsWorn (f.version n) s.generation) own worn))))
       (λ (other : next_node (world s) (name_asked (op_of c)) ≢ target). subst (λ (n : ℕ). IsWorn (f2.version n) s2.generation) (sym next_same) (worn_then (next_node (world s) (name_asked (op_of c))) other worn))
       (cases_eq (next_node (world s) (name_asked (op_of c))) target)
 
@@ -370,10 +375,7 @@ module _ (s s1 s2 : Index) (i : ℕ) (c : CoreCall) (answer : Once Placed) (turn
   later_once = record {
     state = t.state;
     there = t.there;
-    unworn = b.unworn;
-    below = b.below;
-    again = b.again;
-    turned = b.turned;
+    waits = b.waits;
     layout = layout2;
     generation = generation2;
     base = ap (λ (v : Index). v.base) u.is ∙ t.base;
@@ -403,10 +405,7 @@ later_then s0 s s2 i c tries first then =
     record {
       state = first.state;
       there = first.there;
-      unworn = first.unworn;
-      below = first.below;
-      again = first.again;
-      turned = first.turned;
+      waits = first.waits;
       layout = then.layout ∙ first.layout;
       generation = then.generation ∙ first.generation;
       base = then.base ∙ first.base;
@@ -420,7 +419,7 @@ later_then s0 s s2 i c tries first then =
       room = λ lacks. then.room (first.room lacks);
       lacked = λ lacks. first.lacked (then.lacked lacks);
       next = λ writes worn. then.next writes (first.next writes worn);
-      back = λ writes unworn worn. first.back writes then.unworn (then.back writes unworn worn);
+      back = λ writes unworn worn. first.back writes then.waits.unworn (then.back writes unworn worn);
       each = λ n. let a = first.each n in let b = then.each n in omega arith;
       locks = let a = first.locks in let b = then.locks in omega arith;
       stamps = λ n here. ⊎_elim
@@ -486,7 +485,7 @@ module _ (s0 s s' : Index) (i : ℕ) (c : CoreCall) (before tries : ℕ) (answer
       (λ (first : FindsWornNode c s × (node ≡ node_for s name) × (word ≡ version_in s.layout s.words node) × HasSameList s s').
       let none = worn_none first.0 in
       inr (
-        o.again,
+        o.waits.again,
         omega arith,
         inl (same_list first.3),
         first.1 ∙ node_same s' first.3,
@@ -495,23 +494,23 @@ module _ (s0 s s' : Index) (i : ℕ) (c : CoreCall) (before tries : ℕ) (answer
       (λ (later : IsMadeAgain i c s × (locks_left s < tries) × (HasSameList s s' ⊎ SplitsFor c s s') × (node ≡ node_for s' name) × IsWorn word s.generation).
       let less = later.1 in
       inr (
-        o.again,
+        o.waits.again,
         omega arith,
         ⊎_elim (λ (same : HasSameList s s'). inl (same_list same)) (λ (cut : SplitsFor c s s'). inr (split_was c cut)) later.2,
         later.3,
         subst (λ (g : ℕ). IsWorn word g) o.generation later.4,
       ))
       cause
-  cause_of (once.Spent clock) cause = absurd (o.below (subst (λ (n : ℕ). IsSomeAnd (limit_of c) (λ limit. limit ≤ n)) (ap length o.history) cause.1))
-  cause_of (once.Again why) cause = (o.unworn, o.below, no_room_before c o.again cause.2)
+  cause_of (once.Spent clock) cause = absurd (o.waits.below (subst (λ (n : ℕ). IsSomeAnd (limit_of c) (λ limit. limit ≤ n)) (ap length o.history) cause.1))
+  cause_of (once.Again why) cause = (o.waits.unworn, o.waits.below, no_room_before c o.waits.again cause.2)
   cause_of (once.Done placed) cause = (
     cause.0,
-    (o.unworn, o.below, (λ none. cause.1.2 (room_then_too c none))),
+    (o.waits.unworn, o.waits.below, (λ none. cause.1.2 (room_then_too c none))),
     cause.2 ∙ ap (λ (m : Map). at m name) map_same,
     cause.3 ∙ ap length o.history,
     (let lands = cause.4 in record {
       last = lands.last;
-      began = inr o.again;
+      began = inr o.waits.again;
       index = lands.index;
       quiet = λ quiet0. lands.quiet (quiet quiet0);
       still = lands.still;
@@ -519,7 +518,7 @@ module _ (s0 s s' : Index) (i : ℕ) (c : CoreCall) (before tries : ℕ) (answer
       generation = lands.generation ∙ o.generation;
       base = lands.base ∙ o.base;
       history = lands.history ∙ o.history;
-      layer = λ none. absurd (o.turned none);
+      layer = λ none. absurd (o.waits.turned none);
       short = λ _. lands.short o.short;
       tries = lands.tries;
       hops = lands.hops;
@@ -579,9 +578,9 @@ module _ (s0 s s' : Index) (i : ℕ) (c : CoreCall) (before tries : ℕ) (answer
             (o.stamps n here))
             (λ (low : stamp_in (world s') n ≤ 1). inr low)
             (ran.stamps n (subst (λ (l : Layout). n < l.nodes) (sym o.layout) here));
-        log = λ none. absurd (o.turned none);
+        log = λ none. absurd (o.waits.turned none);
         short = λ _. ran.short o.short;
-        again = inr o.again;
+        again = inr o.waits.again;
         each_lock = λ n. let a = o.each n in let b = ran.each_lock n in omega arith;
         locks = let a = o.locks in let b = ran.locks in omega arith;
         weighs = let a = o.weighs in let b = ran.weighs in omega arith;
@@ -750,7 +749,7 @@ line_behind_turn s0 s s' i c answer then t lacks b here = record {
   tries = 1;
   tried = tried_again s0 s s' i c answer then 0 t (inl lacks) b;
   few = omega arith;
-  allowed = may_turn c s0 i (later_begun s0 s s' i c answer then 0 t (inl lacks) b).again;
+  allowed = may_turn c s0 i (later_begun s0 s s' i c answer then 0 t (inl lacks) b).waits.again;
   lined = lines_then s0 s s' i c answer then 0 t (inl lacks) b here;
 }
 
@@ -839,10 +838,10 @@ tried_is_again s0 s i c answer tries t back = of t.before tries t.begun t.index_
   where
     of : (v : Index) (n : ℕ) → Begun s0 i c v n → IsIndex v → HasNoCalls v → TriesAlone v i c s answer → IsMadeAgain i c s0
     of v n at_first is idle u = ⊎_elim
-        (λ (lacks : Lacks answer). (turned_back s0 s i c is idle u.state (is.states i u.state u.there).caller answer lacks u.answered).again)
+        (λ (lacks : Lacks answer). (turned_back s0 s i c is idle u.state (is.states i u.state u.there).caller answer lacks u.answered).waits.again)
         (λ (split : needs_split answer ≡ true). full_again_if s0 i c (rests s0 is idle) (split_is_full (world s0) (world s) c (party_of u.state) answer u.answered split))
         back
-    of v n (behind_turn o sweeps) is idle u = o.again
+    of v n (behind_turn o sweeps) is idle u = o.waits.again
 
 -- So a call that is cut off behind such tries, and takes one lock of each node more, takes no more than an answered one.
 module _ (s0 s s' : Index) (i : ℕ) (c : CoreCall) (answer : Once Placed) (each : LoseAtMost 1 s s') (locks : locks_left s ≤ locks_left s' + 1) where
