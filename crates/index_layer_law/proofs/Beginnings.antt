@@ -9,11 +9,11 @@ use Rattle.cat_history.specs.Maps.{Map}
 use Rattle.cat_history.specs.declared.op.Write.{Write}
 use Rattle.data_node.specs.Lists.{anchor_in}
 use Rattle.pm_words.specs.Offsets.{stamp_offset}
-use Rattle.call_stages.specs.Stages.{Sight, Stage, Gone, Idle, Joins, HoldsNode, IsSwitched}
+use Rattle.call_stages.specs.Stages.{Stage, Gone, Idle, Joins, HoldsNode, IsSwitched}
 use Rattle.call_stages.specs.Kinds.{clock_address}
 use Rattle.call_stages.specs.Lines.{HeldLine}
 use Rattle.call_stages.specs.Prevs.{Debt}
-use Rattle.call_stages.specs.Watches.{Watching, Nothing, Watches}
+use Rattle.call_stages.specs.Watches.{Watching, Watches}
 use Rattle.index_law.specs.Facts.{Facts, facts_of}
 use Rattle.index_law.specs.Worlds.{Party, World, facts}
 use Rattle.index_law.specs.Whole.{IsWhole}
@@ -26,7 +26,7 @@ use Rattle.updater_row_law.proofs.RowColumns.{column-alike}
 use Rattle.updater_row_law.specs.RowStages.{RowTarget, Resting, HasTarget}
 use Rattle.updater_row_law.specs.RowLaw.{RowLawful}
 use Rattle.updater_row_law.specs.Turnings.{Turning}
-use Rattle.index_layer_law.specs.Turnings.{terms_of, ghosts_of, line_number, SureWatch, SureWatches, IsShown}
+use Rattle.index_layer_law.specs.Turnings.{terms_of, ghosts_of, line_number, SureWatch, IsShown}
 use Rattle.index_layer_law.specs.Layers.{Layered, CoversNode, turn_facts, IsLayered}
 use Rattle.index_layer_law.specs.Beginnings.{begun_anew, IsIdleOrKept, BeginningKeepsLayer, OtherTurnsMayRest}
 use Rattle.index_layer_law.proofs.FactTies.{Rest, known, rest_in, facts_tie, rest_same, rest_layer}
@@ -34,7 +34,7 @@ use Rattle.index_layer_law.proofs.Retired.{retiring_lines}
 use Rattle.index_layer_law.proofs.Switched.{unready_by, cover_same}
 use Rattle.index_layer_law.proofs.CallRows.{row_after}
 use Rattle.index_layer_law.proofs.TurnRests.{rests_for}
-use Rattle.index_layer_law.proofs.TurnWalks.{found_target}
+use Rattle.index_layer_law.proofs.TurnWalks.{watch_same, found_target}
 use Rattle.updater_row_law.specs.search_layer.proofs.RowLemmas.{layer_words_stay}
 
 module _ (z : Layered) (clock : ℕ) (parties : List Party) (base : Map) (history : List Write) (lines : List (Option HeldLine)) (debts : List Debt) (is : IsLayered z) where
@@ -68,19 +68,8 @@ module _ (z : Layered) (clock : ℕ) (parties : List Party) (base : Map) (histor
   same_turn u = facts_tie w' is.holder u ∙ same_known ∙ sym (facts_tie w is.holder u)
 
   -- what walks rely on, base and history have no part in
-  sure_anew : (n version : ℕ) (k : Sight) → SureWatches l w.generation (facts w) n version k → SureWatches l w.generation (facts w') n version k
-  sure_anew n version k sure = subst (λ (f : Facts). SureWatches l w.generation f n version k) (sym same_facts) (record {
-    here = sure.here;
-    known = sure.known;
-    free = sure.free;
-    seen = sure.seen;
-    leads = sure.leads;
-    stands = λ same. let stands = sure.stands same in record { listed = stands.listed; sees = stands.sees; leads = stands.leads };
-  })
-
   watch : (s : Watching) → SureWatch l w.generation (facts w) s → SureWatch l w.generation (facts w') s
-  watch Nothing sure = tt
-  watch (Watches n version k) sure = sure_anew n version k sure
+  watch s = watch_same l w.generation (facts w) (facts w') s (ap (λ (f : Facts). f.version) same_facts) (ap (λ (f : Facts). f.now) same_facts) (ap (λ (f : Facts). f.list) same_facts)
 
   pub begun : IsWhole (begun_anew z.whole clock parties base history lines debts) → AreTended (begun_anew z.whole clock parties base history lines debts) → ((i : ℕ) (p : Party) → get_elem? parties i ≡ some p → IsIdleOrKept z.whole lines i p)
       → IsLayered (record { whole = begun_anew z.whole clock parties base history lines debts; turns = z.turns })
@@ -127,7 +116,7 @@ module _ (z : Layered) (clock : ℕ) (parties : List Party) (base : Map) (histor
           (λ here. at-set_other l w.words Clock (Cached (line_word o j)) clock tt (omega arith, omega arith, small) (λ e. cc))
 
       shown : (key : List ℕ) (target : RowTarget) → IsShown l w.generation (facts w) key target → IsShown l w.generation (facts w') key target
-      shown key target is_shown = record { sight = is_shown.sight; sure = sure_anew target.node target.version is_shown.sight is_shown.sure; seen = is_shown.seen }
+      shown key target is_shown = record { sight = is_shown.sight; sure = watch (Watches target.node target.version is_shown.sight) is_shown.sure; seen = is_shown.seen }
 
 pub beginning_keeps_layer : BeginningKeepsLayer
 beginning_keeps_layer z clock parties base history lines debts is whole tended kept = begun z clock parties base history lines debts is whole tended kept
