@@ -70,13 +70,13 @@ can_change l g f caller index since s a word (loads_status here) fits knows room
 can_change l g f caller index since s a word (loads_prev here) fits knows room = tt
 can_change l g f caller index since s a word (stores_status holds here small) fits knows room = small
 can_change l g f caller index since s a word (exchanges {v = v} {w = w} here) fits knows room =
-    let most = lock_fits w g (own_lock v w g knows.known knows.unworn knows.lock) fits in omega arith
+    let most = lock_fits w g (own_lock v w g knows.word.known knows.word.unworn knows.word.lock) fits in omega arith
 can_change l g f caller index since s a word (exchanges_read here small) fits knows room = small
 can_change l g f caller index since s a word (stores_word holds has positive small) fits knows room = small
 can_change l g f caller index since s a word (drains_word holds has small) fits knows room = small
 can_change l g f caller index since s a word adds fits knows room = room refl
 can_change l g f caller index since s a word (claims_node {v = v} {u = u} here) fits knows room =
-    let most = lock_fits u g (own_lock v u g knows.1.known knows.1.unworn knows.1.lock) fits in omega arith
+    let most = lock_fits u g (own_lock v u g knows.1.word.known knows.1.word.unworn knows.1.word.lock) fits in omega arith
 can_change l g f caller index since s a word (frees_fresh {fresh = fresh} here next) fits knows room = let most = lock_fits fresh.lock g knows.new.lock fits in omega arith
 can_change l g f caller index since s a word (frees_left {left = left} here next) fits knows room = let most = lock_fits left.lock g knows.grip.lock fits in omega arith
 can_change l g f caller index since s a word (frees_met {right = right} here next) fits knows room = let most = lock_fits right.lock g knows.1.grip.lock fits in omega arith

@@ -368,7 +368,7 @@ module _ {l : Layout} {g : ℕ} (f : Facts) (words : List ℕ) (caller index sin
       → MergeDrained k f words → AreDurable l g f words → BacksStage l f words s → BacksStage l (merge_after k f) words t
   merge_backs (meets {n = n} {m = m} {v = v} {u = u} {h = h} here same untimed leads) e mine after drained durable backed = (
     record { clean = backed.clean; fixed = backed.fixed; mixes = backed.mixes },
-    durable m here (subst (λ (z : ℕ). IsFree z g) (sym (sym e ∙ same)) mine.1.unlocked),
+    durable m here (subst (λ (z : ℕ). IsFree z g) (sym (sym e ∙ same)) mine.1.word.free),
   )
   merge_backs (knows_own has positive learnt) e mine after drained durable backed = (record { clean = backed.0.clean; fixed = backed.0.fixed; mixes = backed.0.mixes }, backed.1)
   merge_backs (knows_right has positive told) e mine after drained durable backed = (backed.0, backed.1)
@@ -450,7 +450,7 @@ module _ {l : Layout} {g : ℕ} (f : Facts) (words : List ℕ) (caller index sin
       → Sure l g (fact_after k f caller index) caller index since t → Drained k f words → AreDurable l g f words → BacksStage l f words s → BacksStage l (fact_after k f caller index) words t
   backs_mine (looks look) e mine after drained durable backed = look_backs look after backed
   backs_mine (locks {n = n} {v = v} {w = w} {name = name} same named live between) e mine after drained durable backed =
-      clean_backs l (with_version f n w) (durable_spot l words n) n (just_held name) (durable n mine.here (subst (λ (u : ℕ). IsFree u g) (sym (sym e ∙ same)) mine.free)) after.means
+      clean_backs l (with_version f n w) (durable_spot l words n) n (just_held name) (durable n mine.word.here (subst (λ (u : ℕ). IsFree u g) (sym (sym e ∙ same)) mine.word.free)) after.means
   backs_mine (locks_read {n = n} {v = v} {w = w} {name = name} same named live between unworn taken small) e mine after drained durable backed =
       clean_backs l (with_version f n w) (durable_spot l words n) n (just_held name) (durable n mine.here (subst (λ (u : ℕ). IsFree u g) (sym (sym e ∙ same)) mine.free)) after.means
   backs_mine (stores {n = n} {w = w} {y = y} {offset = offset} {h = h} {dirty = dirty} has content small clean soils learnt means) e mine after drained durable backed =
@@ -491,7 +491,7 @@ module _ {l : Layout} {g : ℕ} (f : Facts) (words : List ℕ) (caller index sin
       (record h { time = None; pending = None; ready = false; placed = Some x }) (none_dirty (durable_spot l words n) (f.now n) h.dirty all_durable backed.clean) after.means
   backs_mine (unlocks next pending all_durable unready answers) e mine after drained durable backed = tt
   backs_mine (claims {n = n} {m = m} {v = v} {u = u} {h = h} unplaced here same) e mine after drained durable backed =
-      let free : IsFree (f.version m) g = subst (λ (z : ℕ). IsFree z g) (sym (sym e ∙ same)) mine.1.unlocked in
+      let free : IsFree (f.version m) g = subst (λ (z : ℕ). IsFree z g) (sym (sym e ∙ same)) mine.1.word.free in
       record {
         left_clean = λ offset spared. none_dirty (durable_spot l words n) (f.now n) h.dirty mine.1.durable backed.clean offset;
         fresh_clean = λ offset spared. durable m here free offset;

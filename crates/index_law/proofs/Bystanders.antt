@@ -76,28 +76,15 @@ told_word f n offset x told positive = sym (told ∙ ap (λ (b : Bool). cond b (
 -- what a party saw of a node stands on where facts change, or it sees more
 pub saw_on : (l : Layout) (g : ℕ) (f f' : Facts) (n v w : ℕ) (k k' : Sight) → v ≤ f'.version n → (k'.live ≡ true → f'.now n next_offset < l.nodes) → (f'.version n ≡ v → Stands f' n k')
     → SureSaw l g f n v w k → SureSaw l g f' n v w k'
-saw_on l g f f' n v w k k' seen leads stands knows = record {
-  here = knows.here;
-  known = knows.known;
-  free = knows.free;
-  unworn = knows.unworn;
-  lock = knows.lock;
-  seen = seen;
-  leads = leads;
-  stands = stands;
-}
+saw_on l g f f' n v w k k' seen leads stands knows = record { word = knows.word; seen = seen; leads = leads; stands = stands }
 
 pub eyes_on : (l : Layout) (g : ℕ) (f f' : Facts) (h : Held) (m v u : ℕ) (free free' : Bool) → v ≤ f'.version m → (f'.version m ≡ v → free' ≡ true → f'.status m ≡ free_status)
     → SureEyes l g f h m v u free → SureEyes l g f' h m v u free'
 eyes_on l g f f' h m v u free free' seen stands knows = record {
   clean = knows.clean;
   durable = knows.durable;
-  here = knows.here;
   nonzero = knows.nonzero;
-  known = knows.known;
-  unlocked = knows.unlocked;
-  unworn = knows.unworn;
-  lock = knows.lock;
+  word = knows.word;
   seen = seen;
   stands = stands;
 }
@@ -335,10 +322,10 @@ module _ (l : Layout) (g : ℕ) (f f' : Facts) (later : IsLater f f') where
   saw_kept : IsList l f → IsCalm l g f f' → (n v w : ℕ) (k : Sight) → SureSaw l g f n v w k → SureSaw l g f' n v w k
   saw_kept list calm n v w k knows =
       let seen = knows.seen in
-      let rise = calm.rises n knows.here in
+      let rise = calm.rises n knows.word.here in
       saw_on l g f f' n v w k k (omega arith) (λ live. calm.leads n (knows.leads live)) (λ is.
       let same : f.version n ≡ v = omega arith in
-      stands_kept n k (calm.steady n knows.here (subst (λ (u : ℕ). IsFree u g) (sym same) knows.free) (is ∙ sym same)) calm list (knows.stands same)) knows
+      stands_kept n k (calm.steady n knows.word.here (subst (λ (u : ℕ). IsFree u g) (sym same) knows.word.free) (is ∙ sym same)) calm list (knows.stands same)) knows
 
   -- what a reader saw and read where all is calm
   reads_kept : IsList l f → IsCalm l g f f' → (since n v : ℕ) (k : Sight) (h : Option Held) → SureReads l g f since n v k h → SureReads l g f' since n v k h
@@ -363,10 +350,10 @@ module _ (l : Layout) (g : ℕ) (f f' : Facts) (later : IsLater f f') where
   eyes_kept : IsCalm l g f f' → (h : Held) (m v u : ℕ) (free : Bool) → SureEyes l g f h m v u free → SureEyes l g f' h m v u free
   eyes_kept calm h m v u free knows =
       let seen = knows.seen in
-      let rise = calm.rises m knows.here in
+      let rise = calm.rises m knows.word.here in
       eyes_on l g f f' h m v u free free (omega arith) (λ is told.
       let same : f.version m ≡ v = omega arith in
-      (calm.steady m knows.here (subst (λ (u : ℕ). IsFree u g) (sym same) knows.unlocked) (is ∙ sym same)).status ∙ knows.stands same told) knows
+      (calm.steady m knows.word.here (subst (λ (u : ℕ). IsFree u g) (sym same) knows.word.free) (is ∙ sym same)).status ∙ knows.stands same told) knows
 
   wears_kept : IsCalm l g f f' → (n v : ℕ) → SureWears l g f n v → SureWears l g f' n v
   wears_kept calm n v knows = record {

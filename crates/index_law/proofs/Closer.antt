@@ -88,7 +88,7 @@ module _ {l : Layout} {g : ℕ} (words : List ℕ) (base : Map) (history : List 
   pub step_closer : {s : Stage} {a : Action} {x : ℕ} {t : Stage} {r : Option (Once Placed)} → (k : Step l g s a x t r) → x ≡ got l words a
       → Sure l g (facts_of l words base history) caller index since s → IsCloser l words (acted l words a)
   step_closer (looks look) e knows = λ w has. inl (ap (λ (v : List ℕ). at l v (Durable w)) (look_keeps look words e))
-  step_closer (locks {n = n} same named live between) e knows = store_closer l words (Cached (Node n version_offset)) _ (knows.here, omega arith) (λ w alike. cc)
+  step_closer (locks {n = n} same named live between) e knows = store_closer l words (Cached (Node n version_offset)) _ (knows.word.here, omega arith) (λ w alike. cc)
   step_closer (locks_read {n = n} same named live between unworn taken small) e knows = store_closer l words (Cached (Node n version_offset)) _ (knows.here, omega arith) (λ w alike. cc)
   step_closer (stores {n = n} {y = y} {offset = offset} has content small clean soils learnt means) e knows = store_closer l words (Cached (Node n offset)) y has (λ w alike. cc)
   step_closer (commits {n = n} {y = y} {offset = offset} has content small clean durable soiled old about learnt means) e knows =
@@ -151,7 +151,7 @@ module _ {l : Layout} {g : ℕ} (words : List ℕ) (base : Map) (history : List 
   pub step_cached : {s : Stage} {a : Action} {x : ℕ} {t : Stage} {r : Option (Once Placed)} → (k : Step l g s a x t r) → x ≡ got l words a
       → Sure l g (facts_of l words base history) caller index since s → (w : Word) → HasWord l w → ((n offset : ℕ) → w ≡ Node n offset → ⊥) → at l (acted l words a) (Cached w) ≡ at l words (Cached w)
   step_cached (looks look) e knows w has other = ap (λ (v : List ℕ). at l v (Cached w)) (look_keeps look words e)
-  step_cached (locks {n = n} same named live between) e knows w has other = at-set_other l words (Cached (Node n version_offset)) (Cached w) _ (knows.here, omega arith) has (λ alike. other n 0 (word_of alike))
+  step_cached (locks {n = n} same named live between) e knows w has other = at-set_other l words (Cached (Node n version_offset)) (Cached w) _ (knows.word.here, omega arith) has (λ alike. other n 0 (word_of alike))
   step_cached (locks_read {n = n} same named live between unworn taken small) e knows w has other = at-set_other l words (Cached (Node n version_offset)) (Cached w) _ (knows.here, omega arith) has (λ alike. other n 0 (word_of alike))
   step_cached (stores {n = n} {y = y} {offset = offset} has_word content small clean soils learnt means) e knows w has other =
       at-set_other l words (Cached (Node n offset)) (Cached w) y has_word has (λ alike. other n offset (word_of alike))

@@ -105,8 +105,8 @@ module _ (l : Layout) (g : ℕ) (f : Facts) (caller index since : ℕ) where
         → Sure l g (merge_after k f) caller index since t
     merge_mine (meets {n = n} {w = w} {m = m} {v = v} {u = u} {h = h} here same untimed leads) e knows =
         let is : f.version m ≡ v = sym e ∙ same in
-        let free : IsFree (f.version m) g = subst (λ (z : ℕ). IsFree z g) (sym is) knows.1.unlocked in
-        let one : m ≢ n = (λ d. unfree w g knows.0.lock (subst (λ (z : ℕ). IsFree z g) (sym is ∙ ap f.version d ∙ knows.0.stands) knows.1.unlocked)) in
+        let free : IsFree (f.version m) g = subst (λ (z : ℕ). IsFree z g) (sym is) knows.1.word.free in
+        let one : m ≢ n = (λ d. unfree w g knows.0.lock (subst (λ (z : ℕ). IsFree z g) (sym is ∙ ap f.version d ∙ knows.0.stands) knows.1.word.free)) in
         let to : f.now n next_offset ≡ m = leads (f.now n) knows.0.knows in
         let listed : IsListed f m = subst (IsListed f) to (leads_on l f list n (inside_listed l f list n h.name knows.0.inside) (λ z. knows.1.nonzero (sym to ∙ z))) in (
           holds_kept l g f (with_version f m u) (later-version l f m u) n (steady-version l f m u n (λ d. one (sym d))) caller index since w h knows.0,
@@ -114,7 +114,7 @@ module _ (l : Layout) (g : ℕ) (f : Facts) (caller index since : ℕ) where
             still = knows.1.clean;
             untimed = untimed.untimed;
             unmerged = untimed.unmerged;
-            grip = record { here = here; stands = ap (λ (b : Bool). cond b u (f.version m)) (eq-eqb m m refl); lock = own_lock v u g knows.1.known knows.1.unworn knows.1.lock; seen = tt; hand = tt };
+            grip = record { here = here; stands = ap (λ (b : Bool). cond b u (f.version m)) (eq-eqb m m refl); lock = own_lock v u g knows.1.word.known knows.1.word.unworn knows.1.word.lock; seen = tt; hand = tt };
             copies = tt;
             apart = λ d. one (sym d);
             nonzero = knows.1.nonzero;

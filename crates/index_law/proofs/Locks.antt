@@ -259,8 +259,8 @@ module _ {l : Layout} {g : ℕ} (f : Facts) (caller index since : ℕ) where
   merge_rises : {s : Stage} {a : Action} {x : ℕ} {t : Stage} → (k : Merge l g s a x t) → MergeGave k f → Sure l g f caller index since s → (m : ℕ) → f.version m ≤ (merge_after k f).version m
   merge_rises (meets {m = y} {v = v} {u = u} here same untimed leads) e mine m =
       let is : f.version y ≡ v = sym e ∙ same in
-      let rise = locked-rises v g mine.1.known mine.1.unlocked in
-      let lock = mine.1.lock in
+      let rise = locked-rises v g mine.1.word.known mine.1.word.free in
+      let lock = mine.1.word.lock in
       rises-version l f y u (omega arith) m
   merge_rises (knows_own has positive learnt) e mine m = omega arith
   merge_rises (knows_right has positive told) e mine m = omega arith
@@ -281,8 +281,8 @@ module _ {l : Layout} {g : ℕ} (f : Facts) (caller index since : ℕ) where
   rises (looks look) e mine m = omega arith
   rises (locks {n = n} {v = v} {w = w} same named live between) e mine m =
       let is : f.version n ≡ v = sym e ∙ same in
-      let rise = locked-rises v g mine.known mine.free in
-      let lock = mine.lock in
+      let rise = locked-rises v g mine.word.known mine.word.free in
+      let lock = mine.word.lock in
       rises-version l f n w (omega arith) m
   rises (locks_read {n = n} {v = v} {w = w} same named live between unworn taken small) e mine m =
       let is : f.version n ≡ v = sym e ∙ same in
@@ -296,8 +296,8 @@ module _ {l : Layout} {g : ℕ} (f : Facts) (caller index since : ℕ) where
   rises (unlocks {n = n} {f = freed} next pending durable unready answers) e mine m = let is = mine.stands in rises-version l f n freed (omega arith) m
   rises (claims {m = y} {v = v} {u = u} unplaced here same) e mine m =
       let is : f.version y ≡ v = sym e ∙ same in
-      let rise = locked-rises v g mine.1.known mine.1.unlocked in
-      let lock = mine.1.lock in
+      let rise = locked-rises v g mine.1.word.known mine.1.word.free in
+      let lock = mine.1.word.lock in
       rises-version l f y u (omega arith) m
   rises (publishes {freed = freed} {fresh = fresh} next left fresh') e mine m = let is = mine.new.stands in rises-version l f fresh.node freed (omega arith) m
   rises (leaves {freed = freed} {left = left} next) e mine m = let is = mine.grip.stands in rises-version l f left.node freed (omega arith) m
@@ -453,7 +453,7 @@ module _ {l : Layout} {g : ℕ} (f : Facts) (caller index since : ℕ) where
   merge_before (meets here same untimed leads) e mine m (inl lock) = inl lock
   merge_before (meets here same untimed leads) e mine m (inr lock) =
       let is = sym (ap f.version (sym lock) ∙ sym e ∙ same) in
-      inr (subst (λ (v : ℕ). IsFree v g) is mine.1.unlocked, λ worn. mine.1.unworn (subst (λ (v : ℕ). IsWorn v g) (sym is) worn))
+      inr (subst (λ (v : ℕ). IsFree v g) is mine.1.word.free, λ worn. mine.1.word.unworn (subst (λ (v : ℕ). IsWorn v g) (sym is) worn))
   merge_before (knows_own has positive learnt) e mine m lock = inl lock
   merge_before (knows_right has positive told) e mine m lock = inl lock
   merge_before (copies has content small soils learnt means) e mine m lock = inl lock
@@ -471,7 +471,7 @@ module _ {l : Layout} {g : ℕ} (f : Facts) (caller index since : ℕ) where
   pub lock_before : {s : Stage} {a : Action} {x : ℕ} {t : Stage} {r : Option (Once Placed)} → (k : Step l g s a x t r) → Gives k f → Sure l g f caller index since s
       → (m : ℕ) → HoldsNode t m → HoldsNode s m ⊎ IsFree (f.version m) g
   lock_before (looks look) e mine m lock = inl ((look_holds look m).1 lock)
-  lock_before (locks {n = n} same named live between) e mine m lock = inr (subst (λ (v : ℕ). IsFree v g) (sym (ap f.version (sym lock) ∙ sym e ∙ same)) mine.free)
+  lock_before (locks {n = n} same named live between) e mine m lock = inr (subst (λ (v : ℕ). IsFree v g) (sym (ap f.version (sym lock) ∙ sym e ∙ same)) mine.word.free)
   lock_before (locks_read {n = n} same named live between unworn taken small) e mine m lock = inr (subst (λ (v : ℕ). IsFree v g) (sym (ap f.version (sym lock) ∙ sym e ∙ same)) mine.free)
   lock_before (stores has content small clean soils learnt means) e mine m lock = inl lock
   lock_before (commits has content small clean durable soiled old about learnt means) e mine m lock = inl lock
@@ -479,7 +479,7 @@ module _ {l : Layout} {g : ℕ} (f : Facts) (caller index since : ℕ) where
   lock_before (counts durable ready pending unplaced) e mine m lock = inl lock
   lock_before (unlocks next pending durable unready answers) e mine m lock = absurd lock
   lock_before (claims unplaced here same) e mine m (inl lock) = inl lock
-  lock_before (claims unplaced here same) e mine m (inr lock) = inr (subst (λ (v : ℕ). IsFree v g) (sym (ap f.version (sym lock) ∙ sym e ∙ same)) mine.1.unlocked)
+  lock_before (claims unplaced here same) e mine m (inr lock) = inr (subst (λ (v : ℕ). IsFree v g) (sym (ap f.version (sym lock) ∙ sym e ∙ same)) mine.1.word.free)
   lock_before (publishes next left fresh) e mine m lock = inl (inl lock)
   lock_before (leaves next) e mine m lock = absurd lock
   lock_before (splits k) e mine m lock = inl ((split_holds k m).1 lock)
@@ -489,7 +489,7 @@ module _ {l : Layout} {g : ℕ} (f : Facts) (caller index since : ℕ) where
   taken_unworn : {s : Stage} {a : Action} {x : ℕ} {t : Stage} {r : Option (Once Placed)} → (k : Step l g s a x t r) → Gives k f → Sure l g f caller index since s
       → (m : ℕ) → HoldsNode t m → HoldsNode s m ⊎ (IsWorn (f.version m) g → ⊥)
   taken_unworn (looks look) e mine m lock = inl ((look_holds look m).1 lock)
-  taken_unworn (locks {n = n} same named live between) e mine m lock = inr (λ worn. mine.unworn (subst (λ (v : ℕ). IsWorn v g) (ap f.version (sym lock) ∙ sym e ∙ same) worn))
+  taken_unworn (locks {n = n} same named live between) e mine m lock = inr (λ worn. mine.word.unworn (subst (λ (v : ℕ). IsWorn v g) (ap f.version (sym lock) ∙ sym e ∙ same) worn))
   taken_unworn (locks_read {n = n} same named live between unworn taken small) e mine m lock = inr (λ worn. unworn (subst (λ (v : ℕ). IsWorn v g) (ap f.version (sym lock) ∙ sym e ∙ same) worn))
   taken_unworn (stores has content small clean soils learnt means) e mine m lock = inl lock
   taken_unworn (commits has content small clean durable soiled old about learnt means) e mine m lock = inl lock
@@ -497,7 +497,7 @@ module _ {l : Layout} {g : ℕ} (f : Facts) (caller index since : ℕ) where
   taken_unworn (counts durable ready pending unplaced) e mine m lock = inl lock
   taken_unworn (unlocks next pending durable unready answers) e mine m lock = absurd lock
   taken_unworn (claims unplaced here same) e mine m (inl lock) = inl lock
-  taken_unworn (claims unplaced here same) e mine m (inr lock) = inr (λ worn. mine.1.unworn (subst (λ (v : ℕ). IsWorn v g) (ap f.version (sym lock) ∙ sym e ∙ same) worn))
+  taken_unworn (claims unplaced here same) e mine m (inr lock) = inr (λ worn. mine.1.word.unworn (subst (λ (v : ℕ). IsWorn v g) (ap f.version (sym lock) ∙ sym e ∙ same) worn))
   taken_unworn (publishes next left fresh) e mine m lock = inl (inl lock)
   taken_unworn (leaves next) e mine m lock = absurd lock
   taken_unworn (splits k) e mine m lock = inl ((split_holds k m).1 lock)
@@ -536,7 +536,7 @@ module _ {l : Layout} {g : ℕ} (f : Facts) (caller index since : ℕ) where
 
   merge_known : {s : Stage} {a : Action} {x : ℕ} {t : Stage} → (k : Merge l g s a x t) → Sure l g f caller index since s → AreKnown l g f → AreKnown l g (merge_after k f)
   merge_known (meets {m = y} {v = v} {u = u} here same untimed leads) mine known m within =
-      known_after l g f y u (let own = (own_lock v u g mine.1.known mine.1.unworn mine.1.lock).own in omega arith) known m within
+      known_after l g f y u (let own = (own_lock v u g mine.1.word.known mine.1.word.unworn mine.1.word.lock).own in omega arith) known m within
   merge_known (knows_own has positive learnt) mine known m within = known m within
   merge_known (knows_right has positive told) mine known m within = known m within
   merge_known (copies has content small soils learnt means) mine known m within = known m within
@@ -557,7 +557,7 @@ module _ {l : Layout} {g : ℕ} (f : Facts) (caller index since : ℕ) where
       → AreKnown l g f → AreKnown l g (fact_after k f caller index)
   stays_known (looks look) mine known m here = known m here
   stays_known (locks {n = n} {v = v} {w = w} same named live between) mine known m here =
-      known_after l g f n w (let own = (own_lock v w g mine.known mine.unworn mine.lock).own in omega arith) known m here
+      known_after l g f n w (let own = (own_lock v w g mine.word.known mine.word.unworn mine.word.lock).own in omega arith) known m here
   stays_known (locks_read {n = n} {v = v} {w = w} same named live between unworn taken small) mine known m here =
       known_after l g f n w (let own = (own_lock v w g mine.known unworn taken).own in omega arith) known m here
   stays_known (stores has content small clean soils learnt means) mine known m here = known m here
@@ -567,7 +567,7 @@ module _ {l : Layout} {g : ℕ} (f : Facts) (caller index since : ℕ) where
   stays_known (unlocks {n = n} {w = w} {f = freed} next pending durable unready answers) mine known m here =
       known_after l g f n freed (subst (λ (v : ℕ). generation_of v ≤ g) (sym next) (freed-known w g mine.lock)) known m here
   stays_known (claims {m = y} {v = v} {u = u} unplaced here same) mine known m within =
-      known_after l g f y u (let own = (own_lock v u g mine.1.known mine.1.unworn mine.1.lock).own in omega arith) known m within
+      known_after l g f y u (let own = (own_lock v u g mine.1.word.known mine.1.word.unworn mine.1.word.lock).own in omega arith) known m within
   stays_known (publishes {freed = freed} {fresh = fresh} next left fresh') mine known m within =
       known_after l g f fresh.node freed (subst (λ (v : ℕ). generation_of v ≤ g) (sym next) (freed-known fresh.lock g mine.new.lock)) known m within
   stays_known (leaves {freed = freed} {left = left} next) mine known m within =

@@ -290,7 +290,7 @@ module _ {l : Layout} {g : ℕ} where
 
   module _ (ws : List ℕ) (base : Map) (h : List Write) (caller index since : ℕ) where
     here : {n v w : ℕ} {k : Sight} → Sure l g (facts_of l ws base h) caller index since (Saw n v w k) → n < l.nodes
-    here knows = knows.here
+    here knows = knows.word.here
 
     read_gave : {s : Stage} {a : Action} {x : ℕ} {t : Stage} {r : Option (Once Placed)} → (k : Read l g s a x t r) → slice_index ws (clock_address l) ≡ length h
         → x ≡ got l ws a → ReadGave k (facts_of l ws base h)

@@ -99,7 +99,7 @@ allow_law l g s a x t r within (unlocks next pending durable unready answers) = 
 -- who is sure of its node names one of the layout's
 pub sure_within : (l : Layout) (g : ℕ) (f : Facts) (caller index since : ℕ) (s : Stage) → Sure l g f caller index since s → IsWithin l s
 sure_within l g f caller index since Idle knows = tt
-sure_within l g f caller index since (Saw n v w k) knows = knows.here
+sure_within l g f caller index since (Saw n v w k) knows = knows.word.here
 sure_within l g f caller index since (Holds n w h) knows = knows.here
 sure_within l g f caller index since (Eyes n w h m v u free) knows = tt
 sure_within l g f caller index since (Splits left fresh phase) knows = knows.new.here
@@ -149,11 +149,7 @@ module _ {l : Layout} {g : ℕ} (f : Facts) (caller index since : ℕ) where
     look_mine (roams_status here) e knows = knows
     look_mine (is_worn has) e knows = tt
     look_mine (sees {s = s} {n = n} loose here free unworn lock) e knows = record {
-      here = here;
-      known = subst (λ (v : ℕ). generation_of v ≤ g) (sym e) (known n here);
-      free = free;
-      unworn = unworn;
-      lock = lock;
+      word = record { here = here; known = subst (λ (v : ℕ). generation_of v ≤ g) (sym e) (known n here); free = free; unworn = unworn; lock = lock };
       seen = omega (arith, e);
       leads = λ no. absurd (let none : false ≡ true = no in cc);
       stands = λ is. record {
@@ -164,7 +160,7 @@ module _ {l : Layout} {g : ℕ} (f : Facts) (caller index since : ℕ) where
     }
     look_mine (finds_live {n = n} {v = v} {w = w} {k = k} here is) e knows =
         saw_on l g f f n v w k (record k { live = true }) knows.seen (λ _. live_part.leads n here (sym e ∙ is))
-        (λ same. stands_live f n k (live_part.listed n here (sym e ∙ is) (subst (λ (u : ℕ). IsFree u g) (sym same) knows.free)) (knows.stands same)) knows
+        (λ same. stands_live f n k (live_part.listed n here (sym e ∙ is) (subst (λ (u : ℕ). IsFree u g) (sym same) knows.word.free)) (knows.stands same)) knows
     look_mine (watches {n = n} {v = v} {w = w} {x = x} {offset = offset} {k = k} {k' = k'} has positive live next learnt) e knows =
         saw_on l g f f n v w k k' knows.seen (λ is. knows.leads (sym live ∙ is)) (λ same. stands_word f n offset x k k' live next learnt e (knows.stands same)) knows
     look_mine (watches_next {n = n} {v = v} {w = w} {m = m} {x = x} {offset = offset} {k = k} {k' = k'} has low high ne live live' next leads learnt) e knows =
@@ -179,12 +175,8 @@ module _ {l : Layout} {g : ℕ} (f : Facts) (caller index since : ℕ) where
       record {
         clean = clean;
         durable = durable;
-        here = here;
         nonzero = nonzero;
-        known = subst (λ (v : ℕ). generation_of v ≤ g) (sym e) (known m here);
-        unlocked = free;
-        unworn = unworn;
-        lock = lock;
+        word = record { here = here; known = subst (λ (v : ℕ). generation_of v ≤ g) (sym e) (known m here); free = free; unworn = unworn; lock = lock };
         seen = omega (arith, e);
         stands = λ is no. absurd (let none : false ≡ true = no in cc);
       },
@@ -270,7 +262,7 @@ module _ {l : Layout} {g : ℕ} (f : Facts) (caller index since : ℕ) where
         → Sure l g (fact_after k f caller index) caller index since t
     mine (looks look) e knows = look_mine look e knows
     mine (locks {n = n} {v = v} {w = w} {k = k} {name = name} same named live between) e knows =
-        locked n v w k name live between (knows.stands (sym e ∙ same)) (sym e ∙ same) knows.here knows.free (own_lock v w g knows.known knows.unworn knows.lock) named
+        locked n v w k name live between (knows.stands (sym e ∙ same)) (sym e ∙ same) knows.word.here knows.word.free (own_lock v w g knows.word.known knows.word.unworn knows.word.lock) named
     mine (locks_read {n = n} {v = v} {w = w} {k = k} {name = name} same named live between unworn taken small) e knows =
         locked n v w k name live between (knows.stands (sym e ∙ same)) (sym e ∙ same) knows.here knows.free (own_lock v w g knows.known unworn taken) named
     mine (stores {n = n} {y = y} {offset = offset} {h = h} {k = k} has content small clean soils learnt means) e knows = record {
@@ -351,11 +343,11 @@ module _ {l : Layout} {g : ℕ} (f : Facts) (caller index since : ℕ) where
         old_then (Some old) was same = same ∙ was
     mine (unlocks next pending durable unready answers) e knows = tt
     mine (claims {n = n} {w = w} {m = m} {v = v} {u = u} {h = h} unplaced here same) e knows =
-        let one : m ≢ n = (λ d. unfree w g knows.0.lock (subst (λ (z : ℕ). IsFree z g) (sym (sym e ∙ same) ∙ ap f.version d ∙ knows.0.stands) knows.1.unlocked)) in
+        let one : m ≢ n = (λ d. unfree w g knows.0.lock (subst (λ (z : ℕ). IsFree z g) (sym (sym e ∙ same) ∙ ap f.version d ∙ knows.0.stands) knows.1.word.free)) in
         let status = knows.1.stands (sym e ∙ same) refl in
         record {
           full = record { here = knows.0.here; stands = ap (λ (b : Bool). cond b u (f.version n)) (ne_eqb n m (λ d. one (sym d))) ∙ knows.0.stands; lock = knows.0.lock; seen = knows.0.knows.seen; hand = tt };
-          new = record { here = here; stands = ap (λ (b : Bool). cond b u (f.version m)) (eq-eqb m m refl); lock = own_lock v u g knows.1.known knows.1.unworn knows.1.lock; seen = tt; hand = tt };
+          new = record { here = here; stands = ap (λ (b : Bool). cond b u (f.version m)) (eq-eqb m m refl); lock = own_lock v u g knows.1.word.known knows.1.word.unworn knows.1.word.lock; seen = tt; hand = tt };
           apart = λ d. one (sym d);
           nonzero = knows.1.nonzero;
           at = record {

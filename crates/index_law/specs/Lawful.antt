@@ -58,14 +58,18 @@ pub record Stands (f : Facts) (n : ℕ) (k : Sight) : Type 0 where
   pub sees : Sees k (f.now n) (f.now (f.now n next_offset))
   pub leads : k.next ≢ 0 → IsListed f n
 
--- If the version word is still the one that it saw, the node is listed, and its words and the anchor of the node that
--- it leads to are as seen.
-pub record SureSaw (l : Layout) (g : ℕ) (f : Facts) (n v w : ℕ) (k : Sight) : Type 0 where
+-- The version word of this node, as it was loaded, is free and not worn, and this is the word that takes it.
+pub record CanBeTaken (l : Layout) (g n v w : ℕ) : Type 0 where
   pub here : n < l.nodes
   pub known : generation_of v ≤ g
   pub free : IsFree v g
   pub unworn : IsWorn v g → ⊥
   pub lock : w ≡ locked_word g (kept_count v g)
+
+-- If the version word is still the one that it saw, the node is listed, and its words and the anchor of the node that
+-- it leads to are as seen.
+pub record SureSaw (l : Layout) (g : ℕ) (f : Facts) (n v w : ℕ) (k : Sight) : Type 0 where
+  pub word : CanBeTaken l g n v w
   pub seen : v ≤ f.version n
   pub leads : k.live ≡ true → f.now n next_offset < l.nodes
   pub stands : f.version n ≡ v → Stands f n k
@@ -174,12 +178,8 @@ pub record SureSplits (l : Layout) (g : ℕ) (f : Facts) (left fresh : Grip) (ph
 pub record SureEyes (l : Layout) (g : ℕ) (f : Facts) (h : Held) (m v u : ℕ) (free : Bool) : Type 0 where
   pub clean : IsStill h
   pub durable : h.dirty ≡ []
-  pub here : m < l.nodes
   pub nonzero : m ≢ 0
-  pub known : generation_of v ≤ g
-  pub unlocked : IsFree v g
-  pub unworn : IsWorn v g → ⊥
-  pub lock : u ≡ locked_word g (kept_count v g)
+  pub word : CanBeTaken l g m v u
   pub seen : v ≤ f.version m
   pub stands : f.version m ≡ v → free ≡ true → f.status m ≡ free_status
 

@@ -86,7 +86,7 @@ module _ (l : Layout) (g : ℕ) (f : Facts) (holder : ℕ → ℕ) (i caller ind
   apart_lock n m v x told same free held = other holder n m i (λ e. held (subst (λ (w : ℕ). IsFree w g) (sym same ∙ told ∙ ap f.version (sym e)) free))
 
   merge_others : {s : Stage} {a : Action} {x : ℕ} {t : Stage} → (k : Merge l g s a x t) → MergeGave k f → Sure l g f caller index since s → (m : ℕ) → (IsFree (f.version m) g → ⊥) → holder_after (merges k) holder i m ≡ holder m
-  merge_others (meets {x = x} {m = n} {v = v} within same untimed leads) given sure m held = apart_lock n m v x given same sure.1.unlocked held
+  merge_others (meets {x = x} {m = n} {v = v} within same untimed leads) given sure m held = apart_lock n m v x given same sure.1.word.free held
   merge_others (knows_own has positive learnt) given sure m held = refl
   merge_others (knows_right has positive told) given sure m held = refl
   merge_others (copies has content small soils learnt means) given sure m held = refl
@@ -102,14 +102,14 @@ module _ (l : Layout) (g : ℕ) (f : Facts) (holder : ℕ → ℕ) (i caller ind
 
   pub others_after : {s : Stage} {a : Action} {x : ℕ} {t : Stage} {r : Option (Once Placed)} (k : Step l g s a x t r) → Gives k f → Sure l g f caller index since s → (m : ℕ) → (IsFree (f.version m) g → ⊥) → holder_after k holder i m ≡ holder m
   others_after (looks look) given sure m held = refl
-  others_after (locks {n = n} {v = v} {x = x} same named live between) given sure m held = apart_lock n m v x given same sure.free held
+  others_after (locks {n = n} {v = v} {x = x} same named live between) given sure m held = apart_lock n m v x given same sure.word.free held
   others_after (locks_read {n = n} {v = v} {x = x} same named live between unworn taken small) given sure m held = apart_lock n m v x given same sure.free held
   others_after (stores has content small clean soils learnt means) given sure m held = refl
   others_after (commits has content small clean durable soiled old about learnt means) given sure m held = refl
   others_after (drains has small unready hand cleans) given sure m held = refl
   others_after (counts durable ready pending unplaced) given sure m held = refl
   others_after (unlocks next pending durable unready answers) given sure m held = refl
-  others_after (claims {x = x} {m = n} {v = v} unplaced within same) given sure m held = apart_lock n m v x given same sure.1.unlocked held
+  others_after (claims {x = x} {m = n} {v = v} unplaced within same) given sure m held = apart_lock n m v x given same sure.1.word.free held
   others_after (publishes next left fresh) given sure m held = refl
   others_after (leaves next) given sure m held = refl
   others_after (splits k) given sure m held = refl

@@ -184,7 +184,7 @@ module _ (l : Layout) (g : ℕ) (words : List ℕ) (base : Map) (history : List 
       let version : f.version m ≡ v = sym given ∙ same in
       let next : f.now n next_offset ≡ m = leads (f.now n) sure.0.knows in
       let listed : IsListed f m = subst (IsListed f) next (leads_on l f context.list n (inside_listed l f context.list n _ sure.0.inside) (λ none. sure.1.nonzero (sym next ∙ none))) in
-      lock context m u listed (subst (λ w. IsFree w g) (sym version) sure.1.unlocked) (λ worn. sure.1.unworn (subst (λ w. IsWorn w g) version worn)) (own_lock v u g sure.1.known sure.1.unworn sure.1.lock)
+      lock context m u listed (subst (λ w. IsFree w g) (sym version) sure.1.word.free) (λ worn. sure.1.word.unworn (subst (λ w. IsWorn w g) version worn)) (own_lock v u g sure.1.word.known sure.1.word.unworn sure.1.word.lock)
   merge_moved (knows_own has positive learnt) given context line sure_line minds gives = inl refl
   merge_moved (knows_right has positive told) given context line sure_line minds gives = inl refl
   merge_moved (copies {n = n} {y = y} {offset = offset} has content small soils learnt means) given context line sure_line minds gives = inl (content_path l g f (rest_in l words) holder n offset y content)
@@ -222,7 +222,7 @@ module _ (l : Layout) (g : ℕ) (words : List ℕ) (base : Map) (history : List 
   moved (locks {n = n} {v = v} {w = w} same named live between) given context line sure_line minds gives =
       let sure = context.sure in
       let version : f.version n ≡ v = sym given ∙ same in
-      lock context n w ((sure.stands version).listed live) (subst (λ u. IsFree u g) (sym version) sure.free) (λ worn. sure.unworn (subst (λ u. IsWorn u g) version worn)) (own_lock v w g sure.known sure.unworn sure.lock)
+      lock context n w ((sure.stands version).listed live) (subst (λ u. IsFree u g) (sym version) sure.word.free) (λ worn. sure.word.unworn (subst (λ u. IsWorn u g) version worn)) (own_lock v w g sure.word.known sure.word.unworn sure.word.lock)
   moved (locks_read {n = n} {v = v} {w = w} same named live between unworn taken small) given context line sure_line minds gives =
       let sure = context.sure in
       let version : f.version n ≡ v = sym given ∙ same in
@@ -237,8 +237,8 @@ module _ (l : Layout) (g : ℕ) (words : List ℕ) (base : Map) (history : List 
   moved (claims {m = m} {v = v} {u = u} unplaced here same) given context line sure_line minds gives =
       let eyes = context.sure.1 in
       let version : f.version m ≡ v = sym given ∙ same in
-      inr (subst (others.OtherStep F) (sym (lock_path l g f (rest_in l words) holder m u i (own_lock v u g eyes.known eyes.unworn eyes.lock) (not_worn (f.version m) g (λ worn. eyes.unworn (subst (λ w. IsWorn w g) version worn)))))
-      (others.claims i m (eyes.stands version refl) (unheld (f.version m) g (subst (λ w. IsFree w g) (sym version) eyes.unlocked))))
+      inr (subst (others.OtherStep F) (sym (lock_path l g f (rest_in l words) holder m u i (own_lock v u g eyes.word.known eyes.word.unworn eyes.word.lock) (not_worn (f.version m) g (λ worn. eyes.word.unworn (subst (λ w. IsWorn w g) version worn)))))
+      (others.claims i m (eyes.stands version refl) (unheld (f.version m) g (subst (λ w. IsFree w g) (sym version) eyes.word.free))))
   moved (publishes {freed = freed} {left = left} {fresh = fresh} next clean_left clean_fresh) given context line sure_line minds gives =
       let sure = context.sure in
       unlock context fresh.node fresh.lock freed next sure.new.stands sure.new.lock (context.holders fresh.node (inr refl))

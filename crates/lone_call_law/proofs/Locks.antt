@@ -167,11 +167,11 @@ module _ {l : Layout} {g : ℕ} (before : ℕ → ℕ) (f : Facts) (caller index
   takes_both : (n w m v u : ℕ) → v ≡ f.version m → IsOwnLock g w → f.version n ≡ w → {h : Held} {free : Bool} → SureEyes l g f h m v u free → IsLockedOnce g before f.version n w
       → AreLocked g before (λ k. if k == m then u else f.version k) n w m u
   takes_both n w m v u found own stands sees_it has =
-      let apart : m ≢ n = (λ same_node. unfree w g own (subst (λ (y : ℕ). IsFree y g) (found ∙ ap f.version same_node ∙ stands) sees_it.unlocked)) in
+      let apart : m ≢ n = (λ same_node. unfree w g own (subst (λ (y : ℕ). IsFree y g) (found ∙ ap f.version same_node ∙ stands) sees_it.word.free)) in
       let was : v ≡ before m = found ∙ has.others m apart in
       record {
         one = has.taken;
-        two = taken_from v (before m) u g was sees_it.known sees_it.unworn sees_it.lock;
+        two = taken_from v (before m) u g was sees_it.word.known sees_it.word.unworn sees_it.word.lock;
         others = λ k not_n not_m. passes_by f.version m u k not_m ∙ has.others k not_n;
       }
 
@@ -181,7 +181,7 @@ module _ {l : Layout} {g : ℕ} (before : ℕ → ℕ) (f : Facts) (caller index
   step_locks (locks {n = n} {v = v} {w = w} same named live between) e knows has one =
       let was : v ≡ before n = sym same ∙ e ∙ has n in
       holds_once g before (λ m. if m == n then w else f.version m) after n w (record {
-        taken = taken_from v (before n) w g was knows.known knows.unworn knows.lock;
+        taken = taken_from v (before n) w g was knows.word.known knows.word.unworn knows.word.lock;
         others = λ m other. passes_by f.version n w m other ∙ has m;
       })
   step_locks (locks_read {n = n} {v = v} {w = w} same named live between unworn taken small) e knows has one =
