@@ -89,7 +89,7 @@ module _ (s0 s s' : Index) (i : ℕ) (low : List ℕ) (count : ℕ) (result : Op
 
   -- its last action gives its version word
   its_word : (words : PartWords) → HasListed s i words → Confirms m (told s m) words
-  its_word words h = listed_word s.layout s0.words s.words m words (its_own words h) (subst (λ (l : Layout). IsThere l s0.words s.words m) (sym o.call.trying.layout) o.call.stands) o.call.sound.here o.call.sound.layout
+  its_word words h = listed_word s.layout s0.words s.words m words (its_own words h) (subst (λ (l : Layout). IsThere l s0.words s.words m) (sym o.call.trying.start.layout) o.call.stands) o.call.sound.here o.call.sound.layout
 
   -- how many names it sorted
   sorts : (words : PartWords) → HasListed s i words → (names : ℕ) → HasCompared (reading_of m) names words → SortsIfStale s0 s' words.node names words

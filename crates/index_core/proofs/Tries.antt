@@ -265,11 +265,11 @@ loses_fewest s0 s layout generation loses =
 
 -- so it is wherever a call in flight has come
 pub flight_each : (s0 s : Index) (i : ℕ) (c : CoreCall) → Lone s0 s i c → LoseAtMost 1 s0 s
-flight_each s0 s i c o = loses_each s0 s o.call.trying.generation (lone_calls_lose (world s0) i (op_of c) (limit_of c) (world s) (party_of (state_with o.state (length s0.history) o.machine)) o.machine o.call)
+flight_each s0 s i c o = loses_each s0 s o.call.trying.start.generation (lone_calls_lose (world s0) i (op_of c) (limit_of c) (world s) (party_of (state_with o.state (length s0.history) o.machine)) o.machine o.call)
 
 pub flight_locks : (s0 s : Index) (i : ℕ) (c : CoreCall) → Lone s0 s i c → locks_left s0 ≤ locks_left s + 1
 flight_locks s0 s i c o =
-    loses_fewest s0 s o.call.trying.layout o.call.trying.generation
+    loses_fewest s0 s o.call.trying.start.layout o.call.trying.start.generation
     (lone_calls_lose (world s0) i (op_of c) (limit_of c) (world s) (party_of (state_with o.state (length s0.history) o.machine)) o.machine o.call)
 
 module _ (s0 s s' : Index) (i : ℕ) (c : CoreCall) (result : Option (Once Placed)) (o : Lone s0 s i c) (t : TurnsOn s i s' result) where
@@ -334,10 +334,10 @@ module _ (s0 s s' : Index) (i : ℕ) (c : CoreCall) (result : Option (Once Place
   facts_are next = ap (λ (v : Index). facts (world v)) is
 
   same_generation : s'.generation ≡ s0.generation
-  same_generation = ap (λ (v : Index). v.generation) is ∙ o.call.trying.generation
+  same_generation = ap (λ (v : Index). v.generation) is ∙ o.call.trying.start.generation
 
   same_layout : s'.layout ≡ s0.layout
-  same_layout = ap (λ (v : Index). v.layout) is ∙ o.call.trying.layout
+  same_layout = ap (λ (v : Index). v.layout) is ∙ o.call.trying.start.layout
 
   same_stamps : stamp_in (world s') ≡ stamp_in (world s0)
   same_stamps = ap (λ (v : Index). stamp_in (world v)) is ∙ step_leaves_stamps s i e o.machine s'.spare o.index at_i refl ∙ o.stamps
@@ -507,7 +507,7 @@ module _ (s0 s s' : Index) (i : ℕ) (c : CoreCall) (result : Option (Once Place
     ended_ways : LengthenWithin (world s0) (stepped (world s) i p (running_asks o.machine) Idle)
     ended_ways =
         tries_lengthen (name_asked (op_of c)) (change_of (op_of c)) (world s0) (stepped (world s) i p (running_asks o.machine) Idle) p.stage o.state.caller answer
-        o.call.trying.layout o.call.trying.generation (walks_come s0 o.before o.still.calls).quiet
+        o.call.trying.start.layout o.call.trying.start.generation (walks_come s0 o.before o.still.calls).quiet
         (subst (λ (v : Index). AreQuiet v.layout v.generation (nodes_of (world v))) is (walks_come s' t.index (lone_none answer answered)).quiet)
         ended_nodes.0 ended_nodes.1 (subst (AfterCall (world s0) i (op_of c) (limit_of c) (world s) p o.machine) done goes).3 ended_log.1
 

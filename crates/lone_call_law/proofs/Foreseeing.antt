@@ -142,7 +142,7 @@ module _ (name : List ℕ) (w0 : World) (i : ℕ) (w : World) (p : Party) (o : T
     had = had_was name own w0 i w' p' trying call.node hold.locked held (Some hit.value) (slot_stage call hold bitmap hit) named refl refl
 
     halves : call.view.layout.slots / 2 ≡ w0.layout.slots / 2
-    halves = ap (λ (l : Layout). l.slots / 2) (layout ∙ o.layout)
+    halves = ap (λ (l : Layout). l.slots / 2) (layout ∙ o.start.layout)
 
     keeps : length (names_at (remove (map_now (facts w0)) name) (anchors_in w0) name) ≡ names_left call bitmap hit
     keeps =

@@ -538,10 +538,10 @@ module _ (w0 : World) (i : ℕ) (asked : NameOp) (limit : Option ℕ) (w : World
   is_for = subst (IsFor (name_asked asked) own) (sym o.stage) (machine_for w0 asked machine o.of o.foresees)
 
   layout_is : (running_call machine).view.layout ≡ w0.layout
-  layout_is = o.sound.layout ∙ o.trying.layout
+  layout_is = o.sound.layout ∙ o.trying.start.layout
 
   generation_is : (running_call machine).view.generation ≡ w0.generation
-  generation_is = o.sound.generation ∙ o.trying.generation
+  generation_is = o.sound.generation ∙ o.trying.start.generation
 
   -- the version word of a node that it holds alone while it splits
   mine_word : KnowsOwn l w.words machine
@@ -637,7 +637,7 @@ module _ (w0 : World) (i : ℕ) (asked : NameOp) (limit : Option ℕ) (w : World
   own_line = subst (HasLine w0.layout w0.words) o.own
 
   since_is : p.since ≡ length w0.history
-  since_is = o.trying.since
+  since_is = o.trying.start.since
 
   -- once its clock was below its limit
   in_time : limit_in (stage_of machine) ≡ (running_call machine).limit → IsLate w0 limit → ⊥
@@ -688,9 +688,9 @@ module _ (w0 : World) (i : ℕ) (asked : NameOp) (limit : Option ℕ) (w : World
   had_room (op.Put name value) named rest' history kept finds =
       let list = kept tt in
       let map_is : map_now (facts w') ≡ insert (map_now (facts w0)) name value =
-      (λ k. after_all (o.trying.base k) (history k)) ∙ after_all-push w0.base w0.history (record { caller = p.caller; index = p.index; change = change.Put name value }) in
+      (λ k. after_all (o.trying.start.base k) (history k)) ∙ after_all-push w0.base w0.history (record { caller = p.caller; index = p.index; change = change.Put name value }) in
       let now : (other : List ℕ) → at (map_now (facts w')) other ≡ at (insert (map_now (facts w0)) name value) other = λ other. ap (λ m. at m other) map_is in
-      let fewer = added_had_room w0 w' name rest rest' o.trying.layout list named finds.0
+      let fewer = added_had_room w0 w' name rest rest' o.trying.start.layout list named finds.0
       (subst IsSome (sym (now name ∙ changed_found (map_now (facts w0)) (change.Put name value))) refl)
       (λ other number is. subst IsSome (sym (now other)) (still_there (map_now (facts w0)) name value other number is)) in
       let same = finds.1 in
@@ -704,7 +704,7 @@ module _ (w0 : World) (i : ℕ) (asked : NameOp) (limit : Option ℕ) (w : World
   ends_so (op.Get name) m placed is sound so legal needs done = tt
   ends_so (op.Put name value) m placed is sound so legal needs done = tt
   ends_so (op.Del name) (Deleting m) placed is sound so legal needs done =
-      del_ends w0 name o.trying.began l g (facts w') p.caller p.index p.since placed m x sound so legal needs (unwrapped (del_turned m x) done)
+      del_ends w0 name o.trying.start.began l g (facts w') p.caller p.index p.since placed m x sound so legal needs (unwrapped (del_turned m x) done)
     where
       unwrapped : (turn : Turn Del (Once Placed)) → wrapped Deleting turn ≡ Done (once.Done placed) → turn ≡ Done (once.Done placed)
       unwrapped (Go next) e = absurd (cc)
@@ -844,7 +844,7 @@ module _ (w0 : World) (i : ℕ) (asked : NameOp) (limit : Option ℕ) (w : World
   after_turn (Done answer) turn k sound of keeps begun foreseen locks been =
       let end = tries_end (name_asked asked) own w0 i w p a x Idle answer o.trying is_for about k told room in
       let legal = (any_keeps w i p a x Idle (Some answer) o.trying.lawful o.trying.there k told room).legal in
-      (end.0, answered answer turn end.0 end.1 end.2 legal been, subst (λ (n : ℕ). (m : ℕ) → locks_of n ((facts w0).version m) ≤ locks_of n ((facts w').version m) + 1) o.trying.generation locks, end.1)
+      (end.0, answered answer turn end.0 end.1 end.2 legal been, subst (λ (n : ℕ). (m : ℕ) → locks_of n ((facts w0).version m) ≤ locks_of n ((facts w').version m) + 1) o.trying.start.generation locks, end.1)
 
 pub lone_calls_go : LoneCallsGo
 lone_calls_go w0 i asked limit w p machine x o rest told room =
@@ -860,7 +860,7 @@ lone_calls_go w0 i asked limit w p machine x o rest told room =
 pub lone_calls_lose : LoneCallsLose
 lone_calls_lose w0 i asked limit w p machine o n =
     let knows = subst (Sure w.layout w.generation (facts w) p.caller p.index p.since) o.stage (o.trying.lawful.sure i p o.trying.there) in
-    subst (λ (g : ℕ). locks_of g ((facts w0).version n) ≤ locks_of g ((facts w).version n) + 1) o.trying.generation
+    subst (λ (g : ℕ). locks_of g ((facts w0).version n) ≤ locks_of g ((facts w).version n) + 1) o.trying.start.generation
     (stages_lose w.layout w.generation (facts w0).version (facts w) p.caller p.index p.since (is_leaving machine) (stage_of machine) knows o.locks n)
 
 module _ (w0 : World) (i : ℕ) (limit : Option ℕ) (p : Party) (index : ℕ) (view : View) (name : List ℕ) (rest : IsAtRest w0) (can : CanWalk w0.layout w0.generation w0.words) (there : get_elem? w0.parties i ≡ some p)
@@ -883,12 +883,8 @@ module _ (w0 : World) (i : ℕ) (limit : Option ℕ) (p : Party) (index : ℕ) (
   tries own = record {
     lawful = start_law w0 i p index (rest_law w0 rest) there (rest.idle i p there);
     there = set_here w0.parties i begun p there;
-    since = refl;
+    start = record { since = refl; layout = refl; generation = refl; base = refl; began = rest.list };
     others = λ j q other at. rest.idle j q (sym (set_else w0.parties i j begun other) ∙ at);
-    layout = refl;
-    generation = refl;
-    base = refl;
-    began = rest.list;
     written = inl (refl, refl);
     shape = is_same refl refl refl;
     gone = omega arith;

@@ -160,7 +160,7 @@ module _ (name : List ℕ) (own : Option Change) (w0 : World) (i : ℕ) (w : Wor
       word = same ∙ ap (facts w0).version right
 
       started : merge.view.generation ≡ w0.generation
-      started = generation ∙ o.generation
+      started = generation ∙ o.start.generation
 
       worn_at : IsWorn x merge.view.generation → NextIsWorn w0 name
       worn_at worn = subst (λ (q : ℕ × ℕ). IsWorn q.0 q.1) (λ k. (word k, started k)) worn
@@ -196,7 +196,7 @@ module _ (name : List ℕ) (own : Option Change) (w0 : World) (i : ℕ) (w : Wor
       let word : x ≡ (facts w0).version near.right =
       told ∙ ap (λ (l : Layout). slice_index w.words (version_address l near.right)) layout ∙ sym (version_in-here w.layout w.words near.right here) ∙ others near.right beside.apart in
       saw near word beside.right
-      (subst (λ (q : ℕ × ℕ). IsFree q.0 q.1) (λ k. (sym word k, sym (generation ∙ o.generation) k)) (rest.free near.right (subst (λ (l : Layout). near.right < l.nodes) o.layout here)))
+      (subst (λ (q : ℕ × ℕ). IsFree q.0 q.1) (λ k. (sym word k, sym (generation ∙ o.start.generation) k)) (rest.free near.right (subst (λ (l : Layout). near.right < l.nodes) o.start.layout here)))
 
   at_lock : (near : Near) (version locked : ℕ) → p.stage ≡ (merge_at_footing h merge (stands.Lock near version locked)).stage → near.right < w.layout.nodes → near.right ≢ 0
       → ((m : ℕ) → m ≢ merge.node → (facts w).version m ≡ (facts w0).version m) → So (stands.Lock near version locked) → x ≡ slice_index w.words (version_address merge.view.layout near.right)

@@ -94,5 +94,5 @@ lone_parts_are_served w0 i asked limit w p machine o fresh =
       still = same;
       ends = λ x answer is.
           let ended = ends w0.layout w0.words w.words (name_asked asked) fresh machine x answer o.sound.here named o.stands is in
-          (ended.0, subst (λ (k : Layout). acted k w.words (part_asks machine) ≡ w0.words) (sym o.trying.layout) (ended.1 ∙ same));
+          (ended.0, subst (λ (k : Layout). acted k w.words (part_asks machine) ≡ w0.words) (sym o.trying.start.layout) (ended.1 ∙ same));
     }

@@ -126,7 +126,7 @@ module _ (name : List ℕ) (own : Option Change) (w0 : World) (i : ℕ) (w : Wor
       o.written
 
   pub unplaced_map : placed_in p.stage ≡ None → map_now (facts w) ≡ map_now (facts w0)
-  unplaced_map none k = after_all (o.base k) (unplaced none k)
+  unplaced_map none k = after_all (o.start.base k) (unplaced none k)
 
   -- a delete that is counted is what it wrote
   pub deleted_history : (h : Held) → HasDeleted name own h → placed_in p.stage ≡ h.placed → w.history ≡ w0.history ++ written p.caller p.index (Some (Deletes name))
@@ -138,7 +138,7 @@ module _ (name : List ℕ) (own : Option Change) (w0 : World) (i : ℕ) (w : Wor
 
   pub deleted_map : (h : Held) → HasDeleted name own h → placed_in p.stage ≡ h.placed → map_now (facts w) ≡ remove (map_now (facts w0)) name
   deleted_map h deleted placed =
-      (λ k. after_all (o.base k) (deleted_history h deleted placed k)) ∙ after_all-push w0.base w0.history (record { caller = p.caller; index = p.index; change = Deletes name })
+      (λ k. after_all (o.start.base k) (deleted_history h deleted placed k)) ∙ after_all-push w0.base w0.history (record { caller = p.caller; index = p.index; change = Deletes name })
 
   -- a node in whose range the name is leads where the target led
   pub leads_there : (n r : ℕ) (other : List ℕ) → other ≡ name → (facts w).list ≡ (facts w0).list → range_of w.layout (facts w) n other ≡ true → IsListed (facts w) n → (facts w).now n next_offset ≡ r → r ≡ next_node w0 name
@@ -146,12 +146,12 @@ module _ (name : List ℕ) (own : Option Change) (w0 : World) (i : ℕ) (w : Wor
       let node : target_from 0 (facts w).list (key_of other) ≡ n = eqb-true (target_from 0 (facts w).list (key_of other)) n inside in
       let left : n ≡ target_from 0 (facts w0).list (key_of name) = sym node ∙ (λ k. target_from 0 (list k) (key_of (named k))) in
       sym leads
-      ∙ same_next (facts w).now (facts w0).now 0 (facts w0).list (subst (IsChain (facts w).now 0) list o.lawful.list.chain) o.began.chain n (subst (λ (q : List ListNode). IsIn q n) list listed)
+      ∙ same_next (facts w).now (facts w0).now 0 (facts w0).list (subst (IsChain (facts w).now 0) list o.lawful.list.chain) o.start.began.chain n (subst (λ (q : List ListNode). IsIn q n) list listed)
       ∙ ap (λ (m : ℕ). (facts w0).now m next_offset) left
 
   -- what is merged by the shape as it was, by the layout and the anchors as they are
   shape_now : (facts w).list ≡ (facts w0).list → ShapeMerges w0 name → merges w.layout.slots (map_now (facts w0)) (anchors_of (facts w).list) name ≡ true
-  shape_now list shape = (λ k. merges (o.layout k).slots (map_now (facts w0)) (anchors_of (list k)) name) ∙ shape
+  shape_now list shape = (λ k. merges (o.start.layout k).slots (map_now (facts w0)) (anchors_of (list k)) name) ∙ shape
 
   -- what it knows that holds a node
   abbrev Knows : ℕ → ℕ → Held → Type 0
@@ -175,7 +175,7 @@ module _ (name : List ℕ) (own : Option Change) (w0 : World) (i : ℕ) (w : Wor
   -- so there is nothing to merge where it leads to none
   pub alone_unmerged : (n lock : ℕ) (h : Held) → p.stage ≡ Holds n lock h → h.merged ≡ false → h.name ≡ name → (facts w).now n next_offset ≡ 0 → ShapeMerges w0 name → ⊥
   alone_unmerged n lock h stage unmerged named ends shape =
-      clash (shape_tries w0 name o.began shape).1 (ap is_some (no_next_was n lock h stage unmerged named ends))
+      clash (shape_tries w0 name o.start.began shape).1 (ap is_some (no_next_was n lock h stage unmerged named ends))
 
   -- nor where both nodes have more names than half a node's slots
   pub crowded_unmerged : (n lock : ℕ) (h : Held) (right : Grip) → p.stage ≡ Meets n lock h right → HasDeleted name own h
@@ -217,7 +217,7 @@ module _ (name : List ℕ) (own : Option Change) (w0 : World) (i : ℕ) (w : Wor
       let own_live = names_live l.slots l.slots (range_of l f n) (f.now n) (omega arith) settled.means.tidy settled.stays in
       let same : length (names_at (map_now f) (anchors_of f.list) name) ≡ length (names_at (map_now (facts w0)) (anchors_in w0) name) =
       λ k. length (names_at (unplaced_map (ap placed_in stage ∙ placed) k) (anchors_of (list_was n lock h stage placed k)) name) in
-      let less = left-at (map_now (facts w0)) (anchors_in w0) name (list_has_anchors w0.layout (facts w0) o.began) (ap is_some (had_was n lock h (Some value) stage named placed old)) in
+      let less = left-at (map_now (facts w0)) (anchors_in w0) name (list_has_anchors w0.layout (facts w0) o.start.began) (ap is_some (had_was n lock h (Some value) stage named placed old)) in
       omega arith
 
   -- where its node lacks the name and each of its slots is live, the target was full
@@ -225,6 +225,6 @@ module _ (name : List ℕ) (own : Option Change) (w0 : World) (i : ℕ) (w : Wor
       → AreAllLive ((facts w).now n bitmap_offset) w.layout.slots → (at (map_now (facts w0)) name ≡ None) × (target_names w0 name ≡ w0.layout.slots)
   full_was n lock h rest stage named placed pending old live = (
     had_was n lock h None stage named placed old,
-    target_was_full w0 w name n rest o.layout (list_was n lock h stage placed) (unplaced_map (ap placed_in stage ∙ placed))
+    target_was_full w0 w name n rest o.start.layout (list_was n lock h stage placed) (unplaced_map (ap placed_in stage ∙ placed))
         (subst (λ (x : List ℕ). range_of w.layout (facts w) n x ≡ true) named (knows_of n lock h stage).inside) (settled_now n lock h stage pending) live,
   )

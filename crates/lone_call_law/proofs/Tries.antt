@@ -357,7 +357,7 @@ module _ (name : List ℕ) (own : Option Change) (w0 : World) (i : ℕ) (w : Wor
         subst (λ (n : List ℕ). at (after w.base w.history (length w0.history)) n ≡ Some deleted.value) deleted.named
         (subst (λ (q : Option ℕ). at (map_before (facts w) q) join.held.name ≡ Some deleted.value) is_placed old) in
         let before : after w.base w.history (length w0.history) ≡ map_now (facts w0) =
-        (λ k. after (o.base k) (joins_history k) (length w0.history))
+        (λ k. after (o.start.base k) (joins_history k) (length w0.history))
         ∙ after-longer w0.base w0.history (written p.caller p.index (Some (Deletes name))) (length w0.history) (omega arith) ∙ after-whole w0.base w0.history (length w0.history) refl in
         subst IsSome (sym (ap (λ m. at m name) (sym before) ∙ now)) refl
       where
@@ -365,7 +365,7 @@ module _ (name : List ℕ) (own : Option Change) (w0 : World) (i : ℕ) (w : Wor
         at_end None is given = absurd (given refl)
         at_end (Some place) is given =
             let size = ap length joins_history ∙ length-append w0.history (written p.caller p.index (Some (Deletes name))) in
-            let since = o.since in
+            let since = o.start.since in
             let later = is.later in
             let within = is.within in
             let same : place ≡ length w0.history = omega arith in
@@ -378,7 +378,7 @@ module _ (name : List ℕ) (own : Option Change) (w0 : World) (i : ℕ) (w : Wor
     joins_so : Moved → IsJoinedSince name w0 w'
     joins_so moved =
         let list : (facts w').list ≡ without_member (next_node w0 name) (facts w0).list = dropped ∙ (λ k. without_member (right_is k) (joins_list k)) in
-        let layout : w.layout.slots ≡ w0.layout.slots = ap (λ (l : Layout). l.slots) o.layout in
+        let layout : w.layout.slots ≡ w0.layout.slots = ap (λ (l : Layout). l.slots) o.start.layout in
         ⊎_elim
         (λ (same : anchors_of (facts w').list ≡ anchors_of (facts w).list). absurd (
         let among : IsMember (facts w).list join.right.node = ⊎_elim (λ (e : join.right.node ≡ 0). absurd (knows.nonzero e)) (λ is. is) knows.at.linked.listed_fresh in
@@ -399,7 +399,7 @@ module _ (name : List ℕ) (own : Option Change) (w0 : World) (i : ℕ) (w : Wor
         subst (λ (q : ℕ). length (names_between (remove before name) (target_of a name) (slice_get (past a name) 1)) ≤ q / 2) layout
         (subst (λ (m : Map). length (names_between m (target_of a name) (slice_get (past a name) 1)) ≤ w.layout.slots / 2) map_is
         (subst (λ (q : Anchors × List ℕ). length (names_between (map_now (facts w)) (target_of q.0 q.1) (slice_get (past q.0 q.1) 1)) ≤ w.layout.slots / 2) (λ k. (anchors_same k, named k)) drop.1.few)) in
-        let done = switch_is_delete w0.layout.slots before a name drop.1.next (list_has_anchors w0.layout (facts w0) o.began) had is_next few in
+        let done = switch_is_delete w0.layout.slots before a name drop.1.next (list_has_anchors w0.layout (facts w0) o.start.began) had is_next few in
         record { shape = done.0; list = list; anchors = drop.1.less ∙ (λ k. without_name drop.1.next (anchors_same k)) ∙ done.1 })
         other)
         moved
@@ -408,12 +408,8 @@ module _ (name : List ℕ) (own : Option Change) (w0 : World) (i : ℕ) (w : Wor
   keeps kept wrote shape gone = record {
     lawful = kept;
     there = set_here w.parties i (moved_on p next) p o.there;
-    since = o.since;
+    start = o.start;
     others = others_after;
-    layout = o.layout;
-    generation = o.generation;
-    base = o.base;
-    began = o.began;
     written = wrote;
     shape = shape;
     gone = gone;
@@ -437,7 +433,7 @@ module _ (name : List ℕ) (own : Option Change) (w0 : World) (i : ℕ) (w : Wor
       let asks : (c : Cuts w.layout (facts w) (facts w').list p.stage) → (c.left.name ≡ name) × (c.left.old ≡ Some None) = λ c. subst (IsFor name own) c.is for in
       let history = unwritten none ∙ unplaced before in
       keeps kept (inl (after_it, history))
-      (was_cut cut (record { before = facts w; chain = o.lawful.list; list = standing.list_uncut name own w0 i w p o uncut (standing.unplaced_unmerged name own w0 i w p o before uncut); map = λ k. after_all (o.base k) (unplaced before k); halved = halved.halved; lower = halved.lower; upper = halved.upper; inside = subst (λ n. range_of w.layout (facts w) halved.halved.node n ≡ true) (asks halved).0 halved.inside; lacks = ap (at (map_now (facts w))) (sym (asks halved).0) ∙ subst (λ (q : Option (Option ℕ)). IfSome q (λ old. at (map_now (facts w)) halved.left.name ≡ old)) (asks halved).1 halved.had }) history)
+      (was_cut cut (record { before = facts w; chain = o.lawful.list; list = standing.list_uncut name own w0 i w p o uncut (standing.unplaced_unmerged name own w0 i w p o before uncut); map = λ k. after_all (o.start.base k) (unplaced before k); halved = halved.halved; lower = halved.lower; upper = halved.upper; inside = subst (λ n. range_of w.layout (facts w) halved.halved.node n ≡ true) (asks halved).0 halved.inside; lacks = ap (at (map_now (facts w))) (sym (asks halved).0) ∙ subst (λ (q : Option (Option ℕ)). IfSome q (λ old. at (map_now (facts w)) halved.left.name ≡ old)) (asks halved).1 halved.had }) history)
       (kept_gone (same_retired alike (after_it ∙ sym before)) counts)
   goes kept for mine counts moved is (drops join dropped) =
       let placed : placed_in next ≡ placed_in p.stage = ap placed_in join.is ∙ sym (ap placed_in join.was) in
@@ -492,14 +488,14 @@ module _ (name : List ℕ) (own : Option Change) (w0 : World) (i : ℕ) (w : Wor
     most_same unretired =
         let was : gone_nodes w.layout.nodes (facts w) ≡ gone_first + 0 = o.gone ∙ ap (λ (b : Bool). gone_first + one_if b) unretired in
         let now : gone_nodes w.layout.nodes (facts w') ≡ gone_first = omega arith in
-        let nodes : w.layout.nodes ≡ w0.layout.nodes = ap (λ (l : Layout). l.nodes) o.layout in
+        let nodes : w.layout.nodes ≡ w0.layout.nodes = ap (λ (l : Layout). l.nodes) o.start.layout in
         λ k. nodes k - now k
 
     -- or one more
     most_less : has_retired p.stage ≡ true → members_most w' + 1 ≡ members_most w0
     most_less retired =
         let was : gone_nodes w.layout.nodes (facts w) ≡ gone_first + 1 = o.gone ∙ ap (λ (b : Bool). gone_first + one_if b) retired in
-        let nodes : w.layout.nodes ≡ w0.layout.nodes = ap (λ (l : Layout). l.nodes) o.layout in
+        let nodes : w.layout.nodes ≡ w0.layout.nodes = ap (λ (l : Layout). l.nodes) o.start.layout in
         let few = (nodes_are_counted w' kept).few in
         let some = some_anchor (facts w').list in
         let room : gone_first + 1 < w.layout.nodes = omega arith in
@@ -524,7 +520,7 @@ module _ (name : List ℕ) (own : Option Change) (w0 : World) (i : ℕ) (w : Wor
         says (once.Done placed) is_legal not_done = absurd (not_done tt)
         says (once.Spent clock) is_legal not_done =
             let told = spent_tells w.layout w.generation (facts w') p.caller p.index p.since p.stage clock is_legal in
-            let since = o.since in let later = told.0 in let within = told.1 in let longer = ap length history in
+            let since = o.start.since in let later = told.0 in let within = told.1 in let longer = ap length history in
             (omega arith, history, list_is (once.Spent clock) is_legal (λ n e. cc))
         says (once.Worn node word) is_legal not_done = (history, list_is (once.Worn node word) is_legal (λ n e. cc))
         says (once.Again (again.NeedsSplit node)) is_legal not_done = let shape = at o.shape in (history, shape.0, shape.1)
@@ -550,14 +546,14 @@ module _ (name : List ℕ) (own : Option Change) (w0 : World) (i : ℕ) (w : Wor
         says (once.Again why) is_legal done_it = absurd done_it
         says (once.Done placed) is_legal done_it =
             let told = legal_tells w.layout w.generation (facts w') p.caller p.index p.since name p.stage placed about is_legal in
-            let since = o.since in
+            let since = o.start.since in
             let later = told.later in
             ⊎_elim
             (λ (was : (placed_in p.stage ≡ None) × (w.history ≡ w0.history)).
             let longer = ap length (unwritten none ∙ was.1) in
             let within = told.within in
             let place : placed.place ≡ length w0.history = omega arith in (
-              told.old ∙ (λ k. at (after (o.base k) ((unwritten none ∙ was.1) k) placed.place) name) ∙ ap (λ m. at m name) (after-whole w0.base w0.history placed.place place),
+              told.old ∙ (λ k. at (after (o.start.base k) ((unwritten none ∙ was.1) k) placed.place) name) ∙ ap (λ m. at m name) (after-whole w0.base w0.history placed.place place),
               place,
               shape_left o.shape,
             ))
@@ -565,7 +561,7 @@ module _ (name : List ℕ) (own : Option Change) (w0 : World) (i : ℕ) (w : Wor
             let within = place_within w.layout w.generation (facts w) (facts w') p.caller p.index p.since p.stage placed (o.lawful.sure i p o.there) was.2 is_legal in
             let longer = ap length was.1 ∙ length-append w0.history (written p.caller p.index (Some was.0)) in
             let place : placed.place ≡ length w0.history = omega arith in (
-              told.old ∙ (λ k. at (after (o.base k) ((unwritten none ∙ was.1) k) placed.place) name)
+              told.old ∙ (λ k. at (after (o.start.base k) ((unwritten none ∙ was.1) k) placed.place) name)
                   ∙ ap (λ m. at m name) (after-longer w0.base w0.history (written p.caller p.index (Some was.0)) placed.place (omega arith) ∙ after-whole w0.base w0.history placed.place place),
               place,
               shape_left o.shape,

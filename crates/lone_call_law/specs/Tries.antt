@@ -5,8 +5,9 @@ use mathlib.Core.Option.{some}
 use lib.ListN.{get_elem?}
 use Rattle.pm_words.specs.declared.action.Action.{Action}
 use Rattle.pm_words.specs.declared.again.Again.TheVariants as again
+use Rattle.pm_words.specs.declared.layout.Layout.{Layout}
 use Rattle.pm_words.specs.Rows.{got}
-use Rattle.cat_history.specs.Maps.{at}
+use Rattle.cat_history.specs.Maps.{Map, at}
 use Rattle.cat_history.specs.declared.op.Change.{Change}
 use Rattle.cat_history.specs.declared.op.Change.TheVariants.{Del as Deletes}
 use Rattle.shapes.specs.Anchors.{del_anchors}
@@ -102,17 +103,21 @@ pub data HasShape (name : List ℕ) (own : Option Change) (w0 w : World) (s : St
 abbrev pub HasGone : World → World → Stage → Type 0
 HasGone w0 w s = gone_nodes w.layout.nodes (facts w) ≡ gone_nodes w0.layout.nodes (facts w0) + one_if (has_retired s)
 
+-- The layout, the generation, the base and the party's clock are those of a try that began as the index was w0.
+pub record BeganAt (w0 : World) (l : Layout) (g : ℕ) (b : Map) (clock : ℕ) : Type 0 where
+  pub since : clock ≡ length w0.history
+  pub layout : l ≡ w0.layout
+  pub generation : g ≡ w0.generation
+  pub base : b ≡ w0.base
+  pub began : IsList w0.layout (facts w0)
+
 -- The party at i is in a try that began as the index was w0, of a call that makes this change, if any, and no other
 -- call is in flight.
 pub record Trying (name : List ℕ) (own : Option Change) (w0 : World) (i : ℕ) (w : World) (p : Party) : Type 0 where
   pub lawful : Lawful w
   pub there : get_elem? w.parties i ≡ some p
-  pub since : p.since ≡ length w0.history
+  pub start : BeganAt w0 w.layout w.generation w.base p.since
   pub others : (j : ℕ) (q : Party) → j ≢ i → get_elem? w.parties j ≡ some q → q.stage ≡ Idle
-  pub layout : w.layout ≡ w0.layout
-  pub generation : w.generation ≡ w0.generation
-  pub base : w.base ≡ w0.base
-  pub began : IsList w0.layout (facts w0)
   pub written : HasWritten own w0 w p
   pub shape : HasShape name own w0 w p.stage
   pub gone : HasGone w0 w p.stage

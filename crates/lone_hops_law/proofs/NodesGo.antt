@@ -297,7 +297,7 @@ module _ (name : List ℕ) (own : Option Change) (w0 : World) (z : Whole) (i : �
           let was : f.list ≡ (facts w0).list = list_was (ap is_cut join.was) (ap has_merged join.was) in
           let listed : IsListed (facts w0) join.left.node = subst (λ (m : List ListNode). IsIn m join.left.node) was linked.listed in
           let chain : IsChain f.now 0 (facts w0).list = subst (IsChain f.now 0) was o.lawful.list.chain in
-          let began : IsList w0.layout (facts w0) = o.began in
+          let began : IsList w0.layout (facts w0) = o.start.began in
           record {
             left = join.left.node;
             right = join.right.node;

@@ -199,7 +199,7 @@ module _ (name : List ℕ) (own : Option Change) (w0 : World) (z : Layered) (i :
 
     has_open : (line : Option HeldLine) (node : Grip) → ((e : HeldLine) → line ≡ Some e → SureLine l words e) → HasLine line (λ e. IsOpenOf e node) → HasLine line (λ e. (e.ready ≡ false) × (line_state w (line_number e) ≡ open_state))
     has_open None node sure none = absurd none
-    has_open (Some e) node sure is_open = (is_open.unready, state_is p.caller w0 w p.stage t o.layout e (sure e refl) open_state is_open.open_state)
+    has_open (Some e) node sure is_open = (is_open.unready, state_is p.caller w0 w p.stage t o.start.layout e (sure e refl) open_state is_open.open_state)
 
     of_merge : (line : Option HeldLine) (P Q : HeldLine → Type 0) → HasLine line (λ e. P e × Q e) → HasLine line P
     of_merge None P Q none = absurd none
@@ -333,13 +333,13 @@ module _ (name : List ℕ) (own : Option Change) (w0 : World) (z : Layered) (i :
       → Trying name own w0 i (stepped w i p a t) (moved_on p t) → StandsSo p.caller w0 w p.stage line → StandsSo p.caller w0 (stepped w i p a t) t after
   nodes_go t line after a x at_line minds kept k o' stands =
       moment p.caller w0 w (stepped w i p a t) t after (nodes_lines a x t None k)
-      (let_go p.caller w0 w t t o.layout line after kept (sure_of line at_line) (restaged p.caller w0 w p.stage t line (leads_on a x t line (sure_of line at_line) k minds o') stands))
+      (let_go p.caller w0 w t t o.start.layout line after kept (sure_of line at_line) (restaged p.caller w0 w p.stage t line (leads_on a x t line (sure_of line at_line) k minds o') stands))
 
   nodes_end : (after : Option HeldLine) (line : Option HeldLine) (a : Action) (x : ℕ) (answer : Once Placed) → get_elem? z.whole.lines i ≡ some line → KeepsOrLetsGo Idle line None → Step l w.generation p.stage a x Idle (Some answer)
       → StandsSo p.caller w0 w p.stage line → Says w0 (stepped w i p a Idle) name own p.stage answer → LeavesLines name p.caller w0 (stepped w i p a Idle) answer
   nodes_end after line a x answer at_line kept k stands says =
       left answer (answer_told k (merged_placed o.shape) answer refl) says
-      (moment p.caller w0 w (stepped w i p a Idle) p.stage None (nodes_lines a x Idle (Some answer) k) (let_go p.caller w0 w p.stage Idle o.layout line None kept (sure_of line at_line) stands))
+      (moment p.caller w0 w (stepped w i p a Idle) p.stage None (nodes_lines a x Idle (Some answer) k) (let_go p.caller w0 w p.stage Idle o.start.layout line None kept (sure_of line at_line) stands))
     where
       kept_so : HasNotSwitched p.stage → StandsSo p.caller w0 (stepped w i p a Idle) p.stage None → KeepsLines w0 (stepped w i p a Idle)
       kept_so before = ⊎_elim
