@@ -33,7 +33,7 @@ use Rattle.lone_hops_law.specs.lone_call_law.specs.Merging.{FindsMerge, HasKeptL
 use Rattle.lone_hops_law.specs.lone_call_law.specs.LoneCalls.{LoneCall, IsAnswered, LosesLocks, AfterCall, ValueFits}
 use Rattle.lone_hops_law.specs.lone_call_law.specs.LoneCalls.{begun_party}
 use Rattle.lone_hops_law.specs.lone_call_law.specs.There.{CanWalk}
-use Rattle.lone_hops_law.specs.lone_call_law.specs.Tries.{Trying, IsHalvedSince}
+use Rattle.lone_hops_law.specs.lone_call_law.specs.Tries.{Trying}
 use Rattle.lone_hops_law.specs.lone_call_law.proofs.Locks.{fewest_lose}
 use Rattle.lone_hops_law.specs.lone_call_law.proofs.LoneCalls.{lone_calls_begin, lone_parts_begin, lone_calls_go}
 use Rattle.lone_hops_law.specs.lone_call_law.proofs.LoneCalls.{lone_calls_lose}
@@ -96,20 +96,7 @@ pub record Lone (s0 s : Index) (i : ℕ) (c : CoreCall) : Type 0 where
   pub weighs : weight_sum (world s) ≤ weight_of s0 + showing (Some machine)
   pub room : length s0.history + s0.spare ≤ room_of s
 
--- a cut and a merge are such whatever the parties are
-with_parties : {name : List ℕ} {w0 w : World} {parties : List Party} → IsHalvedSince name w0 w → IsHalvedSince name w0 (record w { parties = parties })
-with_parties cut = record {
-  before = cut.before;
-  chain = cut.chain;
-  list = cut.list;
-  map = cut.map;
-  halved = cut.halved;
-  inside = cut.inside;
-  lacks = cut.lacks;
-  lower = cut.lower;
-  upper = cut.upper;
-}
-
+-- a merge is one whatever the parties are
 merge_with_parties : {name : List ℕ} {w0 w : World} {parties : List Party} → IsMergedSince name w0 w → IsMergedSince name w0 (record w { parties = parties })
 merge_with_parties merge = record { list = merge.list; anchors = merge.anchors; most = merge.most }
 
@@ -461,7 +448,7 @@ module _ (s0 s s' : Index) (i : ℕ) (c : CoreCall) (result : Option (Once Place
     of_party (once.Spent clock) end = end
     of_party (once.Done placed) (causes, old, place, hops, same, shape) = (causes, old, place, hops, same, shape_of_party shape)
     of_party (once.Again again.NoFree) end = end
-    of_party (once.Again (again.NeedsSplit n)) (unworn, below, full, has, free, same, halved, most) = (unworn, below, full, has, free, same, with_parties halved, most)
+    of_party (once.Again (again.NeedsSplit n)) (unworn, below, full, has, free, same, halved, most) = (unworn, below, full, has, free, same, halved, most)
     of_party (once.Again (again.Locked n word)) end = absurd end
     of_party (once.Again (again.Moved n first second)) end = absurd end
     of_party (once.Again (again.Hops count)) end = absurd end

@@ -24,8 +24,8 @@ use Rattle.call_stages.specs.declared.once.Once.TheVariants as once
 use Rattle.call_stages.specs.declared.once.Placed.{Placed}
 use Rattle.call_stages.specs.Stages.{Stage, Idle, Saw, Wears, Reads, Holds, Eyes, Splits, Leaves, Meets, Joins, counted, placed_in}
 use Rattle.call_stages.specs.Stages.{Gathered, Joined, Gone}
-use Rattle.data_node.specs.Lists.{ListNode, target_from, key_of, IsMember, without_member}
-use Rattle.call_stages.specs.Kinds.{Step, below_key, from_key}
+use Rattle.data_node.specs.Lists.{ListNode, IsMember, without_member}
+use Rattle.call_stages.specs.Kinds.{Step}
 use Rattle.call_stages.specs.Prevs.{IsSwitch, IsJoin, IsRetire}
 use Rattle.node_ops.specs.Asked.{IsAbout}
 use Rattle.index_law.specs.Facts.{Facts, map_now, range_of}
@@ -34,7 +34,6 @@ use Rattle.index_law.specs.Lawful.{Lawful, Sure, SureJoins, IsPlaced, HasWriteAt
 use Rattle.index_law.specs.Anchors.{anchors_of, gone_nodes, members_most, CutsMember, DropsMember}
 use Rattle.index_law.specs.LoneShapes.{has_merged, IsOut}
 use Rattle.index_law.specs.Laws.{IsLegal}
-use Rattle.index_law.specs.Shapes.{IsHalved}
 use Rattle.call_stages.specs.AnySteps.{on_nodes, beside}
 use Rattle.index_law.proofs.AnySteps.{beside_keeps}
 use Rattle.index_law.proofs.Law.{step_law}
@@ -49,7 +48,7 @@ use Rattle.index_law.proofs.LoneCuts.{switch_is_delete}
 use Rattle.index_law.proofs.Sizes.{nodes_are_counted}
 use Rattle.index_law.proofs.Loose.{out_unmerged, out_unplaced}
 use Rattle.lone_call_law.specs.Merging.{next_node, HasKeptList}
-use Rattle.lone_call_law.specs.Tries.{is_cut, has_retired, HasDeleted, IsFor, IsHalvedSince, IsJoinedSince, HasWritten, HasShape, is_same, was_cut, was_joined, HasGone, Trying, LeavesHistory, HasKeptOrMerged, Says, TriesGo, TriesEnd}
+use Rattle.lone_call_law.specs.Tries.{is_cut, has_retired, HasDeleted, IsFor, IsCutSince, IsHalvedSince, IsJoinedSince, HasWritten, HasShape, is_same, was_cut, was_joined, HasGone, Trying, LeavesHistory, HasKeptOrMerged, Says, TriesGo, TriesEnd}
 use Rattle.lone_call_law.proofs.Cuts.{cut_unretired}
 use Rattle.lone_call_law.proofs.Standing.{both}
 use Rattle.lone_call_law.proofs.Standing as standing
@@ -237,34 +236,8 @@ module _ (name : List ℕ) (own : Option Change) (w0 : World) (i : ℕ) (w : Wor
   unplaced = standing.unplaced name own w0 i w p o
 
   -- of another list that is the same
-  abbrev halved_on : {f : Facts} → (facts w').list ≡ (facts w).list → IsHalved w.layout f (facts w).list → IsHalved w.layout f (facts w').list
-  halved_on same h = record {
-    node = h.node;
-    fresh = h.fresh;
-    listed = h.listed;
-    unlisted = h.unlisted;
-    anchor = h.anchor;
-    named = h.named;
-    inside = h.inside;
-    had = h.had;
-    full = h.full;
-    means = h.means;
-    half = h.half;
-    longer = same ∙ h.longer;
-  }
-
   cut_on : (facts w').list ≡ (facts w).list → IsHalvedSince name w0 w → IsHalvedSince name w0 w'
-  cut_on same was = record {
-    before = was.before;
-    chain = was.chain;
-    list = was.list;
-    map = was.map;
-    halved = halved_on same was.halved;
-    inside = was.inside;
-    lacks = was.lacks;
-    lower = subst (λ (q : List ListNode). (λ (other : List ℕ). target_from 0 q (key_of other) == was.halved.node) ≡ below_key (range_of w.layout was.before was.halved.node) (key_of was.halved.anchor)) (sym same) was.lower;
-    upper = subst (λ (q : List ListNode). (λ (other : List ℕ). target_from 0 q (key_of other) == was.halved.fresh) ≡ from_key (range_of w.layout was.before was.halved.node) (key_of was.halved.anchor)) (sym same) was.upper;
-  }
+  cut_on same was = subst (IsCutSince name w0 w.layout) (sym same) was
 
   joined_on : (facts w').list ≡ (facts w).list → IsJoinedSince name w0 w → IsJoinedSince name w0 w'
   joined_on same was = record { shape = was.shape; list = same ∙ was.list; anchors = ap anchors_of same ∙ was.anchors }

@@ -12,7 +12,7 @@ use Rattle.cat_history.specs.declared.op.Change.{Change}
 use Rattle.cat_history.specs.declared.op.Change.TheVariants.{Del as Deletes}
 use Rattle.shapes.specs.Anchors.{del_anchors}
 use Rattle.shapes.specs.Weights.{one_if}
-use Rattle.data_node.specs.Lists.{target_from, key_of, without_member}
+use Rattle.data_node.specs.Lists.{ListNode, target_from, key_of, without_member}
 use Rattle.call_stages.specs.declared.once.Once.{Once}
 use Rattle.call_stages.specs.declared.once.Once.TheVariants as once
 use Rattle.call_stages.specs.declared.once.Placed.{Placed}
@@ -65,19 +65,23 @@ IsFor name own (Meets n w h right) = HasDeleted name own h
 IsFor name own (Joins h left right pace) = HasDeleted name own h
 IsFor name own _ = Unit {0}
 
--- One member, in which the name belongs, was cut, while the map and the list were as in w0; and the map lacks the name.
-pub record IsHalvedSince (name : List ℕ) (w0 w : World) : Type 0 where
+-- One member, in which the name belongs, was cut, while the map and the list were as in w0, and this is the list now;
+-- and the map lacks the name.
+pub record IsCutSince (name : List ℕ) (w0 : World) (l : Layout) (now : List ListNode) : Type 0 where
   pub before : Facts
-  pub chain : IsList w.layout before
+  pub chain : IsList l before
   pub list : before.list ≡ (facts w0).list
   pub map : map_now before ≡ map_now (facts w0)
-  pub halved : IsHalved w.layout before (facts w).list
-  pub inside : range_of w.layout before halved.node name ≡ true
+  pub halved : IsHalved l before now
+  pub inside : range_of l before halved.node name ≡ true
   pub lacks : at (map_now before) name ≡ None
-  pub lower : (λ (other : List ℕ). target_from 0 (facts w).list (key_of other) == halved.node) ≡ below_key
-      (range_of w.layout before halved.node) (key_of halved.anchor)
-  pub upper : (λ (other : List ℕ). target_from 0 (facts w).list (key_of other) == halved.fresh) ≡ from_key
-      (range_of w.layout before halved.node) (key_of halved.anchor)
+  pub lower : (λ (other : List ℕ). target_from 0 now (key_of other) == halved.node) ≡ below_key
+      (range_of l before halved.node) (key_of halved.anchor)
+  pub upper : (λ (other : List ℕ). target_from 0 now (key_of other) == halved.fresh) ≡ from_key
+      (range_of l before halved.node) (key_of halved.anchor)
+
+abbrev pub IsHalvedSince : List ℕ → World → World → Type 0
+IsHalvedSince name w0 w = IsCutSince name w0 w.layout (facts w).list
 
 -- The history is as in w0, or longer by the one write of this call.
 abbrev pub HasWritten : Option Change → World → World → Party → Type 0
