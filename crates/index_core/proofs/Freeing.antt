@@ -20,6 +20,7 @@ use Rattle.call_stages.specs.Kinds.{Step, Split, Merge}
 use Rattle.call_stages.specs.Kinds as kinds
 use Rattle.node_ops.specs.search_layer.specs.ChangeStages.{Changing, Changed, ChangeStep}
 use Rattle.index_law.specs.Facts.{Facts, status_in}
+use Rattle.index_law.proofs.Listing.{merge_gone}
 use Rattle.index_law.proofs.Moves.{fact_after, split_after, merge_after}
 use Rattle.index_law.proofs.Rows.{status_in-alike}
 use Rattle.updater.specs.updater_row_law.specs.Columns.{RowTerms, Ghosts, line_count, line_word}
@@ -52,22 +53,8 @@ module _ {l : Layout} {g : ℕ} (f : Facts) (caller index : ℕ) where
   split_frees_none (kinds.trims here small durable soiled anchor told means) n is = is
 
   merge_frees_none : {s : Stage} {a : Action} {x : ℕ} {t : Stage} → (k : Merge l g s a x t) → (n : ℕ) → (merge_after k f).status n ≡ free_status → f.status n ≡ free_status
-  merge_frees_none (kinds.meets here same untimed leads) n is = is
-  merge_frees_none (kinds.knows_own has positive learnt) n is = is
-  merge_frees_none (kinds.knows_right has positive told) n is = is
-  merge_frees_none (kinds.copies has content small soils learnt means) n is = is
-  merge_frees_none (kinds.takes_up has) n is = is
-  merge_frees_none (kinds.puts_down has small hand cleans) n is = is
-  merge_frees_none (kinds.parts next) n is = is
-  merge_frees_none (kinds.gathers small durable soiled told gathered) n is = is
-  merge_frees_none (kinds.joins small durable soiled next told) n is = is
-  merge_frees_none (kinds.glances_joined has learnt) n is = is
-  merge_frees_none (kinds.drains_joined has small hand cleans) n is = is
-  merge_frees_none (kinds.retires {right = right} durable) n is = ⊎_elim
-      (λ (e : n ≡ right.node). absurd (let no : gone_status ≡ free_status = sym (ap (λ b. cond b gone_status (f.status n)) (eq-eqb n right.node e)) ∙ is in omega arith))
-      (λ (other : n ≢ right.node). sym (ap (λ b. cond b gone_status (f.status n)) (ne_eqb n right.node other)) ∙ is)
-      (cases_eq n right.node)
-  merge_frees_none (kinds.yields next durable) n is = is
+  merge_frees_none k n is =
+      ⊎_elim (λ same. sym same ∙ is) (λ gone. absurd (let no : gone_status ≡ free_status = sym gone ∙ is in omega arith)) (merge_gone f k n)
 
   pub step_frees_none : {s : Stage} {a : Action} {x : ℕ} {t : Stage} {r : Option (Once Placed)} → (k : Step l g s a x t r) → (n : ℕ) → (fact_after k f caller index).status n ≡ free_status → f.status n ≡ free_status
   step_frees_none (kinds.looks look) n is = is

@@ -35,6 +35,26 @@ relist l f f' same links list = record {
   named = subst (AllByRecursion (λ (m : ListNode). (name : List ℕ) × IsName name × (m.anchor ≡ key_of name))) (sym same) list.named;
 }
 
+-- a merge leaves each status, or makes it GONE
+pub merge_gone : {l : Layout} {g : ℕ} (f : Facts) {s : Stage} {a : Action} {x : ℕ} {t : Stage} → (k : Merge l g s a x t) → (n : ℕ)
+    → ((merge_after k f).status n ≡ f.status n) ⊎ ((merge_after k f).status n ≡ gone_status)
+merge_gone f (meets here same untimed leads) n = inl refl
+merge_gone f (knows_own has positive learnt) n = inl refl
+merge_gone f (knows_right has positive told) n = inl refl
+merge_gone f (copies has content small soils learnt means) n = inl refl
+merge_gone f (takes_up has) n = inl refl
+merge_gone f (puts_down has small hand cleans) n = inl refl
+merge_gone f (parts next) n = inl refl
+merge_gone f (gathers small durable soiled told gathered) n = inl refl
+merge_gone f (joins small durable soiled next told) n = inl refl
+merge_gone f (glances_joined has learnt) n = inl refl
+merge_gone f (drains_joined has small hand cleans) n = inl refl
+merge_gone f (retires {right = right} durable) n = ⊎_elim
+    (λ (e : n ≡ right.node). inr (ap (λ (b : Bool). cond b gone_status (f.status n)) (eq-eqb n right.node e)))
+    (λ (other : n ≢ right.node). inl (ap (λ (b : Bool). cond b gone_status (f.status n)) (ne_eqb n right.node other)))
+    (cases_eq n right.node)
+merge_gone f (yields next durable) n = inl refl
+
 module _ {l : Layout} {g : ℕ} (f : Facts) (caller index since : ℕ) where
   split_list : {s : Stage} {a : Action} {x : ℕ} {t : Stage} → (k : Split l g s a x t) → IsList l f → Sure l g f caller index since s → IsList l (split_after k f)
   split_list (fills {y = y} {offset = offset} {fresh = fresh} has positive small within soils told) list mine =

@@ -1,7 +1,7 @@
 -- What a lone call leaves of the nodes, step by step.
 use Rattle.std.proofs.Common.{◌≡◌, ◌≢◌, ℕ, ◌<◌, ◌^◌, ⊎_elim, Bool, true, false, cond, List, length, refl, sym, ap}
 use Rattle.std.proofs.Common.{◌∙◌, subst, arith, slice_set, Option, Some, None, IfSome}
-use Rattle.std.proofs.lemmas.Bool.{cases_eq, eq-eqb, ne_eqb}
+use Rattle.std.proofs.lemmas.Bool.{cases_eq, ne_eqb}
 use Rattle.std.proofs.lemmas.List.{set-get_or}
 use mathlib.Core.Option.{some}
 use lib.ListN.{get_elem?}
@@ -36,6 +36,7 @@ use Rattle.index_law.specs.Worlds.{Party, World, facts, stepped, moved_on}
 use Rattle.index_law.proofs.AnySteps.{beside_keeps}
 use Rattle.index_law.proofs.Footings.{permutation_leaves}
 use Rattle.index_law.proofs.Law.{step_law}
+use Rattle.index_law.proofs.Listing.{merge_gone}
 use Rattle.index_law.proofs.Loose.{each_loose, out_unmerged}
 use Rattle.index_law.proofs.Moves.{fact_after, split_after, merge_after, facts_step}
 use Rattle.index_law.proofs.Own.{allow_law, sure_within}
@@ -71,22 +72,7 @@ module _ {l : Layout} {g : ℕ} (f : Facts) (caller index since : ℕ) where
   split_stays (kinds.trims here small durable soiled anchor told means) knows n is = is
 
   merge_stays : {s : Stage} {a : Action} {x : ℕ} {t : Stage} → (k : Merge l g s a x t) → (n : ℕ) → IsGone f n → IsGone (merge_after k f) n
-  merge_stays (kinds.meets here same untimed leads) n is = is
-  merge_stays (kinds.knows_own has positive learnt) n is = is
-  merge_stays (kinds.knows_right has positive told) n is = is
-  merge_stays (kinds.copies has content small soils learnt means) n is = is
-  merge_stays (kinds.takes_up has) n is = is
-  merge_stays (kinds.puts_down has small hand cleans) n is = is
-  merge_stays (kinds.parts next) n is = is
-  merge_stays (kinds.gathers small durable soiled told gathered) n is = is
-  merge_stays (kinds.joins small durable soiled next told) n is = is
-  merge_stays (kinds.glances_joined has learnt) n is = is
-  merge_stays (kinds.drains_joined has small hand cleans) n is = is
-  merge_stays (kinds.retires {right = right} durable) n is = ⊎_elim
-      (λ (e : n ≡ right.node). ap (λ b. cond b gone_status (f.status n)) (eq-eqb n right.node e))
-      (λ (other : n ≢ right.node). ap (λ b. cond b gone_status (f.status n)) (ne_eqb n right.node other) ∙ is)
-      (cases_eq n right.node)
-  merge_stays (kinds.yields next durable) n is = is
+  merge_stays k n is = ⊎_elim (λ same. same ∙ is) (λ gone. gone) (merge_gone f k n)
 
   -- a GONE node stays GONE
   gone_stays : {s : Stage} {a : Action} {x : ℕ} {t : Stage} {r : Option (Once Placed)} → (k : Step l g s a x t r) → Sure l g f caller index since s → (n : ℕ) → IsGone f n → IsGone (fact_after k f caller index) n
