@@ -222,6 +222,14 @@ StepKeepsPut = (w : World) (i : ℕ) (p : Party) (action : Action) (x : ℕ) (ne
 abbrev pub DelStands : ℕ → Map → Anchors → List ℕ → Anchors → Type 0
 DelStands slots before anchors name now = (now ≡ anchors) ⊎ Merges slots before anchors name now
 
+-- The stage is of a call whose merge has come so far: it holds its node again, or is at such a pace.
+abbrev pub merged_by : (Pace → Bool) → Stage → Bool
+merged_by so_far (Holds n w h) = h.merged
+merged_by so_far (Eyes n w h m v u free) = h.merged
+merged_by so_far (Meets n w h right) = h.merged
+merged_by so_far (Joins h left right pace) = so_far pace
+merged_by so_far _ = false
+
 -- The stage is of a call that has merged another node into the one that it holds.
 abbrev pub is_past : Pace → Bool
 is_past Gathered = false
@@ -229,11 +237,7 @@ is_past Joined = true
 is_past Gone = true
 
 abbrev pub has_merged : Stage → Bool
-has_merged (Holds n w h) = h.merged
-has_merged (Eyes n w h m v u free) = h.merged
-has_merged (Meets n w h right) = h.merged
-has_merged (Joins h left right pace) = is_past pace
-has_merged _ = false
+has_merged s = merged_by is_past s
 
 -- It holds no node by a call, or it splits.
 abbrev pub IsOut : Stage → Type 0

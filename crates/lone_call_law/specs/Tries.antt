@@ -16,7 +16,7 @@ use Rattle.data_node.specs.Lists.{ListNode, target_from, key_of, without_member}
 use Rattle.call_stages.specs.declared.once.Once.{Once}
 use Rattle.call_stages.specs.declared.once.Once.TheVariants as once
 use Rattle.call_stages.specs.declared.once.Placed.{Placed}
-use Rattle.call_stages.specs.Stages.{Held, Pace, Gathered, Joined, Gone, Linked, Parted, Stage, Idle, Holds, Eyes}
+use Rattle.call_stages.specs.Stages.{Held, Pace, Gathered, Joined, Gone, Linked, Parted, Stage, Idle}
 use Rattle.call_stages.specs.Stages.{Splits, Leaves, Meets, Joins, counted, placed_in}
 use Rattle.call_stages.specs.Kinds.{below_key, from_key}
 use Rattle.call_stages.specs.AnySteps.{AnyStep}
@@ -27,7 +27,7 @@ use Rattle.index_law.specs.Lawful.{Lawful, IsList}
 use Rattle.index_law.specs.Laws.{IsAtRest}
 use Rattle.index_law.specs.Shapes.{IsHalved}
 use Rattle.index_law.specs.Anchors.{anchors_in, gone_nodes, members_most}
-use Rattle.index_law.specs.LoneShapes.{has_merged}
+use Rattle.index_law.specs.LoneShapes.{merged_by, has_merged}
 use Rattle.lone_call_law.specs.Merging.{next_node, ShapeMerges, IsMergedSince, HasKeptList}
 
 -- The party has made the switch of its split.
@@ -44,11 +44,7 @@ is_gone Joined = false
 is_gone Gone = true
 
 abbrev pub has_retired : Stage → Bool
-has_retired (Holds n w h) = h.merged
-has_retired (Eyes n w h m v u free) = h.merged
-has_retired (Meets n w h right) = h.merged
-has_retired (Joins h left right pace) = is_gone pace
-has_retired _ = false
+has_retired s = merged_by is_gone s
 
 -- It has counted the delete of this name.
 pub record HasDeleted (name : List ℕ) (own : Option Change) (h : Held) : Type 0 where
