@@ -24,7 +24,7 @@ use Rattle.pac_index.specs.declared.rule.Member.{Member}
 use Rattle.pac_index.specs.Budgets.{Pays, StopsAt}
 use Rattle.pac_index.specs.Kept.{placed_by, added_now, machine_in, GoesTimely}
 use Rattle.pac_index.specs.Calls.{own_at, began, Runs}
-use Rattle.pac_index.proofs.Running.{flies_on, first_limit}
+use Rattle.pac_index.proofs.Running.{flies_on, first_call}
 
 pub pays_on : (a b c : Option ℕ) (t u v : ℕ) → Pays a b t u → Pays b c 0 1 → v ≡ u + 1 → Pays a c t v
 pays_on None None None t u v p q is = tt
@@ -79,7 +79,7 @@ stops_so c n old v turn m place runs is at =
     let i = old.state.caller in
     let state : v.state ≡ state_after (began c n old runs.since) (Go m) = runs.state ∙ ap (state_after (began c n old runs.since)) is in
     let call_is : IsSame (running_call (machine_in old c)) (running_call m) = subst (MakesCall (running_call (machine_in old c))) is runs.call_is in
-    let limit : (running_call m).limit ≡ limit_of c = ap (λ (k : Call). k.limit) call_is ∙ first_limit old c in
+    let limit : (running_call m).limit ≡ limit_of c = ap (λ (k : Call). k.limit) call_is ∙ (first_call old c).0 in
     let later = runs.later in
     let earlier : (p l : Option ℕ) → IfSome p (λ _. IfSome l (λ most. runs.since < most)) → IfSome p (λ _. IfSome l (λ most. length old.seen < most)) = below_earlier_at runs.since (length old.seen) runs.later in
     subst (λ (p : Option ℕ). StopsAt c n old p v) (sym at) (record {

@@ -95,24 +95,17 @@ after_after : (e : PartyState) (m : Running) (turn : Turn Running (Once Placed))
 after_after e m (Go next) = refl
 after_after e m (Done answer) = refl
 
-pub first_limit : (v : Member) (c : CoreCall) → (running_call (machine_in v c)).limit ≡ limit_of c
-first_limit v (call.Put name value limit) = refl
-first_limit v (call.Get name) = refl
-first_limit v (call.Del name limit) = refl
-first_limit v (call.Part low count) = refl
-first_limit v (call.Recheck node version) = refl
-first_limit v (call.Turn stamp release) = refl
+-- the machine of a call that begins has the call's limit, and no place yet
+pub first_call : (v : Member) (c : CoreCall) → ((running_call (machine_in v c)).limit ≡ limit_of c) × (placed_in (stage_of (machine_in v c)) ≡ None)
+first_call v (call.Put name value limit) = (refl, refl)
+first_call v (call.Get name) = (refl, refl)
+first_call v (call.Del name limit) = (refl, refl)
+first_call v (call.Part low count) = (refl, refl)
+first_call v (call.Recheck node version) = (refl, refl)
+first_call v (call.Turn stamp release) = (refl, refl)
 
 first_op : (v : Member) (c : CoreCall) → IsOf (op_of c) (machine_in v c) → IsOf (op_of c) (machine_in v c)
 first_op v c of = of
-
-first_unplaced : (v : Member) (c : CoreCall) → placed_in (stage_of (machine_in v c)) ≡ None
-first_unplaced v (call.Put name value limit) = refl
-first_unplaced v (call.Get name) = refl
-first_unplaced v (call.Del name limit) = refl
-first_unplaced v (call.Part low count) = refl
-first_unplaced v (call.Recheck node version) = refl
-first_unplaced v (call.Turn stamp release) = refl
 
 -- a call that begins
 pub runs_first : (c : CoreCall) (n : ℕ) (old : Member) (since : ℕ) → length old.seen ≤ since → IsRunning (machine_in old c) → IsOf (op_of c) (machine_in old c) → Runs c n old (Go (machine_in old c)) (calling old c n since)
@@ -129,12 +122,12 @@ runs_first c n old since later here of = record {
   op = of;
   call_is = refl;
   seen = begins_self old.seen;
-  own = sym (append-nil (placed_by old.state.caller old.seen)) ∙ ap (λ (p : Option ℕ). placed_by old.state.caller old.seen ++ own_at old.state.caller n (change_of (op_of c)) p) (sym (first_unplaced old c));
+  own = sym (append-nil (placed_by old.state.caller old.seen)) ∙ ap (λ (p : Option ℕ). placed_by old.state.caller old.seen ++ own_at old.state.caller n (change_of (op_of c)) p) (sym (first_call old c).1);
   says = tt;
   no_epoch = tt;
   heard = nothing_told old.about.layout old.about.generation (view_in old) c;
   ready = first_ready (view_in old) c here;
-  timely = subst (λ (p : Option ℕ). IfSome p (λ _. IfSome (running_call (machine_in old c)).limit (λ most. since < most))) (sym (first_unplaced old c)) tt;
+  timely = subst (λ (p : Option ℕ). IfSome p (λ _. IfSome (running_call (machine_in old c)).limit (λ most. since < most))) (sym (first_call old c).1) tt;
 }
 
 -- what goes on with the call that goes on with another one
@@ -151,7 +144,7 @@ runs_on c n old v w turn m x runs is goes =
     let same : op_in m ≡ op = op_told op m of in
     let call_is : IsSame (running_call (machine_in old c)) (running_call m) = subst (MakesCall (running_call (machine_in old c))) is runs.call_is in
     let sound : Sound old.about.layout old.about.generation m = (subst (ReadyAfter old.about.layout old.about.generation) is runs.ready).sound in
-    let limit : (running_call m).limit ≡ limit_of c = ap (λ (k : Call). k.limit) call_is ∙ first_limit old c in
+    let limit : (running_call m).limit ≡ limit_of c = ap (λ (k : Call). k.limit) call_is ∙ (first_call old c).0 in
     let state : v.state ≡ state_after (began c n old runs.since) (Go m) = runs.state ∙ ap (state_after (began c n old runs.since)) is in
     let caller : v.state.caller ≡ i = ap (λ (e : PartyState). e.caller) state in
     let index : v.state.index ≡ n = ap (λ (e : PartyState). e.index) state in
