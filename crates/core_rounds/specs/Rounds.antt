@@ -70,6 +70,17 @@ RoundsEndWithTurn [] = ⊥
 RoundsEndWithTurn (plan ∷ []) = EndsWithTurn plan
 RoundsEndWithTurn (plan ∷ next ∷ plans) = RoundsEndWithTurn (next ∷ plans)
 
+-- Each full answer of a round is paid for by so much weight and so many names at its opening, and the puts of the round
+-- that added a name or were cut off.
+abbrev pub FullsArePaid : ℕ → ℕ → ℕ → ℕ → List Record → Type 0
+FullsArePaid slots nodes weighs names records =
+    All (FullIsPaid slots nodes (weighs + puts_added records) (names + puts_added records)) records
+
+-- A round with these records leaves a shape of this map that is paid for so.
+abbrev pub LeavesShape : ℕ → ℕ → ℕ → ℕ → List Record → Map → Anchors → Type 0
+LeavesShape slots nodes weighs names records end next =
+    IsShapeWithin slots nodes (weighs + puts_added records) (names + puts_added records) end next
+
 -- ---- rounds of several callers
 
 -- A legal round of the plan's calls under the plan's limit, by several callers at once, from the base map on, joined
@@ -80,8 +91,7 @@ RoundsEndWithTurn (plan ∷ next ∷ plans) = RoundsEndWithTurn (next ∷ plans)
 pub record IsCrowdRound (slots nodes weighs names : ℕ) (base : Map) (plan : RoundPlan) (report : RoundReport)
     (writes : List Write) : Type 0 where
   pub legal : IsJoinedRound base (numbered plan.ops) plan.limit report.records writes (after_all base writes)
-  pub paid : All (FullIsPaid slots nodes (weighs + puts_added report.records) (names + puts_added report.records))
-      report.records
+  pub paid : FullsArePaid slots nodes weighs names report.records
   pub apart : AreApart plan.ops → All (λ r. TookPlace r.reply) report.records →
       after_all base writes ≡ after_changes base (changes_asked plan.ops)
   pub joined : report.crashed ≡ false
@@ -129,8 +139,7 @@ pub data ArePlayed (slots nodes : ℕ) : ℕ → ℕ → Map → Anchors → Lis
       {plans : List RoundPlan} {reports : List RoundReport} →
       AreLoneCalls plan.ops → plan.crash ≡ None →
       IsPlayedRound slots nodes base anchors plan report (writes_of report.records) →
-      All (FullIsPaid slots nodes (weighs + puts_added report.records) (names + puts_added report.records))
-      report.records →
+      FullsArePaid slots nodes weighs names report.records →
       ArePlayed slots nodes (weighs + puts_added report.records) (names + puts_added report.records)
       (after_all base (writes_of report.records)) (anchors_end slots base anchors report.records) plans reports end
       shape →
@@ -139,9 +148,7 @@ pub data ArePlayed (slots nodes : ℕ) : ℕ → ℕ → Map → Anchors → Lis
       {plans : List RoundPlan} {reports : List RoundReport} →
       ¬ AreLoneCalls plan.ops → plan.crash ≡ None →
       (writes : List Write) → IsCrowdRound slots nodes weighs names base plan report writes →
-      (next : Anchors) →
-      IsShapeWithin slots nodes (weighs + puts_added report.records) (names + puts_added report.records)
-      (after_all base writes) next →
+      (next : Anchors) → LeavesShape slots nodes weighs names report.records (after_all base writes) next →
       ArePlayed slots nodes (weighs + puts_added report.records) (names + puts_added report.records)
       (after_all base writes) next plans reports end shape →
       ArePlayed slots nodes weighs names base anchors (plan ∷ plans) (report ∷ reports) end shape
@@ -150,10 +157,8 @@ pub data ArePlayed (slots nodes : ℕ) : ℕ → ℕ → Map → Anchors → Lis
       AreLoneCalls plan.ops → (crash : CrashPlan) → plan.crash ≡ Some crash →
       IsCrashedRound base plan crash report (writes_of report.records) found →
       IsLoneCrash slots nodes base anchors plan report.records →
-      All (FullIsPaid slots nodes (weighs + puts_added report.records) (names + puts_added report.records))
-      report.records →
-      (next : Anchors) →
-      IsShapeWithin slots nodes (weighs + puts_added report.records) (names + puts_added report.records) found next →
+      FullsArePaid slots nodes weighs names report.records → (next : Anchors) →
+      LeavesShape slots nodes weighs names report.records found next →
       ArePlayed slots nodes (weighs + puts_added report.records) (names + puts_added report.records) found next plans
       reports end shape →
       ArePlayed slots nodes weighs names base anchors (plan ∷ plans) (report ∷ reports) end shape
@@ -161,10 +166,8 @@ pub data ArePlayed (slots nodes : ℕ) : ℕ → ℕ → Map → Anchors → Lis
       {report : RoundReport} {plans : List RoundPlan} {reports : List RoundReport} →
       ¬ AreLoneCalls plan.ops → (crash : CrashPlan) → plan.crash ≡ Some crash →
       (writes : List Write) → IsCrashedRound base plan crash report writes found →
-      All (FullIsPaid slots nodes (weighs + puts_added report.records) (names + puts_added report.records))
-      report.records →
-      (next : Anchors) →
-      IsShapeWithin slots nodes (weighs + puts_added report.records) (names + puts_added report.records) found next →
+      FullsArePaid slots nodes weighs names report.records → (next : Anchors) →
+      LeavesShape slots nodes weighs names report.records found next →
       ArePlayed slots nodes (weighs + puts_added report.records) (names + puts_added report.records) found next plans
       reports end shape →
       ArePlayed slots nodes weighs names base anchors (plan ∷ plans) (report ∷ reports) end shape
@@ -197,7 +200,7 @@ MorePays = (slots nodes weighs names weighs' names' : ℕ) (base end : Map) (anc
 abbrev pub ArePaidRounds : ℕ → ℕ → ℕ → ℕ → List RoundReport → Type 0
 ArePaidRounds slots nodes weighs names [] = Unit {0}
 ArePaidRounds slots nodes weighs names (report ∷ reports) =
-    All (FullIsPaid slots nodes (weighs + puts_added report.records) (names + puts_added report.records)) report.records
+    FullsArePaid slots nodes weighs names report.records
     × ArePaidRounds slots nodes (weighs + puts_added report.records) (names + puts_added report.records) reports
 
 abbrev pub PlayedArePaid : Type 0
