@@ -2,6 +2,7 @@
 use Rattle.std.specs.Prelude.{◌≡◌, ℕ, ◌+◌, ◌-◌, ◌*◌, ◌/◌, ◌%◌, ◌^◌, ◌<◌, ◌≤◌, ◌==◌, ◌⊎◌, min, length}
 use Rattle.std.specs.Prelude.{List, All}
 use Rattle.std.specs.FinMap.{len}
+use Rattle.cat_history.specs.Records.{as_op}
 use Rattle.cat_history.specs.declared.plan.RoundPlan.{RoundPlan}
 use Rattle.cat_text.specs.ReportGrammar.{IsReportRound}
 use Rattle.cat_text.specs.declared.report.RoundReport.{RoundReport}
@@ -23,6 +24,7 @@ use Rattle.recovery.specs.lone_updater_law.specs.LoneTurns.{line_state}
 use Rattle.recovery.specs.updater.specs.Events.{how_many}
 use Rattle.recovery.specs.index_core.specs.declared.party.CoreCall.{CoreCall}
 use Rattle.recovery.specs.index_core.specs.declared.party.CoreCall.TheVariants as call
+use Rattle.recovery.specs.index_core.specs.CoreCalls.{op_of}
 use Rattle.recovery.specs.index_core.specs.Indexes.{Index, IsIndex, map_of_index, world}
 use Rattle.recovery.specs.index_core.specs.Lone.{IsQuiet, locks_left, taken_nodes}
 use Rattle.recovery.specs.index_core.specs.Fulls.{HasLowStamps}
@@ -31,7 +33,7 @@ use Rattle.recovery.specs.Opened.{IsOpenedFrom}
 use Rattle.core_rounds.specs.LoneCalls.{calls_in}
 use Rattle.core_rounds.specs.Rounds.{RoundsEndWithTurn, added_in}
 use Rattle.core_rounds.specs.Updated.{ArePlayedFrom, UpdatedState, WaitBehind, changes_of_rounds}
-use Rattle.core_rounds.specs.Waiting.{HaveNoTurns, one_if, puts_asked, writes_asked}
+use Rattle.core_rounds.specs.Waiting.{HaveNoTurns, one_if, one_put, puts_asked, writes_asked}
 
 -- How many more calls it can have: each takes four locks of each node at most.
 abbrev pub calls_left_of : Index → ℕ
@@ -75,12 +77,7 @@ anchors_made s (call.Turn stamp release) = anchors_in (world s)
 -- How many puts a call is, and how many changes of the shape one makes that takes place: one where a put splits, or a
 -- delete merges.
 abbrev pub puts_for : CoreCall → ℕ
-puts_for (call.Put name value limit) = 1
-puts_for (call.Get name) = 0
-puts_for (call.Del name limit) = 0
-puts_for (call.Part low count) = 0
-puts_for (call.Recheck node version) = 0
-puts_for (call.Turn stamp release) = 0
+puts_for c = one_put (as_op (op_of c))
 
 abbrev pub changes_for : Index → CoreCall → ℕ
 changes_for s (call.Put name value limit) =
