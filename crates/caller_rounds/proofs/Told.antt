@@ -44,18 +44,6 @@ not-read other (Get name) is = absurd (other is)
 not-read other (Del name) is = tt
 not-read other (Scan from count) is = absurd is
 
-at-read : (place : ℕ) → At place ≢ Read
-at-read place is = cc
-
-open-read : Open ≢ Read
-open-read is = cc
-
-found-read : Found ≢ Read
-found-read is = cc
-
-lost-read : Lost ≢ Read
-lost-read is = cc
-
 -- of an open mark one of two things is told
 settled-mark : (op : Op) (b : Bool) → IsWriter op → IsReportMark op (if b then Found else Lost)
 settled-mark op true writes = writes
@@ -66,10 +54,10 @@ settled_are_told base history limit op (Old old place) end is small = (no-scan (
 settled_are_told base history limit op (Parts parts cut) end is small = (is-scan (after base history) op cut parts is, small.0, small.1)
 settled_are_told base history limit op Full end is small = is
 settled_are_told base history limit op (Spent clock) end is small = (is.0, small)
-settled_are_told base history limit op (Cut (At place)) end is small = (not-read (at-read place) op is, small)
-settled_are_told base history limit op (Cut Open) end is small = settled-mark op (is_shown end (change_asked op)) (not-read open-read op is)
-settled_are_told base history limit op (Cut Found) end is small = not-read found-read op is
-settled_are_told base history limit op (Cut Lost) end is small = not-read lost-read op is
+settled_are_told base history limit op (Cut (At place)) end is small = (not-read (λ (read : At place ≡ Read). cc) op is, small)
+settled_are_told base history limit op (Cut Open) end is small = settled-mark op (is_shown end (change_asked op)) (not-read (λ (read : Open ≡ Read). cc) op is)
+settled_are_told base history limit op (Cut Found) end is small = not-read (λ (read : Found ≡ Read). cc) op is
+settled_are_told base history limit op (Cut Lost) end is small = not-read (λ (read : Lost ≡ Read). cc) op is
 settled_are_told base history limit op (Cut Read) end is small = no-get op is
 settled_are_told base history limit op Unstarted end is small = tt
 
