@@ -168,13 +168,13 @@ last-gives None = refl
 last-gives (Some x) = refl
 
 pub replies_follow : RepliesFollow
-replies_follow base limit caller asked old new records r has more call is own = record {
-  calls = map-append call_of records (r ∷ []) ∙ ap (λ cs. cs ++ call_of r ∷ []) has.calls ∙ ap (λ c. calls_from caller 0 asked ++ c ∷ []) (call ∙ first) ∙ sym (calls-push caller 0 asked r.op);
-  answers = All-push (λ (q : Record). IsAnswer base new limit q.op q.reply) records r (all-stay base limit old new more records has.within has.answers) is.answer;
-  within = All-push (λ (q : Record). IfSome (interval q) (λ i. i.end ≤ length new)) records r (all-within base limit old new more records has.within) is.within;
+replies_follow base limit caller asked old new records r has next = record {
+  calls = map-append call_of records (r ∷ []) ∙ ap (λ cs. cs ++ call_of r ∷ []) has.calls ∙ ap (λ c. calls_from caller 0 asked ++ c ∷ []) (next.call ∙ first) ∙ sym (calls-push caller 0 asked r.op);
+  answers = All-push (λ (q : Record). IsAnswer base new limit q.op q.reply) records r (all-stay base limit old new next.more records has.within has.answers) next.replied.answer;
+  within = All-push (λ (q : Record). IfSome (interval q) (λ i. i.end ≤ length new)) records r (all-within base limit old new next.more records has.within) next.replied.within;
   in_order = in-order;
-  own = own ∙ ap (λ ws. ws ++ option_to_list (placed_write r)) has.own ∙ sym told;
-  begun = subst (All (λ (w : ℕ × Write). 0 < limit)) (sym told) (All-append (λ (w : ℕ × Write). 0 < limit) (placed_writes records) (option_to_list (placed_write r)) has.begun (begun (placed_write r) is.below));
+  own = next.own ∙ ap (λ ws. ws ++ option_to_list (placed_write r)) has.own ∙ sym told;
+  begun = subst (All (λ (w : ℕ × Write). 0 < limit)) (sym told) (All-append (λ (w : ℕ × Write). 0 < limit) (placed_writes records) (option_to_list (placed_write r)) has.begun (begun (placed_write r) next.replied.below));
   in_time = in-time;
 }
   where
@@ -197,14 +197,14 @@ replies_follow base limit caller asked old new records r has more call is own = 
     ordered (Some i) (Some j) before behind = omega arith
 
     index : r.index ≡ length asked
-    index = ap (λ (c : Call). c.index) call
+    index = ap (λ (c : Call). c.index) next.call
 
     in-order : KeepsCallersOrder (records ++ r ∷ [])
     in-order q s has_q has_s same less = ⊎_elim
         (λ (here_q : Contains records q). ⊎_elim
         (λ (here_s : Contains records s). has.in_order q s here_q here_s same less)
         (λ (last_s : r ≡ s). subst (λ (t : Record). IfSome (interval q) (λ i. IfSome (interval t) (λ j. i.end ≤ j.start))) last_s
-        (ordered (interval q) (interval r) (All-contains (λ (t : Record). IfSome (interval t) (λ i. i.end ≤ length old)) records q has.within here_q) is.later))
+        (ordered (interval q) (interval r) (All-contains (λ (t : Record). IfSome (interval t) (λ i. i.end ≤ length old)) records q has.within here_q) next.replied.later))
         (Contains-push_cases records r s has_s))
         (λ (last_q : r ≡ q).
         let q_index : q.index ≡ length asked = ap (λ (t : Record). t.index) (sym last_q) ∙ index in
@@ -218,10 +218,10 @@ replies_follow base limit caller asked old new records r has more call is own = 
     in-old w stands = All-contains (λ (e : ℕ × Write). e.0 < length old) (own_writes caller old) w (own-within caller old) (subst (λ ws. Contains ws w) (sym has.own) stands)
 
     start-of : (w : ℕ × Write) → placed_write r ≡ Some w → length old ≤ w.0
-    start-of w gives = subst (λ (o : Option Interval). IfSome o (λ i. length old ≤ i.start)) (takes-place r.caller r.index r.op r.reply w gives) is.later
+    start-of w gives = subst (λ (o : Option Interval). IfSome o (λ i. length old ≤ i.start)) (takes-place r.caller r.index r.op r.reply w gives) next.replied.later
 
     limit-above : (w : ℕ × Write) → placed_write r ≡ Some w → length old < limit
-    limit-above w gives = subst (λ (o : Option (ℕ × Write)). IfSome o (λ _. length old < limit)) gives is.below
+    limit-above w gives = subst (λ (o : Option (ℕ × Write)). IfSome o (λ _. length old < limit)) gives next.replied.below
 
     in-time : AreInTime limit (placed_writes (records ++ r ∷ []))
     in-time p q has_p has_q less =

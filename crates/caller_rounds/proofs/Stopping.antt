@@ -27,14 +27,14 @@ use Rattle.caller_rounds.proofs.Parting.{all-flat, elem-within, flat-has, given-
 -- ---- one call more
 
 pub stops_follow : StopsFollow
-stops_follow base limit caller asked old new records r has more call is own last settles = record {
-  replies = replies_follow base limit caller asked old new records r has.replies more call is own;
+stops_follow base limit caller asked old new records r has next last settles = record {
+  replies = replies_follow base limit caller asked old new records r has.replies next;
   once = once;
   unsettled = All-push (λ (q : Record). IsUnsettled q.reply) records r has.unsettled settles;
 }
   where
     index : r.index ≡ length asked
-    index = ap (λ (c : Call). c.index) call
+    index = ap (λ (c : Call). c.index) next.call
 
     known : (q : Record) → Contains records q → q.index < length asked
     known q here = (record-known caller asked records q has.replies.calls here).1
@@ -57,7 +57,8 @@ stops_follow base limit caller asked old new records r has more call is own last
 
 pub unstarted_follow : UnstartedFollow
 unstarted_follow base limit caller asked seen records op has =
-    stops_follow base limit caller asked seen seen records r has ([], append-nil seen) refl (record { answer = tt; later = tt; within = tt; below = tt }) (sym (append-nil _)) (inr refl) tt
+    stops_follow base limit caller asked seen seen records r has
+    (record { more = ([], append-nil seen); call = refl; replied = record { answer = tt; later = tt; within = tt; below = tt }; own = sym (append-nil _) }) (inr refl) tt
   where
     r : Record
     r = record { caller = caller; index = length asked; op = op; reply = Unstarted }

@@ -67,13 +67,19 @@ pub record HasAnswers (base : Map) (limit caller : ℕ) (asked : List Op) (seen 
   pub replies : HasReplies base limit caller asked seen records
   pub answered : All (λ r. IsAnswered r.reply) records
 
+-- The next call of a caller that was asked these came to its reply meanwhile, and what the caller has written since is
+-- the write of that call.
+pub record IsNextReply (base : Map) (limit caller : ℕ) (asked : List Op) (old new : List Write) (r : Record) : Type 0
+  where
+    pub more : Begins old new
+    pub call : call_of r ≡ record { caller = caller; index = length asked; op = r.op }
+    pub replied : IsRepliedSince base limit (length old) new r
+    pub own : own_writes caller new ≡ own_writes caller old ++ option_to_list (placed_write r)
+
 -- One call more.
 abbrev pub RepliesFollow : Type 0
 RepliesFollow = (base : Map) (limit caller : ℕ) (asked : List Op) (old new : List Write) (records : List Record)
-    (r : Record) → HasReplies base limit caller asked old records → Begins old new →
-    call_of r ≡ record { caller = caller; index = length asked; op = r.op } →
-    IsRepliedSince base limit (length old) new r →
-    own_writes caller new ≡ own_writes caller old ++ option_to_list (placed_write r) →
+    (r : Record) → HasReplies base limit caller asked old records → IsNextReply base limit caller asked old new r →
     HasReplies base limit caller (asked ++ r.op ∷ []) new (records ++ r ∷ [])
 
 -- More writes, of others.

@@ -1,13 +1,12 @@
 -- Callers of a round that a crash ends: what each one's replies say, and which round they make that stopped in one
 -- history.
 use Rattle.std.specs.Prelude.{◌≡◌, ◌≢◌, ℕ, ◌<◌, ◌≤◌, ◌⊎◌, List, [], ◌∷◌, ◌++◌, All, Some, flat_map, length, slice_get}
-use Rattle.std.specs.Option.{option_to_list}
 use mathlib.Core.Option.{some}
 use lib.ListN.{get_elem?}
 use Rattle.cat_history.specs.CrashEnds.{IsCrashEnd}
 use Rattle.cat_history.specs.CrashRounds.{IsStoppedRound, IsUnsettled, StopsOnce, changes_cut}
 use Rattle.cat_history.specs.Maps.{Map}
-use Rattle.cat_history.specs.Records.{call_of, numbered, placed_write}
+use Rattle.cat_history.specs.Records.{numbered}
 use Rattle.cat_history.specs.Rounds.{IsAnswered}
 use Rattle.cat_history.specs.declared.op.CallerOp.{CallerOp}
 use Rattle.cat_history.specs.declared.op.Change.{Change}
@@ -17,7 +16,7 @@ use Rattle.cat_history.specs.declared.record.Record.{Record}
 use Rattle.cat_history.specs.declared.record.Reply.TheVariants.{Unstarted}
 use Rattle.stopped_rounds.specs.LoneStops.{IsWithin}
 use Rattle.stopped_rounds.specs.MoreCuts.{AreAmong}
-use Rattle.caller_rounds.specs.CallerRounds.{Begins, HasReplies, IsRepliedSince, asked_of, by_caller, own_writes}
+use Rattle.caller_rounds.specs.CallerRounds.{HasReplies, IsNextReply, asked_of, by_caller}
 
 -- A caller that was asked these has come so far with its calls and stopped once: behind a call that wasn't answered it
 -- began none. What became of a write that was cut off without a place is open. One whose calls were all answered is
@@ -31,10 +30,7 @@ pub record HasStopped (base : Map) (limit caller : ℕ) (asked : List Op) (seen 
 -- One call more, answered or cut off where all before it were answered, and else not begun.
 abbrev pub StopsFollow : Type 0
 StopsFollow = (base : Map) (limit caller : ℕ) (asked : List Op) (old new : List Write) (records : List Record)
-    (r : Record) → HasStopped base limit caller asked old records → Begins old new →
-    call_of r ≡ record { caller = caller; index = length asked; op = r.op } →
-    IsRepliedSince base limit (length old) new r →
-    own_writes caller new ≡ own_writes caller old ++ option_to_list (placed_write r) →
+    (r : Record) → HasStopped base limit caller asked old records → IsNextReply base limit caller asked old new r →
     (All (λ q. IsAnswered q.reply) records ⊎ (r.reply ≡ Unstarted)) → IsUnsettled r.reply →
     HasStopped base limit caller (asked ++ r.op ∷ []) new (records ++ r ∷ [])
 

@@ -137,8 +137,9 @@ module _ (limit caller : ℕ) (budget : Option ℕ) (asked : List Op) (op : Op) 
       subst (λ (a : About). HasStopped (map_of a.base) limit caller (asked ++ op ∷ []) (seen_by new).seen (records ++ r ∷ []) → KnowsRoom a.layout.slots (map_of a.base) (seen_by new).seen (seen_by new).none_free ((seen_by new).added + put_in_flight new.cut) (records ++ r ∷ [])
       → HasPlayed limit caller budget (asked ++ op ∷ []) new (records ++ r ∷ [])) is.about
       (λ stopped room. record { stopped = stopped; within = within; room = room; told = told; cut = among-last (change_in_flight new.cut) records r is.tells; answered = answered; rests = rests })
-      (stops_follow (map_of (seen_by old).about.base) limit caller asked (seen_by old).seen (seen_by new).seen records r has.stopped is.seen refl is.replied
-      (sym (placed-own caller (seen_by new).seen) ∙ is.own ∙ ap (λ (l : List (ℕ × Write)). l ++ option_to_list (placed_write r)) (placed-own caller (seen_by old).seen)) (inl going.answered) is.unsettled)
+      (stops_follow (map_of (seen_by old).about.base) limit caller asked (seen_by old).seen (seen_by new).seen records r has.stopped
+      (record { more = is.seen; call = refl; replied = is.replied; own = sym (placed-own caller (seen_by new).seen) ∙ is.own ∙ ap (λ (l : List (ℕ × Write)). l ++ option_to_list (placed_write r)) (placed-own caller (seen_by old).seen) })
+      (inl going.answered) is.unsettled)
       (room_follows (seen_by old).about.layout.slots (map_of (seen_by old).about.base) (seen_by old).seen (seen_by new).seen (seen_by old).none_free (seen_by new).none_free ((seen_by old).added + put_in_flight old.cut)
       ((seen_by new).added + put_in_flight new.cut) records r has.room is.seen is.none_free (let few = is.added in omega arith) is.full)
     where
