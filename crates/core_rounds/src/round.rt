@@ -1,11 +1,10 @@
 //! Running a round in which one caller alone has calls.
 
-ghost use Rattle.std.specs.Prelude.{◌≡◌, ◌+◌, ◌*◌, ◌<◌, ◌≤◌, ◌^◌, ◌↔◌, if◌then◌else◌, is_some, length, All, IfOk};
+ghost use Rattle.std.specs.Prelude.{◌≡◌, ◌+◌, ◌*◌, ◌<◌, ◌≤◌, ◌^◌, ◌↔◌, length, All, IfOk};
 ghost use Rattle.std.specs.Prelude.{OnErr, IsTrue};
-ghost use Rattle.cat_history.specs.Records.{mark_place};
 ghost use Rattle.cat_history.specs.Rounds.{IsWriter};
 ghost use Rattle.cat_history.specs.Scans.{IsPart};
-ghost use Rattle.cat_history.specs.LoneRounds.{write_of, IsAnswerNow, IsSpent};
+ghost use Rattle.cat_history.specs.LoneRounds.{IsAnswerNow, IsSpent};
 ghost use Rattle.cat_text.specs.ReportGrammar.{IsReportPart, IsReportReply, IsReportRound};
 ghost use Rattle.shapes.specs.Anchors.{next_of, past};
 ghost use Rattle.shapes.specs.Laws.{IsScanByShape};
@@ -17,11 +16,12 @@ ghost use Rattle.core_rounds.specs.Updated.{WaitBehind, WaitOn, change_by, chang
 ghost use Rattle.core_rounds.specs.Waiting.{one_put, one_write, puts_among, writes_among};
 
 use crate::updated_map::UpdatedMap;
-use cat_history::{CutMark, Items, NoMemory, Op, Parts, Record, Reply, RoundPlan, ScanPart};
+use cat_history::{Items, NoMemory, Op, Parts, Record, Reply, RoundPlan, ScanPart};
 use cat_key::Name;
 use cat_text::RoundReport;
 use shapes::{Full, MapPart};
 use std::alloc::Global;
+use stopped_rounds::is_placed_write;
 
 /// Answers the calls of one caller in their order, each on the map as the earlier ones left it. A put or a delete that
 /// comes when the placed writes reach the plan's limit is told so and changes nothing. Behind each so many calls as the
@@ -250,21 +250,4 @@ fn read_part<M: UpdatedMap>(
         place,
         pairs,
     })
-}
-
-/// Whether a record is of a write that has a place.
-fn is_placed_write(entry: &Record) -> bool
-    ensures { length (write_of entry.now) ≡ (if result then 1 else 0) }
-{
-    match (&entry.op, &entry.reply) {
-        (Op::Put { .. } | Op::Del { .. }, Reply::Old { .. }) => true,
-        (Op::Put { .. } | Op::Del { .. }, Reply::Cut { mark }) => mark_has_place(mark),
-        _ => false,
-    }
-}
-
-fn mark_has_place(mark: &CutMark) -> bool
-    ensures { result ≡ is_some (mark_place mark.now) }
-{
-    matches!(mark, CutMark::At { .. })
 }

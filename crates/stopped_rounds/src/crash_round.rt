@@ -308,7 +308,7 @@ fn read_part<M: BoundedMap>(
 }
 
 /// Whether a record is of a write that has a place.
-fn is_placed_write(entry: &Record) -> bool
+pub fn is_placed_write(entry: &Record) -> bool
     ensures { length (write_of entry.now) ≡ (if result then 1 else 0) }
 {
     match (&entry.op, &entry.reply) {

@@ -7,4 +7,4 @@ mod crash_round;
 pub mod laws;
 
 pub use bounded_map::{Bounded, BoundedMap};
-pub use crash_round::{StoppedRound, run_crash_round};
+pub use crash_round::{StoppedRound, is_placed_write, run_crash_round};
