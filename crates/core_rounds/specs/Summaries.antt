@@ -8,28 +8,20 @@ use Rattle.cat_history.specs.declared.op.Op.{Op}
 use Rattle.cat_history.specs.declared.op.Op.TheVariants.{Put, Get, Del, Scan}
 use Rattle.cat_history.specs.declared.record.Record.{Record}
 use Rattle.cat_history.specs.declared.record.Reply.{Reply}
-use Rattle.cat_history.specs.declared.record.Reply.TheVariants.{Old, Parts, Full, Spent, Cut, Unstarted}
+use Rattle.cat_history.specs.declared.record.Reply.TheVariants.{Full}
 use Rattle.cat_text.specs.declared.summary.Summary.{Summary}
 
 abbrev pub is_put : Op → Bool
 is_put (Put name value) = true
-is_put (Get name) = false
-is_put (Del name) = false
-is_put (Scan from count) = false
+is_put _ = false
 
 abbrev pub is_del : Op → Bool
-is_del (Put name value) = false
-is_del (Get name) = false
 is_del (Del name) = true
-is_del (Scan from count) = false
+is_del _ = false
 
 abbrev pub is_full : Reply → Bool
-is_full (Old old place) = false
-is_full (Parts parts cut) = false
 is_full Full = true
-is_full (Spent clock) = false
-is_full (Cut mark) = false
-is_full Unstarted = false
+is_full _ = false
 
 -- How many calls were answered that there is no room.
 abbrev pub full_in : List Record → ℕ
