@@ -42,15 +42,19 @@ writes_of-push records r = writes_of-append records (r ∷ []) ∙ ap (λ ws. wr
 after-push : (base : Map) (records : List Record) (r : Record) → after_all base (writes_of (records ++ r ∷ [])) ≡ after_all (after_all base (writes_of records)) (write_of r)
 after-push base records r = ap (after_all base) (writes_of-push records r) ∙ fold-append (λ n (w : Write). changed n w.change) base (writes_of records) (write_of r)
 
+-- These calls were answered, each on the map and the shape as the earlier ones left them.
+pub record AreAnsweredSo (slots most limit : ℕ) (s : MapState) (done : List Record) : Type 0 where
+  pub answers : HoldsAlong (λ (m : Map) (k : ℕ) (r : Record). IsAnswerNow m k r.op r.reply) s.contents 0 done
+  pub spent : HoldsAlong (λ (m : Map) (k : ℕ) (r : Record). IsSpent r.reply ↔ (IsWriter r.op × (limit ≤ k))) s.contents 0 done
+  pub full : IsFullInTime slots most limit (opening s.contents s.anchors) done
+  pub bounds : IsBoundedByShape slots s.contents s.anchors done
+
 -- How far the round is: as far as its calls were answered, or where it stopped, without a budget any more.
 pub record Stopping (slots most limit budget left place : ℕ) (s : MapState) (asked : List CallerOp) (records : List Record) (now : MapState) : Type 0 where
   pub done : List Record
   pub rest : List Record
   pub is : records ≡ done ++ rest
-  pub answers : HoldsAlong (λ (m : Map) (k : ℕ) (r : Record). IsAnswerNow m k r.op r.reply) s.contents 0 done
-  pub spent : HoldsAlong (λ (m : Map) (k : ℕ) (r : Record). IsSpent r.reply ↔ (IsWriter r.op × (limit ≤ k))) s.contents 0 done
-  pub full : IsFullInTime slots most limit (opening s.contents s.anchors) done
-  pub bounds : IsBoundedByShape slots s.contents s.anchors done
+  pub so : AreAnsweredSo slots most limit s done
   pub stops : IsStop limit (after_all s.contents (writes_of done)) (length (writes_of done)) rest
   pub calls : map call_of records ≡ numbered asked
   pub none : budget ≡ 0 → (left ≡ 0) × AreUnstarted records
@@ -68,10 +72,7 @@ stopping-first slots most limit budget s uncut = record {
   done = [];
   rest = [];
   is = refl;
-  answers = tt;
-  spent = tt;
-  full = tt;
-  bounds = tt;
+  so = record { answers = tt; spent = tt; full = tt; bounds = tt };
   stops = tt;
   calls = refl;
   none = λ is. (is, λ k d within. absurd (omega (arith, within)));
@@ -173,10 +174,7 @@ module _ (slots most limit budget left left' place place' caller : ℕ) (s : Map
         done = was.done;
         rest = was.rest ++ r ∷ [];
         is = ap (λ (l : List Record). l ++ r ∷ []) was.is ∙ append_assoc was.done was.rest (r ∷ []);
-        answers = was.answers;
-        spent = was.spent;
-        full = was.full;
-        bounds = was.bounds;
+        so = was.so;
         stops = stop-push limit (after_all s.contents (writes_of was.done)) (length (writes_of was.done)) was.rest r was.stops is;
         calls = calls';
         none = λ no. (gone', All-push (λ (q : Record). q.reply ≡ Unstarted) records r (was.none no).1 is);
@@ -224,12 +222,14 @@ module _ (slots most limit budget left left' place place' caller : ℕ) (s : Map
           done = was.done ++ r ∷ [];
           rest = [];
           is = pushed ∙ sym (append-nil (was.done ++ r ∷ []));
-          answers = along (λ (m : Map) (k : ℕ) (q : Record). IsAnswerNow m k q.op q.reply) was.answers a.now;
-          spent = along (λ (m : Map) (k : ℕ) (q : Record). IsSpent q.reply ↔ (IsWriter q.op × (limit ≤ k))) was.spent a.spent;
-          full = HoldsFrom-push (stands_after slots) (λ t q. (q.reply ≡ Full) ↔ ((ComesLate limit t q.op → ⊥) × PutsFull slots most t.map t.anchors q.op)) (opening s.contents s.anchors) was.done r was.full
-              (subst (λ (t : Standing). (r.reply ≡ Full) ↔ ((ComesLate limit t r.op → ⊥) × PutsFull slots most t.map t.anchors r.op)) (sym stands)
-              ((λ is. ((λ comes. (a.full.0 is).0 (late.0 comes)), (a.full.0 is).1)), (λ is. a.full.1 ((λ comes. is.0 (late.1 comes)), is.1))));
-          bounds = HoldsInShape-push slots (λ m shape q. EndsWithMembers shape q.reply) s.contents s.anchors was.done r was.bounds (subst (λ shape. EndsWithMembers shape r.reply) shape_is a.bounds);
+          so = record {
+            answers = along (λ (m : Map) (k : ℕ) (q : Record). IsAnswerNow m k q.op q.reply) was.so.answers a.now;
+            spent = along (λ (m : Map) (k : ℕ) (q : Record). IsSpent q.reply ↔ (IsWriter q.op × (limit ≤ k))) was.so.spent a.spent;
+            full = HoldsFrom-push (stands_after slots) (λ t q. (q.reply ≡ Full) ↔ ((ComesLate limit t q.op → ⊥) × PutsFull slots most t.map t.anchors q.op)) (opening s.contents s.anchors) was.done r was.so.full
+                (subst (λ (t : Standing). (r.reply ≡ Full) ↔ ((ComesLate limit t r.op → ⊥) × PutsFull slots most t.map t.anchors r.op)) (sym stands)
+                ((λ is. ((λ comes. (a.full.0 is).0 (late.0 comes)), (a.full.0 is).1)), (λ is. a.full.1 ((λ comes. is.0 (late.1 comes)), is.1))));
+            bounds = HoldsInShape-push slots (λ m shape q. EndsWithMembers shape q.reply) s.contents s.anchors was.done r was.so.bounds (subst (λ shape. EndsWithMembers shape r.reply) shape_is a.bounds);
+          };
           stops = tt;
           calls = calls';
           none = λ no. absurd (some_budget no);
@@ -257,10 +257,7 @@ module _ (slots most limit budget left left' place place' caller : ℕ) (s : Map
       done = was.done;
       rest = r ∷ [];
       is = pushed;
-      answers = was.answers;
-      spent = was.spent;
-      full = was.full;
-      bounds = was.bounds;
+      so = was.so;
       stops = (inr (subst (λ (q : Map × ℕ). IsCutNow limit q.0 q.1 r.op r.reply) (λ k. (here k, at k)) w.now), λ k d within. absurd (omega (arith, within)));
       calls = calls';
       none = λ no. absurd (some_budget no);
@@ -286,9 +283,9 @@ module _ (slots most limit budget left left' place place' caller : ℕ) (s : Map
 -- at its end
 pub stopped : (slots most limit budget left place : ℕ) (s : MapState) (asked : List CallerOp) (records : List Record) (now : MapState) → Stopping slots most limit budget left place s asked records now → HasStopped slots most limit budget s asked records now
 stopped slots most limit budget left place s asked records now was = record {
-  stop = record { done = was.done; rest = was.rest; is = was.is; answers = was.answers; spent = was.spent; stops = was.stops };
-  full = was.full;
-  bounds = was.bounds;
+  stop = record { done = was.done; rest = was.rest; is = was.is; answers = was.so.answers; spent = was.so.spent; stops = was.stops };
+  full = was.so.full;
+  bounds = was.so.bounds;
   in_script_order = was.calls;
   within = record { none = λ no. (was.none no).1; first = was.first };
   leaves = was.leaves;
