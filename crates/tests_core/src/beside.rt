@@ -178,11 +178,7 @@ fn row_of(case: u64) -> Row {
         0 => (Scene { names: 4, ..FULL }, [Put(4, 71), other]),
         1 => (SPARSE, [Del(1), other]),
         _ => (
-            Scene {
-                nodes: 1,
-                names: case / 40,
-                without: 0,
-            },
+            Scene::new(1, case / 40, 0),
             [call(case / 4, 0), call(case, 0)],
         ),
     }

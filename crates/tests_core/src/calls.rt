@@ -127,6 +127,17 @@ pub(super) struct Scene {
     pub without: u64,
 }
 
+impl Scene {
+    /// An index of so many nodes, with so many names but for these.
+    pub(super) fn new(nodes: u64, names: u64, without: u64) -> Scene {
+        Scene {
+            nodes,
+            names,
+            without,
+        }
+    }
+}
+
 /// The index of a scene.
 pub(super) fn made(alloc: Global, scene: Scene) -> Option<Core>
     ensures { IfSome result IsQuiet }

@@ -92,15 +92,6 @@ pub(super) fn shown(alloc: Global, core: Core) -> Option<[Option<u64>; 12]> {
     }
 }
 
-/// An index of nodes of four slots, with so many names but for these.
-fn scene(nodes: u64, names: u64, without: u64) -> Scene {
-    Scene {
-        nodes,
-        names,
-        without,
-    }
-}
-
 /// Whether the change of a call stands in a map.
 fn is_made(map: &[Option<u64>; 12], asked: Asked) -> bool {
     match asked {
@@ -173,15 +164,15 @@ fn a_crash_keeps_the_map_with_what_is_found(rt: HostRuntime) -> Result<(), Fail>
     // the delete that merges; it walks, locks and looks up with 24, as far as the value, sees where its node leads,
     // takes its third log line with 19, since those of two splits are READY, and stores its bitmap then.
     let rows = [
-        (scene(1, 1, 0), Asked::Put(1, 70), [60, 64]),
-        (scene(1, 4, 0), Asked::Put(0, 70), [27, 35]),
-        (scene(1, 2, 0), Asked::Del(0), [28, 32]),
-        (scene(3, 7, 0b1000), Asked::Del(1), [50, 54]),
+        (Scene::new(1, 1, 0), Asked::Put(1, 70), [60, 64]),
+        (Scene::new(1, 4, 0), Asked::Put(0, 70), [27, 35]),
+        (Scene::new(1, 2, 0), Asked::Del(0), [28, 32]),
+        (Scene::new(3, 7, 0b1000), Asked::Del(1), [50, 54]),
         // a put that splits its node is answered without a place
-        (scene(2, 4, 0), Asked::Put(4, 70), [NEVER; 2]),
-        (scene(8, 5, 0), Asked::Part(0, 10), [NEVER; 2]),
+        (Scene::new(2, 4, 0), Asked::Put(4, 70), [NEVER; 2]),
+        (Scene::new(8, 5, 0), Asked::Part(0, 10), [NEVER; 2]),
         // the lines of three splits and of a merge are READY
-        (scene(5, 10, 0b101100), Asked::Turn(1), [NEVER; 2]),
+        (Scene::new(5, 10, 0b101100), Asked::Turn(1), [NEVER; 2]),
     ];
     assert_eq!(rt; first_otherwise(rt.alloc(), &rows), None);
     Ok(())
@@ -239,7 +230,7 @@ fn is_schedule_legal(core: &mut Core, draws: &mut u64) -> bool {
 /// Whether it is so of this schedule, on five nodes of two or more names with three free ones, and a crash then keeps
 /// the map.
 fn is_schedule_kept(alloc: Global, schedule: u64) -> bool {
-    let Some(mut core) = made(alloc, scene(8, NAMES, 0)) else {
+    let Some(mut core) = made(alloc, Scene::new(8, NAMES, 0)) else {
         return false;
     };
     let legal = is_schedule_legal(&mut core, &mut draws_of(schedule));

@@ -176,12 +176,7 @@ fn an_image_that_breaks_a_rule_is_refused_by_it(rt: HostRuntime) -> Result<(), F
 /// The bytes of a catalogue of two nodes of four slots with five names: two stand in node 0, three in node 1, and the
 /// log line of the split is READY.
 fn catalogue(alloc: Global) -> Option<Vec<u8>> {
-    let scene = Scene {
-        nodes: 2,
-        names: 5,
-        without: 0,
-    };
-    match made(alloc, scene) {
+    match made(alloc, Scene::new(2, 5, 0)) {
         Some(core) => core.image(alloc).ok()?.write(alloc).ok(),
         None => None,
     }
@@ -310,12 +305,7 @@ fn tell_both(alloc: Global, core: &mut Core) -> [(u64, [u64; 2]); 2]
 
 /// The same of an index of nine names.
 fn tell_all(alloc: Global) -> [(u64, [u64; 2]); 2] {
-    let scene = Scene {
-        nodes: 4,
-        names: 9,
-        without: 0,
-    };
-    if let Some(first) = made(alloc, scene) {
+    if let Some(first) = made(alloc, Scene::new(4, 9, 0)) {
         if let Some(mut core) = reopened(alloc, &first) {
             return tell_both(alloc, &mut core);
         }

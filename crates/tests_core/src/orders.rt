@@ -23,12 +23,7 @@ fn sorted(core: &mut Core) -> Option<u64>
 
 /// How many names a part sorts, the same part again, and that part behind another call.
 fn sorted_behind(alloc: Global, between: Asked) -> Option<[u64; 3]> {
-    let scene = Scene {
-        nodes: 8,
-        names: 3,
-        without: 0,
-    };
-    let mut core = made(alloc, scene)?;
+    let mut core = made(alloc, Scene::new(8, 3, 0))?;
     let first = sorted(&mut core)?;
     let again = sorted(&mut core)?;
     alone(&mut core, between);

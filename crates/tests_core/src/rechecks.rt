@@ -51,12 +51,7 @@ fn part(core: &mut Core, low: u64) -> Option<PartWords>
 
 /// Whether a recheck of its node tells that all is the same, at the end of the history, behind another call.
 fn is_same(alloc: Global, low: u64, between: Asked) -> Option<bool> {
-    let scene = Scene {
-        nodes: 8,
-        names: 12,
-        without: 0,
-    };
-    let mut core = made(alloc, scene)?;
+    let mut core = made(alloc, Scene::new(8, 12, 0))?;
     let words = part(&mut core, low)?;
     alone(&mut core, between);
     let place = place_of(&mut core, &words);

@@ -27,22 +27,12 @@ fn cut_off(alloc: Global, scene: Scene, asked: Asked, before: u64) -> Option<Ima
 
 /// A put of a fifth name into a full node of two, which splits it.
 fn split(alloc: Global, before: u64) -> Option<Image> {
-    let scene = Scene {
-        nodes: 2,
-        names: 4,
-        without: 0,
-    };
-    cut_off(alloc, scene, Asked::Put(4, 70), before)
+    cut_off(alloc, Scene::new(2, 4, 0), Asked::Put(4, 70), before)
 }
 
 /// A delete that merges two nodes of four, the lines of whose splits are READY.
 fn merge(alloc: Global, before: u64) -> Option<Image> {
-    let scene = Scene {
-        nodes: 4,
-        names: 7,
-        without: 0b1000,
-    };
-    cut_off(alloc, scene, Asked::Del(1), before)
+    cut_off(alloc, Scene::new(4, 7, 0b1000), Asked::Del(1), before)
 }
 
 /// A word of an image, or 0 where it has none there.

@@ -61,12 +61,7 @@ fn beside<L: Ledger>(core: &mut Core, asked: Asked, events: u64, blank: Blank) -
 
 /// The same on one node of four slots, which has four names.
 fn on_a_full_node(alloc: Global, asked: Asked, events: u64) -> Option<Ending> {
-    let scene = Scene {
-        nodes: 1,
-        names: 4,
-        without: 0,
-    };
-    let mut core = made(alloc, scene)?;
+    let mut core = made(alloc, Scene::new(1, 4, 0))?;
     Some(beside::<Brand>(&mut core, asked, events, Blank::new(1)))
 }
 
