@@ -11,6 +11,10 @@ use std::alloc::Global;
 /// References, by their kinds: a leaf, and cells of the four forms.
 pub(crate) const LEAF: u64 = 1 << 16;
 
+const LEAF_1: u64 = LEAF + 1;
+
+const LEAF_3: u64 = LEAF + 3;
+
 pub(crate) const FORM_4: u64 = 2 << 16;
 
 const FORM_16: u64 = 3 << 16;
@@ -24,9 +28,9 @@ pub(crate) const BYTE_C: u64 = 0x63 << 32;
 
 /// The entries of leaf 3 below the byte of `a`, of leaf 1 below that of `b`, of leaf 2 below that of `c`, and of leaf 4
 /// below that of `d`.
-const A_3: u64 = (0x61 << 32) + LEAF + 3;
+const A_3: u64 = (0x61 << 32) + LEAF_3;
 
-pub(crate) const B_1: u64 = (0x62 << 32) + LEAF + 1;
+pub(crate) const B_1: u64 = (0x62 << 32) + LEAF_1;
 
 pub(crate) const C_2: u64 = BYTE_C + LEAF + 2;
 
@@ -50,61 +54,13 @@ pub(crate) const LISTED_16: [u64; 24] = [
 ];
 
 pub(crate) const LISTED_48: [u64; 28] = [
-    18,
-    2,
-    83,
-    A,
-    82,
-    1,
-    51,
-    B,
-    232,
-    A,
-    235,
-    3,
-    216,
-    B,
-    219,
-    2,
-    8,
-    FORM_48,
-    536,
-    1,
-    548,
-    0x3_0200,
-    568,
-    LEAF,
-    569,
-    LEAF + 3,
-    570,
-    LEAF + 1,
+    18, 2, 83, A, 82, 1, 51, B, 232, A, 235, 3, 216, B, 219, 2, 8, FORM_48, 536, 1, 548, 0x3_0200,
+    568, LEAF, 569, LEAF_3, 570, LEAF_1,
 ];
 
 pub(crate) const LISTED_256: [u64; 24] = [
-    18,
-    2,
-    83,
-    A,
-    82,
-    1,
-    51,
-    B,
-    232,
-    A,
-    235,
-    3,
-    216,
-    B,
-    219,
-    2,
-    8,
-    FORM_256,
-    1240,
-    LEAF,
-    1337,
-    LEAF + 3,
-    1338,
-    LEAF + 1,
+    18, 2, 83, A, 82, 1, 51, B, 232, A, 235, 3, 216, B, 219, 2, 8, FORM_256, 1240, LEAF, 1337,
+    LEAF_3, 1338, LEAF_1,
 ];
 
 /// The anchors of nodes 2 and 1 have 24 bytes and differ in the last one. The root's cell leads to another cell, at
