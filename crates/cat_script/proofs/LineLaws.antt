@@ -14,7 +14,7 @@ use Rattle.cat_history.specs.declared.op.Op.TheVariants.{Put, Get, Del, Scan}
 use Rattle.cat_script.specs.Asks.{IsComment, AsksFor, Says, IsLine}
 use Rattle.cat_script.specs.Lines.{words_of, IsLineByte}
 use Rattle.cat_script.specs.Numbers.{IsNumber, IsUpTo, IsSomeUpTo}
-use Rattle.cat_script.specs.Reasons.{setting_verb, word_at, verb_of, HasCount, IsCallVerb, HasNumbers, WordsHave, HasReason, rank_of, IsFirstReason}
+use Rattle.cat_script.specs.Reasons.{setting_verb, call_verb, word_at, verb_of, HasCount, IsCallVerb, HasNumbers, WordsHave, HasReason, rank_of, IsFirstReason}
 use Rattle.cat_script.specs.declared.line.Line.{Line}
 use Rattle.cat_script.specs.declared.line.Line.TheVariants.{Blank, Call, Join, Crash, Updater, Limit}
 use Rattle.cat_script.specs.declared.line.Reason.{Reason}
@@ -222,39 +222,25 @@ number_sets_nothing text n is =
 some_number : (text : List ℕ) (n : ℕ) → IsNumber text n → IsSomeUpTo (2 ^ 64) text
 some_number text n is = (n, (is, omega (arith, is.fits)))
 
+-- the words of a call have no reason
+call_good : (caller : List ℕ) (n : ℕ) (rest : List (List ℕ)) (about : Verb) → IsUpTo 15 caller n → call_verb (word_at (caller ∷ rest) 1) ≡ Some about →
+    HasCount about (length (caller ∷ rest)) → IsName (word_at (caller ∷ rest) 2) → HasNumbers (caller ∷ rest) about → Good (caller ∷ rest)
+call_good caller n rest about is says count name numbers = record {
+  about = about;
+  is = ap (λ o. option_or o (call_verb (word_at (caller ∷ rest) 1))) (number_sets_nothing caller n is.0) ∙ says;
+  count = count;
+  caller = λ _. (n, is);
+  name = λ _. name;
+  numbers = numbers;
+}
+
 op_good : (words : List (List ℕ)) (caller : List ℕ) (n : ℕ) (op : Op) → IsUpTo 15 caller n → AsksFor words caller op → Good words
-op_good words caller n (Put name value) is asks = subst Good (sym asks.1.2) (record {
-  about = verb.Put;
-  is = ap (λ o. option_or o (Some verb.Put)) (number_sets_nothing caller n is.0);
-  count = refl;
-  caller = λ _. (n, is);
-  name = λ _. asks.0;
-  numbers = some_number asks.1.0 value asks.1.1;
-})
-op_good words caller n (Get name) is asks = subst Good (sym asks.1) (record {
-  about = verb.Get;
-  is = ap (λ o. option_or o (Some verb.Get)) (number_sets_nothing caller n is.0);
-  count = refl;
-  caller = λ _. (n, is);
-  name = λ _. asks.0;
-  numbers = tt;
-})
-op_good words caller n (Del name) is asks = subst Good (sym asks.1) (record {
-  about = verb.Del;
-  is = ap (λ o. option_or o (Some verb.Del)) (number_sets_nothing caller n is.0);
-  count = refl;
-  caller = λ _. (n, is);
-  name = λ _. asks.0;
-  numbers = tt;
-})
-op_good words caller n (Scan from count) is asks = subst Good (sym asks.1.2) (record {
-  about = verb.Scan;
-  is = ap (λ o. option_or o (Some verb.Scan)) (number_sets_nothing caller n is.0);
-  count = refl;
-  caller = λ _. (n, is);
-  name = λ _. asks.0;
-  numbers = some_number asks.1.0 count asks.1.1;
-})
+op_good words caller n (Put name value) is asks =
+    subst Good (sym asks.1.2) (call_good caller n (codes "put" ∷ name ∷ asks.1.0 ∷ []) verb.Put is refl refl asks.0 (some_number asks.1.0 value asks.1.1))
+op_good words caller n (Get name) is asks = subst Good (sym asks.1) (call_good caller n (codes "get" ∷ name ∷ []) verb.Get is refl refl asks.0 tt)
+op_good words caller n (Del name) is asks = subst Good (sym asks.1) (call_good caller n (codes "del" ∷ name ∷ []) verb.Del is refl refl asks.0 tt)
+op_good words caller n (Scan from count) is asks =
+    subst Good (sym asks.1.2) (call_good caller n (codes "scan" ∷ from ∷ asks.1.0 ∷ []) verb.Scan is refl refl asks.0 (some_number asks.1.0 count asks.1.1))
 
 zip_each : (most : ℕ) (words : List (List ℕ)) (ns : List ℕ) → AllZip (IsUpTo most) words ns → AllByRecursion (IsSomeUpTo most) words
 zip_each most [] ns all = tt

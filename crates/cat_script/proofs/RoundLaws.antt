@@ -3,7 +3,7 @@ use Rattle.std.proofs.Common.{◌≡◌, ◌^◌, inl, inr, List, [], ◌∷◌,
 use Rattle.std.specs.List.{AllByRecursion}
 use Rattle.cat_history.specs.declared.plan.CrashPlan.{CrashPlan}
 use Rattle.cat_history.specs.declared.plan.RoundPlan.{RoundPlan}
-use Rattle.cat_script.specs.Rounds.{calls_in, turns_set, limit_set, GoesOn, EndsBy, AsksRound, AreEnded, AreRounds, HasLast, FinishAs}
+use Rattle.cat_script.specs.Rounds.{calls_in, settings_in, GoesOn, EndsBy, AsksRound, AreEnded, AreRounds, HasLast, FinishAs}
 use Rattle.cat_script.specs.declared.line.Line.{Line}
 use Rattle.cat_script.specs.declared.line.Line.TheVariants.{Blank, Call, Join, Crash, Updater, Limit}
 
@@ -49,8 +49,8 @@ asks_one : (before before' lines lines' : List Line) (p q : RoundPlan) → befor
 asks_one before before' lines lines' p q same is asks asks' crash =
     let ops = asks.ops ∙ ap calls_in is ∙ sym asks'.ops in
     let all : before ++ lines ≡ before' ++ lines' = (λ i. same i ++ is i) in
-    let updater = asks.updater ∙ ap (turns_set 64) all ∙ sym asks'.updater in
-    let limit = asks.limit ∙ ap (limit_set (2 ^ 62)) all ∙ sym asks'.limit in
+    let updater = asks.updater ∙ ap (λ (ls : List Line). (settings_in (64, 2 ^ 62) ls).0) all ∙ sym asks'.updater in
+    let limit = asks.limit ∙ ap (λ (ls : List Line). (settings_in (64, 2 ^ 62) ls).1) all ∙ sym asks'.limit in
     λ i. record { ops = ops i; updater = updater i; limit = limit i; crash = crash i }
 
 -- ended rounds, and what goes on behind them, are one way of cutting lines

@@ -6,7 +6,7 @@ use Rattle.cat_history.specs.declared.op.CallerOp.{CallerOp}
 use Rattle.cat_history.specs.declared.plan.CrashPlan.{CrashPlan}
 use Rattle.cat_history.specs.declared.plan.RoundPlan.{RoundPlan}
 use Rattle.cat_script.specs.Grouping.{IsGrouping}
-use Rattle.cat_script.specs.Rounds.{calls_in, turns_set, limit_set, GoesOn, EndsBy, AsksRound, AreEnded, AreRounds, HasLast}
+use Rattle.cat_script.specs.Rounds.{calls_in, settings_in, GoesOn, EndsBy, AsksRound, AreEnded, AreRounds, HasLast}
 use Rattle.cat_script.specs.declared.grouping.Grouping.{Grouping}
 use Rattle.cat_script.specs.declared.line.Line.{Line}
 use Rattle.cat_script.specs.declared.line.Line.TheVariants.{Blank, Call, Join, Crash, Updater, Limit}
@@ -20,44 +20,27 @@ calls_in-append (Crash plan ∷ a) b = calls_in-append a b
 calls_in-append (Updater turns ∷ a) b = calls_in-append a b
 calls_in-append (Limit limit ∷ a) b = calls_in-append a b
 
-pub turns_set-append : (first : ℕ) (a b : List Line) → turns_set first (a ++ b) ≡ turns_set (turns_set first a) b
-turns_set-append first [] b = refl
-turns_set-append first (Blank ∷ a) b = turns_set-append first a b
-turns_set-append first (Call caller op ∷ a) b = turns_set-append first a b
-turns_set-append first (Join ∷ a) b = turns_set-append first a b
-turns_set-append first (Crash plan ∷ a) b = turns_set-append first a b
-turns_set-append first (Updater turns ∷ a) b = turns_set-append turns a b
-turns_set-append first (Limit limit ∷ a) b = turns_set-append first a b
-
-pub limit_set-append : (first : ℕ) (a b : List Line) → limit_set first (a ++ b) ≡ limit_set (limit_set first a) b
-limit_set-append first [] b = refl
-limit_set-append first (Blank ∷ a) b = limit_set-append first a b
-limit_set-append first (Call caller op ∷ a) b = limit_set-append first a b
-limit_set-append first (Join ∷ a) b = limit_set-append first a b
-limit_set-append first (Crash plan ∷ a) b = limit_set-append first a b
-limit_set-append first (Updater turns ∷ a) b = limit_set-append first a b
-limit_set-append first (Limit limit ∷ a) b = limit_set-append limit a b
+pub settings_in-append : (first : ℕ × ℕ) (a b : List Line) → settings_in first (a ++ b) ≡ settings_in (settings_in first a) b
+settings_in-append first [] b = refl
+settings_in-append first (Blank ∷ a) b = settings_in-append first a b
+settings_in-append first (Call caller op ∷ a) b = settings_in-append first a b
+settings_in-append first (Join ∷ a) b = settings_in-append first a b
+settings_in-append first (Crash plan ∷ a) b = settings_in-append first a b
+settings_in-append first (Updater turns ∷ a) b = settings_in-append (turns, first.1) a b
+settings_in-append first (Limit limit ∷ a) b = settings_in-append (first.0, limit) a b
 
 pub going_more : (lines : List Line) (line : Line) → AllByRecursion GoesOn lines → GoesOn line → AllByRecursion GoesOn (lines ++ line ∷ [])
 going_more [] line going goes = (goes, tt)
 going_more (first ∷ lines) line going goes = (going.0, going_more lines line going.1 goes)
 
 -- a line that ends a round sets nothing
-end_sets_turns : (line : Line) (crash : Option CrashPlan) (first : ℕ) → EndsBy line crash → turns_set first (line ∷ []) ≡ first
-end_sets_turns Blank crash first ends = absurd ends
-end_sets_turns (Call caller op) crash first ends = absurd ends
-end_sets_turns Join crash first ends = refl
-end_sets_turns (Crash plan) crash first ends = refl
-end_sets_turns (Updater turns) crash first ends = absurd ends
-end_sets_turns (Limit limit) crash first ends = absurd ends
-
-end_sets_limit : (line : Line) (crash : Option CrashPlan) (first : ℕ) → EndsBy line crash → limit_set first (line ∷ []) ≡ first
-end_sets_limit Blank crash first ends = absurd ends
-end_sets_limit (Call caller op) crash first ends = absurd ends
-end_sets_limit Join crash first ends = refl
-end_sets_limit (Crash plan) crash first ends = refl
-end_sets_limit (Updater turns) crash first ends = absurd ends
-end_sets_limit (Limit limit) crash first ends = absurd ends
+end_sets_nothing : (line : Line) (crash : Option CrashPlan) (first : ℕ × ℕ) → EndsBy line crash → settings_in first (line ∷ []) ≡ first
+end_sets_nothing Blank crash first ends = absurd ends
+end_sets_nothing (Call caller op) crash first ends = absurd ends
+end_sets_nothing Join crash first ends = refl
+end_sets_nothing (Crash plan) crash first ends = refl
+end_sets_nothing (Updater turns) crash first ends = absurd ends
+end_sets_nothing (Limit limit) crash first ends = absurd ends
 
 -- one more ended round
 pub ended_more : (before lines round : List Line) (end : Line) (plans : List RoundPlan) (plan : RoundPlan) → AreEnded before lines plans → AsksRound (before ++ lines) round plan →
@@ -88,27 +71,28 @@ ended_more before lines round end (p ∷ plans) plan ended asks ends =
 
 -- a line that goes on
 pub one_going : (said : List Line) (line : Line) (g g' : Grouping) → GoesOn line → g'.ended.items ≡ g.ended.items → g'.ops.items ≡ g.ops.items ++ calls_in (line ∷ []) →
-    g'.updater ≡ turns_set g.updater (line ∷ []) → g'.limit ≡ limit_set g.limit (line ∷ []) → IsGrouping said g → IsGrouping (said ++ line ∷ []) g'
-one_going said line g g' goes ended ops updater limit is = record {
+    (g'.updater, g'.limit) ≡ settings_in (g.updater, g.limit) (line ∷ []) → IsGrouping said g → IsGrouping (said ++ line ∷ []) g'
+one_going said line g g' goes ended ops sets is = record {
   closed = is.closed;
   rest = is.rest ++ line ∷ [];
   cut = ap (λ (ls : List Line). ls ++ line ∷ []) is.cut ∙ append_assoc is.closed is.rest (line ∷ []);
   ended = subst (AreEnded [] is.closed) (sym ended) is.ended;
   going = going_more is.rest line is.going goes;
   ops = ops ∙ ap (λ (cs : List CallerOp). cs ++ calls_in (line ∷ [])) is.ops ∙ sym (calls_in-append is.rest (line ∷ []));
-  updater = updater ∙ ap (λ n. turns_set n (line ∷ [])) is.updater ∙ sym (turns_set-append 64 said (line ∷ []));
-  limit = limit ∙ ap (λ n. limit_set n (line ∷ [])) is.limit ∙ sym (limit_set-append (2 ^ 62) said (line ∷ []));
+  settings = sets ∙ ap (λ (first : ℕ × ℕ). settings_in first (line ∷ [])) is.settings ∙ sym (settings_in-append (64, 2 ^ 62) said (line ∷ []));
 }
 
 -- what the round is asked that ends behind these lines
 pub asked_so : (said : List Line) (g : Grouping) (plan : RoundPlan) (is : IsGrouping said g) → plan.ops ≡ g.ops.items → plan.updater ≡ g.updater → plan.limit ≡ g.limit →
     AsksRound is.closed is.rest plan
-asked_so said g plan is ops updater limit = record {
-  going = is.going;
-  ops = ops ∙ is.ops;
-  updater = updater ∙ is.updater ∙ ap (turns_set 64) is.cut;
-  limit = limit ∙ is.limit ∙ ap (limit_set (2 ^ 62)) is.cut;
-}
+asked_so said g plan is ops updater limit =
+    let sets : (g.updater, g.limit) ≡ settings_in (64, 2 ^ 62) (is.closed ++ is.rest) = is.settings ∙ ap (settings_in (64, 2 ^ 62)) is.cut in
+    record {
+      going = is.going;
+      ops = ops ∙ is.ops;
+      updater = updater ∙ ap (λ (s : ℕ × ℕ). s.0) sets;
+      limit = limit ∙ ap (λ (s : ℕ × ℕ). s.1) sets;
+    }
 
 -- a line that ends a round
 pub one_ended : (said : List Line) (line : Line) (g g' : Grouping) (plan : RoundPlan) → EndsBy line plan.crash → plan.ops ≡ g.ops.items → plan.updater ≡ g.updater → plan.limit ≡ g.limit →
@@ -122,8 +106,7 @@ one_ended said line g g' plan ends ops updater limit ended none turns most is = 
       (ended_more [] is.closed is.rest line g.ended.items plan is.ended (asked_so said g plan is ops updater limit) ends));
   going = tt;
   ops = none;
-  updater = turns ∙ is.updater ∙ sym (end_sets_turns line plan.crash (turns_set 64 said) ends) ∙ sym (turns_set-append 64 said (line ∷ []));
-  limit = most ∙ is.limit ∙ sym (end_sets_limit line plan.crash (limit_set (2 ^ 62) said) ends) ∙ sym (limit_set-append (2 ^ 62) said (line ∷ []));
+  settings = (λ i. (turns i, most i)) ∙ is.settings ∙ sym (end_sets_nothing line plan.crash (settings_in (64, 2 ^ 62) said) ends) ∙ sym (settings_in-append (64, 2 ^ 62) said (line ∷ []));
 }
 
 -- lines that ended a round are some

@@ -5,7 +5,7 @@ use Rattle.std.proofs.lemmas.List.Sums.{sum_by-append, sum_by-cons, sum_by_push}
 use Rattle.std.specs.List.{AllZip}
 use Rattle.cat_script.specs.Asks.{IsLine}
 use Rattle.cat_script.specs.Laws.{IsOneScriptAtMost, FaultIsNoScript, IsOneFaultAtMost}
-use Rattle.cat_script.specs.Limits.{KeepLimits, end_count, call_count, scan_count}
+use Rattle.cat_script.specs.Limits.{KeepLimits, HasFewEnds, HasFewCalls, end_count, call_count, scan_count}
 use Rattle.cat_script.specs.Lines.{lines_of}
 use Rattle.cat_script.specs.Scripts.{IsLineFault, IsFirstFault, numbered}
 use Rattle.cat_script.specs.declared.fault.ScriptFault.{ScriptFault}
@@ -127,41 +127,28 @@ not_before bytes a b first second less =
 passed_at : (said : List Line) (x y : Line) (m n : ℕ) → m ≡ length (said ++ x ∷ []) → n ≡ length (said ++ y ∷ []) → m ≡ n
 passed_at said x y m n is is' = omega (arith, is, is', length_push said x, length_push said y)
 
+-- behind the same lines a line keeps a limit or passes it
+apart : (Keep : List Line → Type 0) (said : List Line) (line : List ℕ) (x y : Line) → IsLine line x → IsLine line y → Keep (said ++ x ∷ []) → (Keep (said ++ y ∷ []) → ⊥) → ⊥
+apart Keep said line x y asks asks' keeps passes = passes (subst (λ (l : Line). Keep (said ++ l ∷ [])) (line_one line x y asks asks') keeps)
+
 -- a line has one fault behind what others ask
 line_fault_one : (said : List Line) (line : List ℕ) (a b : ScriptFault) → IsLineFault said line a → IsLineFault said line b → a ≡ b
-line_fault_one said line fault.Bytes fault.Bytes wrong wrong' = absurd wrong
-line_fault_one said line fault.Bytes (fault.Rounds n) wrong wrong' = absurd wrong
-line_fault_one said line fault.Bytes (fault.Calls n) wrong wrong' = absurd wrong
-line_fault_one said line fault.Bytes (fault.Scans n) wrong wrong' = absurd wrong
-line_fault_one said line fault.Bytes (fault.Line n why') wrong wrong' = absurd wrong
-line_fault_one said line fault.Bytes fault.NoMemory wrong wrong' = absurd wrong
+line_fault_one said line fault.Bytes b wrong wrong' = absurd wrong
 line_fault_one said line (fault.Rounds m) fault.Bytes wrong wrong' = absurd wrong'
 line_fault_one said line (fault.Rounds m) (fault.Rounds n) wrong wrong' = ap fault.Rounds (passed_at said wrong.0 wrong'.0 m n wrong.2.0 wrong'.2.0)
-line_fault_one said line (fault.Rounds m) (fault.Calls n) wrong wrong' =
-    let same = line_one line wrong.0 wrong'.0 wrong.1 wrong'.1 in
-    absurd (wrong.2.1 (omega (arith, wrong'.2.1, ap (λ (l : Line). sum_by end_count (said ++ l ∷ [])) same)))
-line_fault_one said line (fault.Rounds m) (fault.Scans n) wrong wrong' =
-    let same = line_one line wrong.0 wrong'.0 wrong.1 wrong'.1 in
-    absurd (wrong.2.1 (omega (arith, wrong'.2.1, ap (λ (l : Line). sum_by end_count (said ++ l ∷ [])) same)))
+line_fault_one said line (fault.Rounds m) (fault.Calls n) wrong wrong' = absurd (apart HasFewEnds said line wrong'.0 wrong.0 wrong'.1 wrong.1 wrong'.2.1 wrong.2.1)
+line_fault_one said line (fault.Rounds m) (fault.Scans n) wrong wrong' = absurd (apart HasFewEnds said line wrong'.0 wrong.0 wrong'.1 wrong.1 wrong'.2.1 wrong.2.1)
 line_fault_one said line (fault.Rounds m) (fault.Line n why') wrong wrong' = absurd (asked_none line wrong.0 why' wrong.1 wrong'.1)
 line_fault_one said line (fault.Rounds m) fault.NoMemory wrong wrong' = absurd wrong'
 line_fault_one said line (fault.Calls m) fault.Bytes wrong wrong' = absurd wrong'
-line_fault_one said line (fault.Calls m) (fault.Rounds n) wrong wrong' =
-    let same = line_one line wrong.0 wrong'.0 wrong.1 wrong'.1 in
-    absurd (wrong'.2.1 (omega (arith, wrong.2.1, ap (λ (l : Line). sum_by end_count (said ++ l ∷ [])) same)))
+line_fault_one said line (fault.Calls m) (fault.Rounds n) wrong wrong' = absurd (apart HasFewEnds said line wrong.0 wrong'.0 wrong.1 wrong'.1 wrong.2.1 wrong'.2.1)
 line_fault_one said line (fault.Calls m) (fault.Calls n) wrong wrong' = ap fault.Calls (passed_at said wrong.0 wrong'.0 m n wrong.2.0 wrong'.2.0)
-line_fault_one said line (fault.Calls m) (fault.Scans n) wrong wrong' =
-    let same = line_one line wrong.0 wrong'.0 wrong.1 wrong'.1 in
-    absurd (wrong.2.2 (omega (arith, wrong'.2.2, ap (λ (l : Line). sum_by call_count (said ++ l ∷ [])) same)))
+line_fault_one said line (fault.Calls m) (fault.Scans n) wrong wrong' = absurd (apart HasFewCalls said line wrong'.0 wrong.0 wrong'.1 wrong.1 wrong'.2.2 wrong.2.2)
 line_fault_one said line (fault.Calls m) (fault.Line n why') wrong wrong' = absurd (asked_none line wrong.0 why' wrong.1 wrong'.1)
 line_fault_one said line (fault.Calls m) fault.NoMemory wrong wrong' = absurd wrong'
 line_fault_one said line (fault.Scans m) fault.Bytes wrong wrong' = absurd wrong'
-line_fault_one said line (fault.Scans m) (fault.Rounds n) wrong wrong' =
-    let same = line_one line wrong.0 wrong'.0 wrong.1 wrong'.1 in
-    absurd (wrong'.2.1 (omega (arith, wrong.2.1, ap (λ (l : Line). sum_by end_count (said ++ l ∷ [])) same)))
-line_fault_one said line (fault.Scans m) (fault.Calls n) wrong wrong' =
-    let same = line_one line wrong.0 wrong'.0 wrong.1 wrong'.1 in
-    absurd (wrong'.2.2 (omega (arith, wrong.2.2, ap (λ (l : Line). sum_by call_count (said ++ l ∷ [])) same)))
+line_fault_one said line (fault.Scans m) (fault.Rounds n) wrong wrong' = absurd (apart HasFewEnds said line wrong.0 wrong'.0 wrong.1 wrong'.1 wrong.2.1 wrong'.2.1)
+line_fault_one said line (fault.Scans m) (fault.Calls n) wrong wrong' = absurd (apart HasFewCalls said line wrong.0 wrong'.0 wrong.1 wrong'.1 wrong.2.2 wrong'.2.2)
 line_fault_one said line (fault.Scans m) (fault.Scans n) wrong wrong' = ap fault.Scans (passed_at said wrong.0 wrong'.0 m n wrong.2.0 wrong'.2.0)
 line_fault_one said line (fault.Scans m) (fault.Line n why') wrong wrong' = absurd (asked_none line wrong.0 why' wrong.1 wrong'.1)
 line_fault_one said line (fault.Scans m) fault.NoMemory wrong wrong' = absurd wrong'
@@ -174,12 +161,7 @@ line_fault_one said line (fault.Line m why) (fault.Line n why') wrong wrong' =
     let whys = reason_one line why why' wrong.1 wrong'.1 in
     λ i. fault.Line (numbers i) (whys i)
 line_fault_one said line (fault.Line m why) fault.NoMemory wrong wrong' = absurd wrong'
-line_fault_one said line fault.NoMemory fault.Bytes wrong wrong' = absurd wrong
-line_fault_one said line fault.NoMemory (fault.Rounds n) wrong wrong' = absurd wrong
-line_fault_one said line fault.NoMemory (fault.Calls n) wrong wrong' = absurd wrong
-line_fault_one said line fault.NoMemory (fault.Scans n) wrong wrong' = absurd wrong
-line_fault_one said line fault.NoMemory (fault.Line n why') wrong wrong' = absurd wrong
-line_fault_one said line fault.NoMemory fault.NoMemory wrong wrong' = absurd wrong
+line_fault_one said line fault.NoMemory b wrong wrong' = absurd wrong
 
 pub one_fault : IsOneFaultAtMost
 one_fault bytes a b first second =

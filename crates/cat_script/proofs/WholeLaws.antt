@@ -10,16 +10,17 @@ use Rattle.std.specs.Option.{option_or}
 use Rattle.std.specs.Prelude.{IsSomeAnd}
 use Rattle.std.specs.Str.{bytes_eq}
 use Rattle.cat_key.specs.Names.{IsName}
+use Rattle.cat_history.specs.declared.op.Op.{Op}
 use Rattle.cat_history.specs.declared.op.Op.TheVariants.{Put, Get, Del, Scan}
 use Rattle.cat_history.specs.declared.plan.CrashPlan.{CrashPlan}
 use Rattle.cat_history.specs.declared.plan.RoundPlan.{RoundPlan}
-use Rattle.cat_script.specs.Asks.{IsComment, Says, IsLine}
+use Rattle.cat_script.specs.Asks.{AsksFor, IsComment, Says, IsLine}
 use Rattle.cat_script.specs.Laws.{IsScriptOrHasFault}
 use Rattle.cat_script.specs.Limits.{KeepLimits, end_count, call_count, scan_count}
 use Rattle.cat_script.specs.Lines.{lines_of, words_of}
 use Rattle.cat_script.specs.Numbers.{IsUpTo, IsSomeUpTo}
 use Rattle.cat_script.specs.Reasons.{setting_verb, call_verb, word_at, verb_of, HasCount, IsCallVerb, HasNumbers, HasReason, rank_of, IsFirstReason}
-use Rattle.cat_script.specs.Rounds.{calls_in, turns_set, limit_set, GoesOn, EndsBy, AsksRound, AreEnded, HasLast, AreRounds}
+use Rattle.cat_script.specs.Rounds.{calls_in, settings_in, GoesOn, EndsBy, AsksRound, AreEnded, HasLast, AreRounds}
 use Rattle.cat_script.specs.Scripts.{IsScript, IsLineFault, IsFirstFault, numbered}
 use Rattle.cat_script.specs.declared.fault.ScriptFault.{ScriptFault}
 use Rattle.cat_script.specs.declared.fault.ScriptFault.TheVariants as fault
@@ -166,6 +167,10 @@ crash_said words first count numbers =
       ),
     )
 
+-- a call by the caller that its first word tells
+called : (words : List (List ℕ)) (op : Op) → IsSomeUpTo 15 (word_at words 0) → AsksFor words (word_at words 0) op → (said : Line) × Says words said
+called words op by asks = (Call by.0 op, (word_at words 0, by.1, asks))
+
 -- words that have no reason ask something
 asked_by : (words : List (List ℕ)) (about : Verb) → verb_of words ≡ Some about → HasCount about (length words) → (IsCallVerb about → IsSomeUpTo 15 (word_at words 0)) →
     (IsCallVerb about → IsName (word_at words 2)) → HasNumbers words about → (said : Line) × Says words said
@@ -176,61 +181,17 @@ asked_by words verb.Updater is count caller name numbers =
 asked_by words verb.Limit is count caller name numbers =
     (Limit numbers.0, (word_at words 1, numbers.1, two_words words count ∙ ap (λ (w : List ℕ). w ∷ word_at words 1 ∷ []) (about_first words verb.Limit is (λ c. c))))
 asked_by words verb.Put is count caller name numbers =
-    let by = caller tt in (
-      Call by.0 (Put (word_at words 2) numbers.0),
-      (
-        word_at words 0,
-        by.1,
-        (
-          name tt,
-          (
-            word_at words 3,
-            numbers.1.0,
-            four_words words count ∙ ap (λ (w : List ℕ). word_at words 0 ∷ w ∷ word_at words 2 ∷ word_at words 3 ∷ []) (about_second words verb.Put is tt),
-          ),
-        ),
-      ),
-    )
+    let told = four_words words count ∙ ap (λ (w : List ℕ). word_at words 0 ∷ w ∷ word_at words 2 ∷ word_at words 3 ∷ []) (about_second words verb.Put is tt) in
+    called words (Put (word_at words 2) numbers.0) (caller tt) (name tt, (word_at words 3, numbers.1.0, told))
 asked_by words verb.Get is count caller name numbers =
-    let by = caller tt in (
-      Call by.0 (Get (word_at words 2)),
-      (
-        word_at words 0,
-        by.1,
-        (
-          name tt,
-          three_words words count ∙ ap (λ (w : List ℕ). word_at words 0 ∷ w ∷ word_at words 2 ∷ []) (about_second words verb.Get is tt),
-        ),
-      ),
-    )
+    let told = three_words words count ∙ ap (λ (w : List ℕ). word_at words 0 ∷ w ∷ word_at words 2 ∷ []) (about_second words verb.Get is tt) in
+    called words (Get (word_at words 2)) (caller tt) (name tt, told)
 asked_by words verb.Del is count caller name numbers =
-    let by = caller tt in (
-      Call by.0 (Del (word_at words 2)),
-      (
-        word_at words 0,
-        by.1,
-        (
-          name tt,
-          three_words words count ∙ ap (λ (w : List ℕ). word_at words 0 ∷ w ∷ word_at words 2 ∷ []) (about_second words verb.Del is tt),
-        ),
-      ),
-    )
+    let told = three_words words count ∙ ap (λ (w : List ℕ). word_at words 0 ∷ w ∷ word_at words 2 ∷ []) (about_second words verb.Del is tt) in
+    called words (Del (word_at words 2)) (caller tt) (name tt, told)
 asked_by words verb.Scan is count caller name numbers =
-    let by = caller tt in (
-      Call by.0 (Scan (word_at words 2) numbers.0),
-      (
-        word_at words 0,
-        by.1,
-        (
-          name tt,
-          (
-            word_at words 3,
-            numbers.1.0,
-            four_words words count ∙ ap (λ (w : List ℕ). word_at words 0 ∷ w ∷ word_at words 2 ∷ word_at words 3 ∷ []) (about_second words verb.Scan is tt),
-          ),
-        ),
-      ),
-    )
+    let told = four_words words count ∙ ap (λ (w : List ℕ). word_at words 0 ∷ w ∷ word_at words 2 ∷ word_at words 3 ∷ []) (about_second words verb.Scan is tt) in
+    called words (Scan (word_at words 2) numbers.0) (caller tt) (name tt, (word_at words 3, numbers.1.0, told))
 
 -- The line has none of the reasons that are tried before this turn.
 abbrev HasNoneBefore : List ℕ → ℕ → Type 0
@@ -339,7 +300,8 @@ record AreCut (lines : List Line) : Type 0 where
 
 -- what the round is asked that ends behind these lines
 plan_of : (closed rest : List Line) → Option CrashPlan → RoundPlan
-plan_of closed rest crash = record { ops = calls_in rest; updater = turns_set 64 (closed ++ rest); limit = limit_set (2 ^ 62) (closed ++ rest); crash = crash }
+plan_of closed rest crash =
+    let sets = settings_in (64, 2 ^ 62) (closed ++ rest) in record { ops = calls_in rest; updater = sets.0; limit = sets.1; crash = crash }
 
 plan_asks : (closed rest : List Line) (crash : Option CrashPlan) → AllByRecursion GoesOn rest → AsksRound closed rest (plan_of closed rest crash)
 unfolding plan_of

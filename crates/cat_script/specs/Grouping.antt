@@ -1,7 +1,7 @@
 -- Rounds that are made line by line.
 use Rattle.std.specs.Prelude.{◌≡◌, ◌^◌, List, [], ◌++◌}
 use Rattle.std.specs.List.{AllByRecursion}
-use Rattle.cat_script.specs.Rounds.{AreEnded, GoesOn, calls_in, turns_set, limit_set}
+use Rattle.cat_script.specs.Rounds.{AreEnded, GoesOn, calls_in, settings_in}
 use Rattle.cat_script.specs.declared.grouping.Grouping.{Grouping}
 use Rattle.cat_script.specs.declared.line.Line.{Line}
 
@@ -13,5 +13,4 @@ pub record IsGrouping (lines : List Line) (rounds : Grouping) : Type 0 where
   pub ended : AreEnded [] closed rounds.ended.items
   pub going : AllByRecursion GoesOn rest
   pub ops : rounds.ops.items ≡ calls_in rest
-  pub updater : rounds.updater ≡ turns_set 64 lines
-  pub limit : rounds.limit ≡ limit_set (2 ^ 62) lines
+  pub settings : (rounds.updater, rounds.limit) ≡ settings_in (64, 2 ^ 62) lines

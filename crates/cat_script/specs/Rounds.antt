@@ -17,25 +17,16 @@ calls_in (Crash plan ∷ lines) = calls_in lines
 calls_in (Updater turns ∷ lines) = calls_in lines
 calls_in (Limit limit ∷ lines) = calls_in lines
 
--- What the last `updater` line of these sets; the first number where there is none.
-abbrev pub turns_set : ℕ → List Line → ℕ
-turns_set first [] = first
-turns_set first (Blank ∷ lines) = turns_set first lines
-turns_set first (Call caller op ∷ lines) = turns_set first lines
-turns_set first (Join ∷ lines) = turns_set first lines
-turns_set first (Crash plan ∷ lines) = turns_set first lines
-turns_set first (Updater turns ∷ lines) = turns_set turns lines
-turns_set first (Limit limit ∷ lines) = turns_set first lines
-
--- What the last `limit` line of these sets; the first number where there is none.
-abbrev pub limit_set : ℕ → List Line → ℕ
-limit_set first [] = first
-limit_set first (Blank ∷ lines) = limit_set first lines
-limit_set first (Call caller op ∷ lines) = limit_set first lines
-limit_set first (Join ∷ lines) = limit_set first lines
-limit_set first (Crash plan ∷ lines) = limit_set first lines
-limit_set first (Updater turns ∷ lines) = limit_set first lines
-limit_set first (Limit limit ∷ lines) = limit_set limit lines
+-- What the last `updater` line and the last `limit` line of these set: the calls between turns of the updater, and how
+-- many writes there are. The first numbers where there is none.
+abbrev pub settings_in : (ℕ × ℕ) → List Line → ℕ × ℕ
+settings_in first [] = first
+settings_in first (Blank ∷ lines) = settings_in first lines
+settings_in first (Call caller op ∷ lines) = settings_in first lines
+settings_in first (Join ∷ lines) = settings_in first lines
+settings_in first (Crash plan ∷ lines) = settings_in first lines
+settings_in first (Updater turns ∷ lines) = settings_in (turns, first.1) lines
+settings_in first (Limit limit ∷ lines) = settings_in (first.0, limit) lines
 
 -- A line that ends no round.
 abbrev pub GoesOn : Line → Type 0
@@ -60,8 +51,8 @@ EndsBy (Limit limit) crash = ⊥
 pub record AsksRound (before lines : List Line) (plan : RoundPlan) : Type 0 where
   pub going : AllByRecursion GoesOn lines
   pub ops : plan.ops ≡ calls_in lines
-  pub updater : plan.updater ≡ turns_set 64 (before ++ lines)
-  pub limit : plan.limit ≡ limit_set (2 ^ 62) (before ++ lines)
+  pub updater : plan.updater ≡ (settings_in (64, 2 ^ 62) (before ++ lines)).0
+  pub limit : plan.limit ≡ (settings_in (64, 2 ^ 62) (before ++ lines)).1
 
 -- These lines, before which those stand, are rounds, each with a line that ends it.
 abbrev pub AreEnded : List Line → List Line → List RoundPlan → Type 0

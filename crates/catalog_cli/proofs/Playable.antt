@@ -12,7 +12,7 @@ use Rattle.cat_history.specs.declared.plan.CrashPlan.{CrashPlan}
 use Rattle.cat_history.specs.declared.plan.RoundPlan.{RoundPlan}
 use Rattle.cat_script.specs.Asks.{AsksFor, IsLine}
 use Rattle.cat_script.specs.Fits.{FitsCallers}
-use Rattle.cat_script.specs.Rounds.{calls_in, limit_set, AsksRound, AreEnded, AreRounds, EndsBy}
+use Rattle.cat_script.specs.Rounds.{calls_in, settings_in, AsksRound, AreEnded, AreRounds, EndsBy}
 use Rattle.cat_script.specs.Scripts.{IsScript, numbered}
 use Rattle.cat_script.specs.declared.line.Line.{Line}
 use Rattle.cat_script.specs.declared.line.Line.TheVariants.{Blank, Call, Join, Crash, Updater, Limit}
@@ -80,14 +80,14 @@ calls-playable callers (Crash plan ∷ lines) are = calls-playable callers lines
 calls-playable callers (Updater turns ∷ lines) are = calls-playable callers lines are.1
 calls-playable callers (Limit limit ∷ lines) are = calls-playable callers lines are.1
 
-limit-low : (callers first : ℕ) (lines : List Line) → first ≤ 2 ^ 62 → AllByRecursion (IsPlayable callers) lines → limit_set first lines ≤ 2 ^ 62
+limit-low : (callers : ℕ) (first : ℕ × ℕ) (lines : List Line) → first.1 ≤ 2 ^ 62 → AllByRecursion (IsPlayable callers) lines → (settings_in first lines).1 ≤ 2 ^ 62
 limit-low callers first [] low are = low
 limit-low callers first (Blank ∷ lines) low are = limit-low callers first lines low are.1
 limit-low callers first (Call caller op ∷ lines) low are = limit-low callers first lines low are.1
 limit-low callers first (Join ∷ lines) low are = limit-low callers first lines low are.1
 limit-low callers first (Crash plan ∷ lines) low are = limit-low callers first lines low are.1
-limit-low callers first (Updater turns ∷ lines) low are = limit-low callers first lines low are.1
-limit-low callers first (Limit limit ∷ lines) low are = limit-low callers limit lines are.0 are.1
+limit-low callers first (Updater turns ∷ lines) low are = limit-low callers (turns, first.1) lines low are.1
+limit-low callers first (Limit limit ∷ lines) low are = limit-low callers (first.0, limit) lines are.0 are.1
 
 no-crash : (callers : ℕ) (plan : RoundPlan) → plan.crash ≡ None → HasBudgets callers plan
 no-crash callers plan none = subst (λ (o : Option CrashPlan). IfSome o (λ crash. length crash.budgets ≡ callers)) (sym none) tt
@@ -104,10 +104,11 @@ plan-playable : (callers : ℕ) (before lines : List Line) (plan : RoundPlan) �
     HasBudgets callers plan → IsPlayablePlan callers plan
 plan-playable callers before lines plan asks front are budgets =
     let calls = subst (All (IsPlayableCall callers)) (sym asks.ops) (All-from_recursion (IsPlayableCall callers) (calls_in lines) (calls-playable callers lines are)) in
+    let low : 2 ^ 62 ≤ 2 ^ 62 = omega arith in
     record {
       told = λ i d within. (calls i d within).0;
       callers_are = λ i d within. (calls i d within).1;
-      limit = subst (λ (n : ℕ). n ≤ 2 ^ 62) (sym asks.limit) (limit-low callers (2 ^ 62) (before ++ lines) (omega arith) (all_append (IsPlayable callers) before lines front are));
+      limit = subst (λ (n : ℕ). n ≤ 2 ^ 62) (sym asks.limit) (limit-low callers (64, 2 ^ 62) (before ++ lines) low (all_append (IsPlayable callers) before lines front are));
       budgets = budgets;
     }
 

@@ -8,4 +8,4 @@ returns c = λ said is.
     let old = c.args.self.now.ops.items in
     let items : c.push.new.self.items ≡ old ++ record { caller = c.args.caller; op = c.args.op } ∷ [] =
     c.push.ensures.items ∙ ap (λ t. cond t (old ++ record { caller = c.args.caller; op = c.args.op } ∷ []) old) c.if-is_err.ensures.negation in
-    one_going said (Call c.args.caller c.args.op) c.args.self.now _ tt refl items refl refl is
+    one_going said (Call c.args.caller c.args.op) c.args.self.now _ tt refl items refl is
