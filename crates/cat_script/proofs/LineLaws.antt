@@ -247,44 +247,29 @@ zip_each most [] ns all = tt
 zip_each most (word ∷ words) [] all = absurd all
 zip_each most (word ∷ words) (n ∷ ns) all = ((n, all.0), zip_each most words ns all.1)
 
+-- the words of a line that is no call have no reason
+setting_good : (words : List (List ℕ)) (about : Verb) → (IsCallVerb about → ⊥) → verb_of words ≡ Some about → HasCount about (length words) → HasNumbers words about → Good words
+setting_good words about sets is count numbers = record {
+  about = about;
+  is = is;
+  count = count;
+  caller = λ calls. absurd (sets calls);
+  name = λ calls. absurd (sets calls);
+  numbers = numbers;
+}
+
 said_good : (words : List (List ℕ)) (said : Line) → Says words said → (said ≡ Blank → ⊥) → Good words
 said_good words Blank says some = absurd (some refl)
 said_good words (Call caller op) says some = op_good words says.0 caller op says.1 says.2
-said_good words Join says some = subst Good (sym says) (record {
-  about = verb.Join;
-  is = refl;
-  count = refl;
-  caller = λ no. absurd no;
-  name = λ no. absurd no;
-  numbers = tt;
-})
+said_good words Join says some = subst Good (sym says) (setting_good (codes "join" ∷ []) verb.Join (λ no. no) refl refl tt)
 said_good words (Crash plan) says some =
     let long = AllZip-long (IsUpTo 1000000) says.1 (plan.budgets ++ plan.updater_budget ∷ []) says.3 in
     let more = length_push plan.budgets plan.updater_budget in
-    subst Good (sym says.6) (record {
-      about = verb.Crash;
-      is = refl;
-      count = (omega (arith, long, more, says.4), omega (arith, long, more, says.5));
-      caller = λ no. absurd no;
-      name = λ no. absurd no;
-      numbers = (some_number says.0 plan.seed says.2, All-from_recursion (IsSomeUpTo 1000000) says.1 (zip_each 1000000 says.1 (plan.budgets ++ plan.updater_budget ∷ []) says.3));
-    })
-said_good words (Updater turns) says some = subst Good (sym says.2) (record {
-  about = verb.Updater;
-  is = refl;
-  count = refl;
-  caller = λ no. absurd no;
-  name = λ no. absurd no;
-  numbers = (turns, says.1);
-})
-said_good words (Limit limit) says some = subst Good (sym says.2) (record {
-  about = verb.Limit;
-  is = refl;
-  count = refl;
-  caller = λ no. absurd no;
-  name = λ no. absurd no;
-  numbers = (limit, says.1);
-})
+    let budgets = All-from_recursion (IsSomeUpTo 1000000) says.1 (zip_each 1000000 says.1 (plan.budgets ++ plan.updater_budget ∷ []) says.3) in
+    subst Good (sym says.6) (setting_good (codes "crash" ∷ says.0 ∷ says.1) verb.Crash (λ no. no) refl
+    (omega (arith, long, more, says.4), omega (arith, long, more, says.5)) (some_number says.0 plan.seed says.2, budgets))
+said_good words (Updater turns) says some = subst Good (sym says.2) (setting_good (codes "updater" ∷ says.0 ∷ []) verb.Updater (λ no. no) refl refl (turns, says.1))
+said_good words (Limit limit) says some = subst Good (sym says.2) (setting_good (codes "limit" ∷ says.0 ∷ []) verb.Limit (λ no. no) refl refl (limit, says.1))
 
 -- a blank line has no first reason
 blank_none : (line : List ℕ) (why : Reason) (said : Line) → said ≡ Blank → Says (words_of line) said → IsFirstReason line why → ⊥
