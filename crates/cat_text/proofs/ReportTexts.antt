@@ -10,8 +10,8 @@ use Rattle.cat_history.specs.declared.record.Record.{Record}
 use Rattle.cat_history.specs.declared.record.Reply.{Reply}
 use Rattle.cat_history.specs.declared.record.Reply.TheVariants.{Old, Parts, Full, Spent, Cut, Unstarted}
 use Rattle.cat_history.specs.declared.record.ScanPart.{ScanPart}
-use Rattle.cat_text.specs.Reports.{op_text, reply_text, high_text, pair_text, part_line, part_lines, record_line, record_text, last_line, round_text, report_text, end_word}
-use Rattle.cat_text.specs.ReportLines.{line_text, op_fields, reply_fields, record_fields, high_fields, pair_fields, part_fields, place_field, reply_lines, record_lines, last_fields, round_lines, report_lines}
+use Rattle.cat_text.specs.Reports.{op_text, reply_text, high_text, pair_text, part_line, listed_parts, record_line, record_text, last_line, round_text, report_text, end_word}
+use Rattle.cat_text.specs.ReportLines.{line_text, op_fields, reply_fields, record_fields, high_fields, pair_fields, part_fields, place_field, record_lines, last_fields, round_lines, report_lines}
 use Rattle.cat_text.specs.declared.report.RoundReport.{RoundReport}
 
 -- fields, each behind a space
@@ -70,19 +70,11 @@ parts_are : (parts : List ScanPart) → flat_map line_text (map part_fields part
 parts_are [] = refl
 parts_are (part ∷ parts) = ap₂ (λ a b. a ++ b) (part_line_is part) (parts_are parts)
 
-reply_lines_are : (reply : Reply) → flat_map line_text (reply_lines reply) ≡ part_lines reply
-reply_lines_are (Old old place) = refl
-reply_lines_are (Parts parts cut) = parts_are parts
-reply_lines_are Full = refl
-reply_lines_are (Spent clock) = refl
-reply_lines_are (Cut mark) = refl
-reply_lines_are Unstarted = refl
-
 records_are : (records : List Record) → flat_map line_text (flat_map record_lines records) ≡ flat_map record_text records
 records_are [] = refl
 records_are (r ∷ records) =
     flat_map-append line_text (record_lines r) (flat_map record_lines records)
-    ∙ ap₂ (λ a b. a ++ b) (ap₂ (λ a b. a ++ b) (record_line_is r) (reply_lines_are r.reply)) (records_are records)
+    ∙ ap₂ (λ a b. a ++ b) (ap₂ (λ a b. a ++ b) (record_line_is r) (parts_are (listed_parts r.reply))) (records_are records)
 
 arrange_last : (word space writes names count end : List ℕ) →
     (word ++ ((space ++ writes) ++ (names ++ (count ++ [])))) ++ end ≡ ((((word ++ space) ++ writes) ++ names) ++ count) ++ end

@@ -10,7 +10,7 @@ use Rattle.cat_history.specs.declared.record.Record.{Record}
 use Rattle.cat_history.specs.declared.record.Reply.{Reply}
 use Rattle.cat_history.specs.declared.record.Reply.TheVariants.{Old, Parts, Full, Spent, Cut, Unstarted}
 use Rattle.cat_history.specs.declared.record.ScanPart.{ScanPart}
-use Rattle.cat_text.specs.Reports.{old_text, end_word}
+use Rattle.cat_text.specs.Reports.{old_text, listed_parts, end_word}
 use Rattle.cat_text.specs.declared.report.RoundReport.{RoundReport}
 
 -- A line: its fields, of which there is at least one, with one space between them, and a line feed.
@@ -71,12 +71,7 @@ part_fields part =
 
 -- The lines that follow that of a call: one for each part of its scan.
 abbrev pub reply_lines : Reply → List (List (List ℕ))
-reply_lines (Old old place) = []
-reply_lines (Parts parts cut) = map part_fields parts
-reply_lines Full = []
-reply_lines (Spent clock) = []
-reply_lines (Cut mark) = []
-reply_lines Unstarted = []
+reply_lines reply = map part_fields (listed_parts reply)
 
 abbrev pub record_lines : Record → List (List (List ℕ))
 record_lines r = record_fields r ∷ reply_lines r.reply

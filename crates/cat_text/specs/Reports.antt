@@ -59,14 +59,18 @@ part_line part =
     codes "part " ++ part.low ++ high_text part.high ++ codes " @" ++ decimal part.place ++
     flat_map pair_text part.pairs ++ codes "\n"
 
+-- The parts of a scan, where the reply is to one.
+abbrev pub listed_parts : Reply → List ScanPart
+listed_parts (Old old place) = []
+listed_parts (Parts parts cut) = parts
+listed_parts Full = []
+listed_parts (Spent clock) = []
+listed_parts (Cut mark) = []
+listed_parts Unstarted = []
+
 -- The lines that follow that of a call: those of a scan's parts.
 abbrev pub part_lines : Reply → List ℕ
-part_lines (Old old place) = []
-part_lines (Parts parts cut) = flat_map part_line parts
-part_lines Full = []
-part_lines (Spent clock) = []
-part_lines (Cut mark) = []
-part_lines Unstarted = []
+part_lines reply = flat_map part_line (listed_parts reply)
 
 -- The line of a call: its caller, what it asked and what it was answered.
 abbrev pub record_line : Record → List ℕ
