@@ -1,7 +1,8 @@
 -- Spans in the order of their keys are looked at one after another.
 use Rattle.std.proofs.Common.{◌≡◌, ℕ, ◌<◌, ◌≤◌, ◌==◌, ◌⊎◌, ◌↔◌, ⊎_elim, inl, inr, cond, List, [], ◌∷◌, length, get_or, drop, map, max, refl, sym, ap, subst, ◌∙◌, arith}
 use Rattle.std.specs.Prelude.{Contains}
-use Rattle.std.specs.Ordering.{nat_cmp, ordering_then}
+use Rattle.std.specs.List.{IsDistinct}
+use Rattle.std.specs.Ordering.{nat_cmp, eq_by_cmp, ordering_then}
 use Rattle.std.specs.List.Sorted.{IsStrictlySortedBy}
 use Rattle.std.specs.declared.cmp.Ordering.{Ordering}
 use Rattle.std.specs.declared.cmp.Ordering.TheVariants.{Less, Equal, Greater}
@@ -15,6 +16,10 @@ use Rattle.transcript.specs.Spans.{key_in, FollowEachOther}
 use Rattle.transcript.specs.declared.spans.Span.{Span}
 use Rattle.transcript.proofs.KeyLemmas.{key_total}
 use Rattle.transcript.proofs.Orders.{first_or_later, first_has, later_has, none_has, head_below}
+
+-- a list of spans has keys apart as the list that it is
+pub apart_so : {spans told : List Span} → spans ≡ told → IsDistinct (eq_by_cmp key_cmp) (map key_in told) → IsDistinct (eq_by_cmp key_cmp) (map key_in spans)
+apart_so is = subst (λ (s : List Span). IsDistinct (eq_by_cmp key_cmp) (map key_in s)) (sym is)
 
 -- where the earlier spans of a caller end
 abbrev pub before : ℕ → ℕ → Span → ℕ

@@ -1,11 +1,9 @@
-use Rattle.std.proofs.Common.{◌≡◌, ◌∙◌, ◌↔◌, ◌≤◌, List, All, length, map, sym, subst}
+use Rattle.std.proofs.Common.{◌≡◌, ◌∙◌, ◌↔◌, ◌≤◌, List, All, length, sym, subst}
 use Rattle.std.specs.Prelude.{IsTrue}
-use Rattle.std.specs.List.{IsDistinct}
-use Rattle.std.specs.Ordering.{eq_by_cmp}
 use Rattle.std.proofs.lemmas.Bool.{false≢true}
-use Rattle.transcript.specs.Calls.{key_cmp}
-use Rattle.transcript.specs.Spans.{key_in, spans_of, FollowEachOther}
+use Rattle.transcript.specs.Spans.{spans_of, FollowEachOther}
 use Rattle.transcript.specs.declared.spans.Span.{Span}
+use Rattle.transcript.proofs.SpanLemmas.{apart_so}
 use Rattle.transcript.proofs.OrderLemmas.{spans_apart, keeps_order, order_kept}
 use Rattle.transcript.proofs.order.callers_keep_order.Goals as goal
 
@@ -19,8 +17,7 @@ returns-then-not-end_within c =
     )
 
 pub follow_each_other-requires : goal.follow_each_other-requires
-follow_each_other-requires c =
-    subst (λ (spans : List Span). IsDistinct (eq_by_cmp key_cmp) (map key_in spans)) (sym c.in_ok-spans.ensures) (spans_apart c.args.told.now c.requires)
+follow_each_other-requires c = apart_so c.in_ok-spans.ensures (spans_apart c.args.told.now c.requires)
 
 pub returns : goal.returns
 returns c =

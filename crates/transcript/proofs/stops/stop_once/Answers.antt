@@ -1,16 +1,13 @@
-use Rattle.std.proofs.Common.{◌↔◌, List, map, sym, subst}
+use Rattle.std.proofs.Common.{◌↔◌, List, subst}
 use Rattle.std.specs.Prelude.{IsTrue}
-use Rattle.std.specs.List.{IsDistinct}
-use Rattle.std.specs.Ordering.{eq_by_cmp}
-use Rattle.transcript.specs.Calls.{key_cmp}
-use Rattle.transcript.specs.Spans.{key_in, stops_of, FollowEachOther}
+use Rattle.transcript.specs.Spans.{stops_of, FollowEachOther}
 use Rattle.transcript.specs.declared.spans.Span.{Span}
+use Rattle.transcript.proofs.SpanLemmas.{apart_so}
 use Rattle.transcript.proofs.StopLemmas.{stops_apart, stops_are}
 use Rattle.transcript.proofs.stops.stop_once.Goals as goal
 
 pub follow_each_other-requires : goal.follow_each_other-requires
-follow_each_other-requires c =
-    subst (λ (stops : List Span). IsDistinct (eq_by_cmp key_cmp) (map key_in stops)) (sym c.in_ok-stops_told.ensures) (stops_apart c.args.told.now c.requires)
+follow_each_other-requires c = apart_so c.in_ok-stops_told.ensures (stops_apart c.args.told.now c.requires)
 
 pub returns : goal.returns
 returns c =
