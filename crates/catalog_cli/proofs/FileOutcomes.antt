@@ -100,13 +100,13 @@ one-run-cause left left' files name (image.Damaged rule word) (image.Damaged rul
     (subst (λ (r : Row). IsFirstOfAll r.layout r.words (record { rule = rule; word = word })) (one-image files name is.0 is'.0 is.1 is'.1) is.2) is'.2 in
     λ k. image.Damaged ((broken k).rule) ((broken k).word)
 one-run-cause left left' files name (image.Damaged rule word) image.Generations is is' =
-    absurd (not-broken is'.old (record { rule = rule; word = word }) is'.late.0
+    absurd (not-broken is'.old (record { rule = rule; word = word }) is'.stops.0
     (subst (λ (r : Row). IsFirstOfAll r.layout r.words (record { rule = rule; word = word })) (one-image files name is.0 is'.old is.1 is'.had) is.2))
 one-run-cause left left' files name image.Generations image.Missing is is' = absurd (some-none files name (image-some files name is.old is.had) is')
 one-run-cause left left' files name image.Generations image.Exists is is' = absurd is'
 one-run-cause left left' files name image.Generations (image.Bytes fault) is is' = absurd (no-image files name is.old fault is.had is')
 one-run-cause left left' files name image.Generations (image.Damaged rule word) is is' =
-    absurd (not-broken is.old (record { rule = rule; word = word }) is.late.0
+    absurd (not-broken is.old (record { rule = rule; word = word }) is.stops.0
     (subst (λ (r : Row). IsFirstOfAll r.layout r.words (record { rule = rule; word = word })) (one-image files name is'.0 is.old is'.1 is.had) is'.2))
 one-run-cause left left' files name image.Generations image.Generations is is' = refl
 
@@ -160,7 +160,7 @@ not-openable left bytes read script files name old (image.Damaged rule word) sam
 not-openable left bytes read script files name old image.Generations same source is had openable cause =
     let images = one-image files name cause.old old cause.had had in
     let scripts = one-script-left left bytes cause.bytes read cause.script script same cause.source source cause.is_script is in
-    (subst (λ (r : Row). IsTooLate r script.rounds) images (subst (λ (s : Script). IsTooLate cause.old s.rounds) scripts cause.late)).1 openable.next
+    (subst (λ (r : Row). IsTooLate r script.rounds) images (subst (λ (s : Script). IsTooLate cause.old s.rounds) scripts cause.stops)).1 openable.next
 
 -- a file on which the command can be done isn't refused
 not-refused : (words : List (List ℕ)) (told : Seen) (files : FileMap) (refusal : ImageRefusal) → (RunsScript words → TellsSource told) → CanBeDone words told.left (Some files) → IsFileCause words told.left (Some files) refusal → ⊥
@@ -230,7 +230,7 @@ can-run left bytes files name answer same can refused =
     let images = one-image files name refused.old can.old refused.had can.had in
     let sources = one-source left bytes refused.bytes can.bytes same refused.source can.source in
     unrefused can.old.layout.callers can.bytes can.script answer can.accepted
-    (subst (λ (bs : List ℕ). IsRefusedBy can.old.layout.callers bs answer) sources (subst (λ (r : Row). IsRefusedBy r.layout.callers refused.bytes answer) images refused.refused))
+    (subst (λ (bs : List ℕ). IsRefusedBy can.old.layout.callers bs answer) sources (subst (λ (r : Row). IsRefusedBy r.layout.callers refused.bytes answer) images refused.stops.1))
 
 -- nor is its source no script
 can-read : (left : Option (List ℕ)) (bytes : List ℕ) (files : Option FileMap) (name : List ℕ) (fault : ScriptFault) → left ≡ Some bytes → CanBeRun left files name → IsNoScript left fault → ⊥
@@ -255,7 +255,7 @@ no-script-cause words told answer files refusal is source (inr (run, inl none)) 
 ]
 no-script-cause words told answer files refusal is source (inr (run, inr on_file)) refused =
     not-openable told.left (source run).bytes on_file.bytes on_file.script files (file_of words) on_file.old refusal (source run).left on_file.source on_file.is_script
-    (subst (λ (fs : Option FileMap). HasImage fs (file_of words) on_file.old) is on_file.had) on_file.openable
+    (subst (λ (fs : Option FileMap). HasImage fs (file_of words) on_file.old) is on_file.had) on_file.stops.0
     (as-run words told.left (Some files) refusal (not-formatted words run) refused)
 
 pub tells-file : (words : List (List ℕ)) (told : Seen) (written written' : Option (List ℕ)) (writes writes' : ℕ) (answer : Status) → LeavesSink words told answer written written' →
@@ -352,7 +352,7 @@ module _ (words : List (List ℕ)) (told : Seen) (run : RunsScript words) (bytes
       let images = one-image files (file_of words) other.old refused.old (subst (λ (fs : Option FileMap). HasImage fs (file_of words) other.old) is other.had) refused.had in
       let sources = sym (source-is bytes other.bytes told.left left other.source) ∙ refused.source in
       inl (one-refusal refused.old.layout.callers refused.bytes answer wanted
-      (subst (λ (bs : List ℕ). IsRefusedBy refused.old.layout.callers bs answer) sources (subst (λ (r : Row). IsRefusedBy r.layout.callers other.bytes answer) images other.refused)) refused.refused)
+      (subst (λ (bs : List ℕ). IsRefusedBy refused.old.layout.callers bs answer) sources (subst (λ (r : Row). IsRefusedBy r.layout.callers other.bytes answer) images other.stops.1)) refused.stops.1)
 
   -- a run that was done wasn't refused
   done-unrefused : (files : FileMap) (text : List ℕ) (wanted : Status) → told.files ≡ Some files → IsRefusedOnFile (Some bytes) (Some files) (file_of words) wanted → IsRunOnFile told.left told.files told.files' (file_of words) text → ⊥
@@ -360,7 +360,7 @@ module _ (words : List (List ℕ)) (told : Seen) (run : RunsScript words) (bytes
       let images = one-image files (file_of words) refused.old played.old refused.had (subst (λ (fs : Option FileMap). HasImage fs (file_of words) played.old) is played.had) in
       let sources = sym refused.source ∙ source-is bytes played.bytes told.left left played.source in
       unrefused played.old.layout.callers played.bytes played.run.report.script wanted played.run.report.accepted
-      (subst (λ (bs : List ℕ). IsRefusedBy played.old.layout.callers bs wanted) sources (subst (λ (r : Row). IsRefusedBy r.layout.callers refused.bytes wanted) images refused.refused))
+      (subst (λ (bs : List ℕ). IsRefusedBy played.old.layout.callers bs wanted) sources (subst (λ (r : Row). IsRefusedBy r.layout.callers refused.bytes wanted) images refused.stops.1))
 
 no-script-told : (words : List (List ℕ)) (told : Seen) (written written' : Option (List ℕ)) (writes writes' : ℕ) (answer : Status) → LeavesSink words told answer written written' →
     IsCauseOf words told writes writes' answer → (bytes : List ℕ) (fault : ScriptFault) → RunsScript words → told.left ≡ Some bytes → told.reads' ≡ told.reads → IsNoScript (Some bytes) fault → Comes answer (status.Script fault)
@@ -393,7 +393,7 @@ on-file-told words told written written' writes writes' status.Shelf sink cause 
 on-file-told words told written written' writes writes' status.NoMemory sink cause bytes files wanted run left same is same' refused = inr refl
 on-file-told words told written written' writes writes' (status.Image refusal) sink cause bytes files wanted run left same is same' refused =
     absurd (not-openable told.left bytes refused.bytes refused.script files (file_of words) refused.old refusal left (subst (λ (l : Option (List ℕ)). AreBytesLeft l refused.bytes) (sym left) refused.source) refused.is_script
-    refused.had refused.openable (as-run words told.left (Some files) refusal (not-formatted words run) (subst (λ (fs : Option FileMap). IsFileCause words told.left fs refusal) is cause)))
+    refused.had refused.stops.0 (as-run words told.left (Some files) refusal (not-formatted words run) (subst (λ (fs : Option FileMap). IsFileCause words told.left fs refusal) is cause)))
 
 pub tells-run : (words : List (List ℕ)) (told : Seen) (written written' : Option (List ℕ)) (writes writes' : ℕ) (answer : Status) → LeavesSink words told answer written written' →
     IsCauseOf words told writes writes' answer → TellsRunRefusal words told answer

@@ -29,7 +29,7 @@ pub not-played-on : (left : Option (List ℕ)) (files : Option FileMap) (name by
 not-played-on left files name bytes script old reads reads' shelves shelves' status.Done source is had refused = absurd refused
 not-played-on left files name bytes script old reads reads' shelves shelves' status.Usage source is had refused = absurd refused
 not-played-on left files name bytes script old reads reads' shelves shelves' (status.Script what) source is had refused =
-    inr (record { bytes = bytes; source = source; script = script; is_script = is; old = old; had = had; openable = refused.0; refused = refused.1 })
+    inr (record { bytes = bytes; source = source; script = script; is_script = is; old = old; had = had; stops = refused })
 not-played-on left files name bytes script old reads reads' shelves shelves' status.Read source is had refused = absurd refused
 not-played-on left files name bytes script old reads reads' shelves shelves' status.Write source is had refused = absurd refused
 not-played-on left files name bytes script old reads reads' shelves shelves' status.Shelf source is had refused = absurd refused
@@ -39,7 +39,7 @@ not-played-on left files name bytes script old reads reads' shelves shelves' (st
 not-played-on left files name bytes script old reads reads' shelves shelves' (status.Image (image.Bytes fault)) source is had refused = absurd refused
 not-played-on left files name bytes script old reads reads' shelves shelves' (status.Image (image.Damaged rule word)) source is had refused = ((bytes, script, source, is), (old, had, refused))
 not-played-on left files name bytes script old reads reads' shelves shelves' (status.Image image.Generations) source is had refused =
-    ((bytes, script, source, is), record { bytes = bytes; source = source; script = script; is_script = is; old = old; had = had; late = refused })
+    ((bytes, script, source, is), record { bytes = bytes; source = source; script = script; is_script = is; old = old; had = had; stops = refused })
 
 -- one that is, and whose image is saved
 pub ran-on-file : (left : Option (List ℕ)) (files between files' : Option FileMap) (name bytes text : List ℕ) (old new : Row) → AreBytesLeft left bytes → HasImage files name old → IsRunOn old bytes text new →

@@ -108,18 +108,23 @@ abbrev pub IsNoScript : Option (List ℕ) → ScriptFault → Type 0
 IsNoScript left fault = ((fault ≡ Bytes) × IfSome left (λ bytes. MOST_BYTES < length bytes)) ⊎
     ((bytes : List ℕ) × AreBytesLeft left bytes × IsFirstFault bytes fault)
 
+-- The script that the source had left is stopped so by the image that the file of this name has.
+pub record IsStoppedOnFile (Stops : Row → List ℕ → List RoundPlan → Type 0) (left : Option (List ℕ))
+    (files : Option FileMap) (name : List ℕ) : Type 0 where
+  pub bytes : List ℕ
+  pub source : AreBytesLeft left bytes
+  pub script : Script
+  pub is_script : IsScript bytes script
+  pub old : Row
+  pub had : HasImage files name old
+  pub stops : Stops old bytes script.rounds
+
 -- A script is refused so on a file: the file is one on which its rounds could be played, and the script doesn't fit its
 -- layout.
-pub record IsRefusedOnFile (left : Option (List ℕ)) (files : Option FileMap) (name : List ℕ) (answer : Status) : Type 0
-  where
-    pub bytes : List ℕ
-    pub source : AreBytesLeft left bytes
-    pub script : Script
-    pub is_script : IsScript bytes script
-    pub old : Row
-    pub had : HasImage files name old
-    pub openable : IsOpenable old script.rounds
-    pub refused : IsRefusedBy old.layout.callers bytes answer
+abbrev pub IsRefusedOnFile : Option (List ℕ) → Option FileMap → List ℕ → Status → Type 0
+IsRefusedOnFile left files name answer =
+    IsStoppedOnFile (λ old bytes plans. IsOpenable old plans × IsRefusedBy old.layout.callers bytes answer)
+    left files name
 
 -- A run is refused so for what the source had left: that comes before all that concerns the file where it is no script,
 -- and after that where it is one.
@@ -133,14 +138,8 @@ abbrev pub IsTooLate : Row → List RoundPlan → Type 0
 IsTooLate image plans = IsSoundByAll image.layout image.words × ¬ IsGeneration (generation_after image plans)
 
 -- The file of this name has an image that is so for the rounds of the script that the source had left.
-pub record IsTooLateOnFile (left : Option (List ℕ)) (files : Option FileMap) (name : List ℕ) : Type 0 where
-  pub bytes : List ℕ
-  pub source : AreBytesLeft left bytes
-  pub script : Script
-  pub is_script : IsScript bytes script
-  pub old : Row
-  pub had : HasImage files name old
-  pub late : IsTooLate old script.rounds
+abbrev pub IsTooLateOnFile : Option (List ℕ) → Option FileMap → List ℕ → Type 0
+IsTooLateOnFile left files name = IsStoppedOnFile (λ old bytes plans. IsTooLate old plans) left files name
 
 -- Why the script that the source had left can't be played on what the file of this name has: there is no such file, its
 -- bytes are no image, with this first fault, or they are one that breaks this rule first, at this word, or is too late.
