@@ -1,81 +1,54 @@
 //! The laws of the machines, which the index rests on.
 
-ghost use Rattle.node_ops.specs.Laws.{TurnsAreFootSteps, TurnsAreSteps, LeadsAreTaken, TurnsStaySound, TurnsKeepOp};
-ghost use Rattle.node_ops.specs.Laws.{CountsOwnChange, HoldsOwnName};
-ghost use Rattle.node_ops.specs.Laws.{PendingIsOwnChange, OpIsTold, SplitsAreOfFullNodes};
+ghost use Rattle.node_ops.specs.Laws.{TurnsAreFootSteps, TurnsAreSteps, LeadsAreTaken, TurnsStaySound};
+ghost use Rattle.node_ops.specs.Laws.{SplitsAreOfFullNodes, TurnsKeepOp};
+ghost use Rattle.node_ops.specs.Laws.{CountsOwnChange, HoldsOwnName, PendingIsOwnChange, OpIsTold};
 
 /// Each turn of a sound call, whatever number it is told, is a step of one of the kinds, with the answer of the turn:
 /// on nodes, on a log line of its caller, or the store of a prev. Where a node that it holds leads to one of the
-/// layout's, the number is one that its machine takes.
-pub fn turns_are_steps()
+/// layout's, the number is one that its machine takes. Each turn leaves the call sound. One that splits a node knows,
+/// until that leads to the fresh one, that it has a name in each slot.
+pub fn turn_law()
     ensures feet { TurnsAreFootSteps }
     ensures steps { TurnsAreSteps }
     ensures taken { LeadsAreTaken }
+    ensures sound { TurnsStaySound }
+    ensures full { SplitsAreOfFullNodes }
 {}
 
-/// Each turn leaves a sound call sound.
-pub fn turns_stay_sound()
-    ensures { TurnsStaySound }
-{}
-
-/// Each turn leaves a call one of the same op.
-pub fn turns_keep_op()
-    ensures { TurnsKeepOp }
-{}
-
-/// A call counts its own op's change, and holds its node for its own op's name.
-pub fn calls_are_of_ops()
+/// Each turn leaves a call one of the same op, and it is of no other than the one that its machine tells. It counts its
+/// own op's change, and holds its node for its own op's name. The change that it has pending, which the words of its
+/// node show already, is its own op's.
+pub fn op_law()
+    ensures kept { TurnsKeepOp }
+    ensures told { OpIsTold }
     ensures change { CountsOwnChange }
     ensures name { HoldsOwnName }
+    ensures pending { PendingIsOwnChange }
 {}
 
-/// The change that a call has pending, which the words of its node show already, is its own op's.
-pub fn pending_law()
-    ensures { PendingIsOwnChange }
-{}
-
-/// A call is of no other op than the one that its machine tells.
-pub fn op_law()
-    ensures { OpIsTold }
-{}
-
-/// A call that splits a node knows, until that leads to the fresh one, that it has a name in each slot.
-pub fn full_split_law()
-    ensures { SplitsAreOfFullNodes }
-{}
-
-ghost use Rattle.node_ops.specs.Endings.{DoneIsCounted, SpentIsLate, NoFreeIsOfPuts, RefusedIsUncounted};
+ghost use Rattle.node_ops.specs.DelEvents.{DelsHeed};
+ghost use Rattle.node_ops.specs.Landings.{TurnsLand};
 ghost use Rattle.node_ops.specs.Endings.{TurnsKeepPlace, LastCountsNothing, PlacedIsInTime};
+ghost use Rattle.node_ops.specs.Endings.{DoneIsCounted, SpentIsLate, NoFreeIsOfPuts, RefusedIsUncounted};
 
-/// A call that is done has a place exactly if it is a write that was counted there, and tells the hops of its walk.
-pub fn done_law()
-    ensures { DoneIsCounted }
-{}
-
-/// A call is answered that it is spent only where the clock that it loaded had reached its limit.
-pub fn spent_law()
-    ensures { SpentIsLate }
-{}
-
-/// A call that is turned back or worn was not counted, and only a put is turned back because no node is free.
-pub fn refused_law()
-    ensures uncounted { RefusedIsUncounted }
-    ensures no_free { NoFreeIsOfPuts }
-{}
-
-/// A call keeps its place, or takes the one that its add to the clock gives, before its last turn and in time.
-pub fn place_law()
+/// A call keeps its place, or takes the one that its add to the clock gives, before its last turn and in time. One that
+/// is done has a place exactly if it is a write that was counted there, and tells the hops of its walk. It has the node
+/// and the hops of its walk from the turn on that ends the walk at its target, and no other turn changes the call.
+///
+/// A call is answered that it is spent only where the clock that it loaded had reached its limit. One that is turned
+/// back or worn was not counted, and only a put is turned back because no node is free. A delete is answered that the
+/// log is full only where it was told that none of its caller's lines was EMPTY.
+pub fn answer_law()
     ensures kept { TurnsKeepPlace }
     ensures last { LastCountsNothing }
     ensures in_time { PlacedIsInTime }
-{}
-
-ghost use Rattle.node_ops.specs.Landings.{TurnsLand};
-
-/// A call has the node and the hops of its walk from the turn on that ends the walk at its target, and no other turn
-/// changes the call.
-pub fn landing_law()
-    ensures { TurnsLand }
+    ensures done { DoneIsCounted }
+    ensures lands { TurnsLand }
+    ensures spent { SpentIsLate }
+    ensures uncounted { RefusedIsUncounted }
+    ensures no_free { NoFreeIsOfPuts }
+    ensures heeds { DelsHeed }
 {}
 
 ghost use Rattle.node_ops.specs.Costs.{PutsSpareSplits, TurnsSpare, WalksEndSo};
@@ -87,13 +60,6 @@ pub fn cost_law()
     ensures spare { TurnsSpare }
     ensures ends { WalksEndSo }
     ensures splits { PutsSpareSplits }
-{}
-
-ghost use Rattle.node_ops.specs.DelEvents.{DelsHeed};
-
-/// A delete is answered that the log is full only where it was told that none of its caller's lines was EMPTY.
-pub fn deletes_heed()
-    ensures { DelsHeed }
 {}
 
 ghost use Rattle.node_ops.specs.Permuting.{TurnsPermute, TurnsReread};
