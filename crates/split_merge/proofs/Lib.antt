@@ -1,3 +1,4 @@
+pub mod FenceTurns
 pub mod MoveLaw
 pub mod Staying
 pub mod OfSplits

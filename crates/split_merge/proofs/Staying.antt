@@ -1,16 +1,14 @@
 -- A move goes on as one whose fields keep the same.
-use Rattle.std.proofs.Common.{◌≡◌, ℕ, ◌+◌, ◌%◌, ◌^◌, ◌<◌, ◌==◌, true, false, cond, ltb, Some, None, refl, ◌∙◌, arith}
+use Rattle.std.proofs.Common.{◌≡◌, ℕ, ◌+◌, ◌%◌, ◌^◌, ◌<◌, ◌==◌, true, false, cond, ltb, Option, refl, ◌∙◌, arith}
 use Rattle.std.proofs.lemmas.Bool.{eqb-false, ltb-true}
 use Rattle.pm_words.specs.declared.machine.Turn.{Turn}
 use Rattle.pm_words.specs.declared.machine.Turn.TheVariants.{Go, Done}
 use Rattle.pm_words.specs.declared.fence.Fence.{Fence}
-use Rattle.pm_words.specs.declared.fence.FenceAt.{FenceAt}
-use Rattle.pm_words.specs.declared.fence.FenceAt.TheVariants as fence_at
 use Rattle.smo_log.specs.declared.open.Open.{Open}
 use Rattle.smo_log.specs.declared.open.OpenAt.TheVariants as open_at
 use Rattle.smo_log.specs.declared.state.ReadyAt.TheVariants as ready_at
 use Rattle.smo_log.specs.declared.state.Ready.{Ready}
-use Rattle.pm_words.specs.Fences.{IsFence, IsFenceAt, fence_start, fence_next, fence_at_next}
+use Rattle.pm_words.specs.Fences.{IsFence, fence_start, fence_next}
 use Rattle.pm_words.specs.Offsets.{kind_offset}
 use Rattle.smo_log.specs.Opens.{IsOpen, open_asks, open_turned, open_held, OpenNotes}
 use Rattle.smo_log.specs.States.{IsReady, ready_asks, ready_turned, ready_held, ReadyNotes}
@@ -22,6 +20,7 @@ use Rattle.split_merge.specs.declared.moving.MoveAt.{MoveAt}
 use Rattle.split_merge.specs.declared.moving.MoveAt.TheVariants as at
 use Rattle.split_merge.specs.Plans.{next_in, entry_in}
 use Rattle.split_merge.specs.Moves.{slot_count, print_count, filled_end, after_slot, after_print, after_anchor, after_fence, after_switch, after_trim, moves_on, opened, readied, move_at_turned, move_turned, IsMove, IsMoveAt}
+use Rattle.split_merge.proofs.FenceTurns.{fence_goes}
 
 module _ (move : Move) (sound : IsMove move) where
   abbrev plan : Plan
@@ -62,21 +61,15 @@ module _ (move : Move) (sound : IsMove move) where
 
   at_fence_fresh : (first : ℕ) (fence : Fence) (x : ℕ) → first < filled_end plan → first % 8 ≡ 0 → IsFence fence → x < 2 ^ 64
       → Stays (moves_on move (after_fence plan first (fence_next fence x)))
-  at_fence_fresh first fence x inside whole is fits = leads fence.at is.value
-    where
-      leads : (k : FenceAt) → IsFenceAt k → Stays (moves_on move (after_fence plan first (fence_at_next fence k x)))
-      leads fence_at.Load value = on (at.FenceFresh first (record fence { at = fence_at.Drain x })) (inside, whole, record { word = is.word; value = fits })
-      leads (fence_at.Drain y) value =
-          elim (ltb (fence.word + 1) 8) as (λ b. ltb (fence.word + 1) 8 ≡ b → Stays
-          (moves_on move (after_fence plan first (cond b (Some (record { word = fence.word + 1; at = fence_at.Load })) None)))) [
-            | true ↦ λ more. on (at.FenceFresh first (record { word = fence.word + 1; at = fence_at.Load })) (inside, whole, record { word = ltb-true _ _ more; value = tt })
-            | false ↦ λ last.
-                elim (ltb (first + 8) (filled_end plan)) as (λ b. ltb (first + 8) (filled_end plan) ≡ b → Stays
-                (moves_on move (cond b (at.FenceFresh (first + 8) fence_start) (at.Open (record { layout = plan.layout; line = plan.line; entry = entry_in plan; at = open_at.Field kind_offset }))))) [
-                  | true ↦ λ another. on (at.FenceFresh (first + 8) fence_start) (ltb-true _ _ another, omega arith, starts)
-                  | false ↦ λ all. on (at.Open (record { layout = plan.layout; line = plan.line; entry = entry_in plan; at = open_at.Field kind_offset })) (open_is, refl, refl, refl)
-                ] refl
-          ] refl
+  at_fence_fresh first fence x inside whole is fits =
+      fence_goes (λ (next : Option Fence). Stays (moves_on move (after_fence plan first next))) fence x is
+      (λ next fewer holds. on (at.FenceFresh first next) (inside, whole, holds fits))
+      (λ some.
+      elim (ltb (first + 8) (filled_end plan)) as (λ b. ltb (first + 8) (filled_end plan) ≡ b → Stays
+      (moves_on move (cond b (at.FenceFresh (first + 8) fence_start) (at.Open (record { layout = plan.layout; line = plan.line; entry = entry_in plan; at = open_at.Field kind_offset }))))) [
+        | true ↦ λ another. on (at.FenceFresh (first + 8) fence_start) (ltb-true _ _ another, omega arith, starts)
+        | false ↦ λ all. on (at.Open (record { layout = plan.layout; line = plan.line; entry = entry_in plan; at = open_at.Field kind_offset })) (open_is, refl, refl, refl)
+      ] refl)
 
   at_open : (machine : Open) (x : ℕ) → IsOpen machine → machine.layout ≡ plan.layout → machine.line ≡ plan.line → machine.entry ≡ entry_in plan → x < 2 ^ 64
       → Stays (opened move (open_turned machine x))
@@ -87,33 +80,21 @@ module _ (move : Move) (sound : IsMove move) where
       after (Done answer) note = on at.Prev tt
 
   at_fence_switch : (fence : Fence) (x : ℕ) → IsFence fence → x < 2 ^ 64 → Stays (moves_on move (after_switch plan (fence_next fence x)))
-  at_fence_switch fence x is fits = leads fence.at is.value
-    where
-      leads : (k : FenceAt) → IsFenceAt k → Stays (moves_on move (after_switch plan (fence_at_next fence k x)))
-      leads fence_at.Load value = on (at.FenceSwitch (record fence { at = fence_at.Drain x })) (record { word = is.word; value = fits })
-      leads (fence_at.Drain y) value =
-          elim (ltb (fence.word + 1) 8) as (λ b. ltb (fence.word + 1) 8 ≡ b → Stays
-          (moves_on move (after_switch plan (cond b (Some (record { word = fence.word + 1; at = fence_at.Load })) None)))) [
-            | true ↦ λ more. on (at.FenceSwitch (record { word = fence.word + 1; at = fence_at.Load })) (record { word = ltb-true _ _ more; value = tt })
-            | false ↦ λ last.
-                elim (next_in plan == 0) as (λ b. (next_in plan == 0) ≡ b → Stays (moves_on move (cond b at.Trim at.NextPrev))) [
-                  | true ↦ λ none. on at.Trim tt
-                  | false ↦ λ some. on at.NextPrev (eqb-false (next_in plan) 0 some)
-                ] refl
-          ] refl
+  at_fence_switch fence x is fits =
+      fence_goes (λ (next : Option Fence). Stays (moves_on move (after_switch plan next))) fence x is
+      (λ next fewer holds. on (at.FenceSwitch next) (holds fits))
+      (λ some.
+      elim (next_in plan == 0) as (λ b. (next_in plan == 0) ≡ b → Stays (moves_on move (cond b at.Trim at.NextPrev))) [
+        | true ↦ λ none. on at.Trim tt
+        | false ↦ λ more. on at.NextPrev (eqb-false (next_in plan) 0 more)
+      ] refl)
 
   at_fence_trim : (fence : Fence) (x : ℕ) → IsFence fence → x < 2 ^ 64 → Stays (moves_on move (after_trim plan (fence_next fence x)))
-  at_fence_trim fence x is fits = leads fence.at is.value
-    where
-      leads : (k : FenceAt) → IsFenceAt k → Stays (moves_on move (after_trim plan (fence_at_next fence k x)))
-      leads fence_at.Load value = on (at.FenceTrim (record fence { at = fence_at.Drain x })) (record { word = is.word; value = fits })
-      leads (fence_at.Drain y) value =
-          elim (ltb (fence.word + 1) 8) as (λ b. ltb (fence.word + 1) 8 ≡ b → Stays
-          (moves_on move (after_trim plan (cond b (Some (record { word = fence.word + 1; at = fence_at.Load })) None)))) [
-            | true ↦ λ more. on (at.FenceTrim (record { word = fence.word + 1; at = fence_at.Load })) (record { word = ltb-true _ _ more; value = tt })
-            | false ↦ λ last. on (at.Ready (record { layout = plan.layout; line = plan.line; at = ready_at.State }))
-                (record { layout = sound.plan.layout; line = sound.plan.line; here = tt }, refl, refl)
-          ] refl
+  at_fence_trim fence x is fits =
+      fence_goes (λ (next : Option Fence). Stays (moves_on move (after_trim plan next))) fence x is
+      (λ next fewer holds. on (at.FenceTrim next) (holds fits))
+      (λ some. on (at.Ready (record { layout = plan.layout; line = plan.line; at = ready_at.State }))
+      (record { layout = sound.plan.layout; line = sound.plan.line; here = tt }, refl, refl))
 
   at_ready : (ready : Ready) (x : ℕ) → IsReady ready → ready.layout ≡ plan.layout → ready.line ≡ plan.line → x < 2 ^ 64 → Stays (readied move (ready_turned ready x))
   at_ready ready x is layout line fits = after (ready_turned ready x) (readies_are_notes ready (entry_in plan) x is fits)
