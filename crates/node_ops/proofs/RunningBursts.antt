@@ -29,35 +29,34 @@ wrapped_below : {M : Type 0} (wrap : M → Running) (left : M → ℕ) → ((m :
 wrapped_below wrap left same bound (Go next) below = subst (λ (n : ℕ). n < bound) (sym (same next)) below
 wrapped_below wrap left same bound (Done answer) below = tt
 
+-- a call holds what it wraps, where it asks, turns and takes as that does
+holds_wrapped : {M : Type 0} {asks : M → Action} {turned : M → ℕ → Turn M (Once Placed)} {left : M → ℕ}
+    {takes : M → ℕ → Type 0} (wrap : M → Running) → ((m : M) → running_asks (wrap m) ≡ asks m)
+    → ((m : M) (number : ℕ) → running_turned (wrap m) number ≡ wrapped wrap (turned m number))
+    → ((m : M) → running_left (wrap m) ≡ left m)
+    → ((m : M) (number : ℕ) → running_takes (wrap m) number → takes m number)
+    → Holds asks turned left takes running_asks running_turned running_left running_takes wrap
+holds_wrapped {turned = turned} {left = left} wrap asked turns same taken = record {
+  asked = asked;
+  on = λ m next number goes. turns m number ∙ ap (wrapped wrap) goes;
+  taken = taken;
+  fewer = λ m number takes below.
+      subst (GoesBelow {A = Once Placed} running_left (running_left (wrap m))) (sym (turns m number))
+      (wrapped_below wrap left same (running_left (wrap m)) (turned m number)
+      (subst (λ (n : ℕ). GoesBelow left n (turned m number)) (sym (same m)) below));
+}
+
 pub getting : Holds get_asks get_turned get_left get_takes running_asks running_turned running_left running_takes
     Getting
-getting = record {
-  asked = λ get. refl;
-  on = λ get next number goes. ap (wrapped Getting) goes;
-  taken = λ get number takes. (takes.0, takes.1);
-  fewer = λ get number takes below.
-      wrapped_below Getting get_left (λ m. refl) (get_left get) (get_turned get number) below;
-}
+getting = holds_wrapped Getting (λ m. refl) (λ m number. refl) (λ m. refl) (λ m number takes. (takes.0, takes.1))
 
 pub putting : Holds put_asks put_turned put_left put_takes running_asks running_turned running_left running_takes
     Putting
-putting = record {
-  asked = λ put. refl;
-  on = λ put next number goes. ap (wrapped Putting) goes;
-  taken = λ put number takes. takes;
-  fewer = λ put number takes below.
-      wrapped_below Putting put_left (λ m. refl) (put_left put) (put_turned put number) below;
-}
+putting = holds_wrapped Putting (λ m. refl) (λ m number. refl) (λ m. refl) (λ m number takes. takes)
 
 pub deleting : Holds del_asks del_turned del_left del_takes running_asks running_turned running_left running_takes
     Deleting
-deleting = record {
-  asked = λ del. refl;
-  on = λ del next number goes. ap (wrapped Deleting) goes;
-  taken = λ del number takes. takes;
-  fewer = λ del number takes below.
-      wrapped_below Deleting del_left (λ m. refl) (del_left del) (del_turned del number) below;
-}
+deleting = holds_wrapped Deleting (λ m. refl) (λ m number. refl) (λ m. refl) (λ m number takes. takes)
 
 -- a burst of what it wraps is one of the call
 pub wrapped_bursts : {M : Type 0} {asks : M → Action} {turned : M → ℕ → Turn M (Once Placed)} {left : M → ℕ}
