@@ -58,29 +58,21 @@ pub step_can_act : ChangeCanAct
 step_can_act l aim words s a x t step = subst (rows.CanAct l words) (sym step.asks) (change_can_act (change_with l aim step.part) words step.sound)
 
 -- what isn't of the layer is left by a change
-other_stored : (w : Word) → is_layer_word w ≡ false → IsOfLayer w → ⊥
-other_stored (Header o) e of = of
-other_stored (Root o) e of = false≢true (sym e)
-other_stored (Node n o) e of = of
-other_stored (Line c j o) e of = of
-other_stored (Leaf k o) e of = false≢true (sym e)
-other_stored (Cell kind k o) e of = false≢true (sym e)
-
-other_drained : (w : Word) → is_layer_word w ≡ false → IsOfLine w → ⊥
-other_drained (Header o) e of = of
-other_drained (Root o) e of = false≢true (sym e)
-other_drained (Node n o) e of = of
-other_drained (Line c j o) e of = of
-other_drained (Leaf k o) e of = false≢true (sym e)
-other_drained (Cell kind k o) e of = false≢true (sym e)
+other_word : (w : Word) → is_layer_word w ≡ false → (IsOfLayer w → ⊥) × (IsOfLine w → ⊥)
+other_word (Header o) e = (λ of. of, λ of. of)
+other_word (Root o) e = absurd (false≢true (sym e))
+other_word (Node n o) e = (λ of. of, λ of. of)
+other_word (Line c j o) e = (λ of. of, λ of. of)
+other_word (Leaf k o) e = absurd (false≢true (sym e))
+other_word (Cell kind k o) e = absurd (false≢true (sym e))
 
 other : (p : Location) → is_of_layer p ≡ false → IsOther p
 other Clock e = tt
 other Updater e = tt
 other (Volatile n o) e = tt
 other (Mark kind k) e = absurd (false≢true (sym e))
-other (Cached w) e = other_stored w e
-other (Durable w) e = other_drained w e
+other (Cached w) e = (other_word w e).0
+other (Durable w) e = (other_word w e).1
 
 -- what the next stage knows
 sure_next : (l : Layout) (aim : Aim) (before : Layer) (words : List ℕ) → (aim.word ≢ 0 → HasFew l.nodes before) → (turn : Turn Change Ended) → SureInAfter l before aim turn words → SureIn l before aim (stage_after turn) words
