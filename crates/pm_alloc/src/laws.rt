@@ -1,16 +1,12 @@
 //! The laws of claims, and of merged nodes.
 
 ghost use Rattle.pm_alloc.specs.Laws.{ClaimsAreSteps};
-
-/// Each turn of a claim, whatever it is told, is a step of a party that holds a full node.
-pub fn claims_are_steps()
-    ensures { ClaimsAreSteps }
-{}
-
 ghost use Rattle.pm_alloc.specs.Events.{ClaimsBegin, ClaimsHeed};
 
-/// A claim is answered by what it was told: the first FREE node, none, or why it didn't get that node.
-pub fn claims_heed()
+/// Each turn of a claim, whatever it is told, is a step of a party that holds a full node. A claim is answered by what
+/// it was told: the first FREE node, none, or why it didn't get that node.
+pub fn claim_law()
+    ensures steps { ClaimsAreSteps }
     ensures begins { ClaimsBegin }
     ensures heeds { ClaimsHeed }
 {}
