@@ -2,18 +2,25 @@
 
 ghost use Rattle.node_ops.specs.Laws.{TurnsAreFootSteps, TurnsAreSteps, LeadsAreTaken, TurnsStaySound};
 ghost use Rattle.node_ops.specs.Laws.{SplitsAreOfFullNodes, TurnsKeepOp};
+ghost use Rattle.node_ops.specs.Permuting.{TurnsPermute, TurnsReread};
 ghost use Rattle.node_ops.specs.Laws.{CountsOwnChange, HoldsOwnName, PendingIsOwnChange, OpIsTold};
 
 /// Each turn of a sound call, whatever number it is told, is a step of one of the kinds, with the answer of the turn:
 /// on nodes, on a log line of its caller, or the store of a prev. Where a node that it holds leads to one of the
 /// layout's, the number is one that its machine takes. Each turn leaves the call sound. One that splits a node knows,
 /// until that leads to the fresh one, that it has a name in each slot.
+///
+/// Each turn stores a word of the permutation of the node that the call holds, and leaves its stage, or stores none,
+/// and keeps or lets go what it had stored; and what it has read of a permutation begins with the load of its version,
+/// goes on with its words, stays or ends.
 pub fn turn_law()
     ensures feet { TurnsAreFootSteps }
     ensures steps { TurnsAreSteps }
     ensures taken { LeadsAreTaken }
     ensures sound { TurnsStaySound }
     ensures full { SplitsAreOfFullNodes }
+    ensures stores { TurnsPermute }
+    ensures reads { TurnsReread }
 {}
 
 /// Each turn leaves a call one of the same op, and it is of no other than the one that its machine tells. It counts its
@@ -60,16 +67,6 @@ pub fn cost_law()
     ensures spare { TurnsSpare }
     ensures ends { WalksEndSo }
     ensures splits { PutsSpareSplits }
-{}
-
-ghost use Rattle.node_ops.specs.Permuting.{TurnsPermute, TurnsReread};
-
-/// Each turn of a sound call stores a word of the permutation of the node that it holds, and leaves its stage, or
-/// stores none, and keeps or lets go what it had stored; and what it has read of a permutation begins with the load of
-/// its version, goes on with its words, stays or ends.
-pub fn turns_permute()
-    ensures stores { TurnsPermute }
-    ensures reads { TurnsReread }
 {}
 
 ghost use Rattle.node_ops.specs.Parts.{PartTells, PartsHear, PartsEnd, PartsEndThere, EndsAreHeld, EndsStay};
