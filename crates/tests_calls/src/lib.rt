@@ -2,18 +2,4 @@
 #![tactic(auto)]
 
 #[cfg(test)]
-mod call_merges;
-#[cfg(test)]
-mod calls;
-#[cfg(test)]
-mod meanwhile;
-#[cfg(test)]
-mod merges;
-#[cfg(test)]
-mod parts;
-#[cfg(test)]
-mod rows;
-#[cfg(test)]
-mod splits;
-#[cfg(test)]
-mod turns;
+mod tests;

@@ -7,26 +7,4 @@
 #![tactic(auto)]
 
 #[cfg(test)]
-mod beside;
-#[cfg(test)]
-mod calls;
-#[cfg(test)]
-mod crashes;
-#[cfg(test)]
-mod drawn;
-#[cfg(test)]
-mod events;
-#[cfg(test)]
-mod images;
-#[cfg(test)]
-mod model;
-#[cfg(test)]
-mod orders;
-#[cfg(test)]
-mod rechecks;
-#[cfg(test)]
-mod rows;
-#[cfg(test)]
-mod stopped;
-#[cfg(test)]
-mod waiting;
+mod tests;

@@ -3,16 +3,4 @@
 #![tactic(auto)]
 
 #[cfg(test)]
-mod images;
-#[cfg(test)]
-mod layers;
-#[cfg(test)]
-mod marks;
-#[cfg(test)]
-mod pairs;
-#[cfg(test)]
-mod recoveries;
-#[cfg(test)]
-mod rules;
-#[cfg(test)]
-mod trees;
+mod tests;

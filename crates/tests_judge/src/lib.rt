@@ -2,10 +2,4 @@
 #![tactic(auto)]
 
 #[cfg(test)]
-mod drawn;
-#[cfg(test)]
-mod plain;
-#[cfg(test)]
-mod reading;
-#[cfg(test)]
-mod rows;
+mod tests;

@@ -3,10 +3,4 @@
 #![tactic(auto)]
 
 #[cfg(test)]
-mod claims;
-#[cfg(test)]
-mod layer;
-#[cfg(test)]
-mod lines;
-#[cfg(test)]
-mod walks;
+mod tests;

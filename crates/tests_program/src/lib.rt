@@ -3,10 +3,4 @@
 #![tactic(auto)]
 
 #[cfg(test)]
-mod beside_core;
-#[cfg(test)]
-mod faults;
-#[cfg(test)]
-mod held;
-#[cfg(test)]
-mod running;
+mod tests;

@@ -2,6 +2,4 @@
 #![tactic(auto)]
 
 #[cfg(test)]
-mod cells;
-#[cfg(test)]
-mod keys;
+mod tests;

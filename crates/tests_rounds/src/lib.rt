@@ -2,8 +2,4 @@
 #![tactic(auto)]
 
 #[cfg(test)]
-mod held;
-#[cfg(test)]
-mod placed;
-#[cfg(test)]
-mod plans;
+mod tests;

@@ -3,12 +3,4 @@
 #![tactic(auto)]
 
 #[cfg(test)]
-mod outside;
-#[cfg(test)]
-mod readings;
-#[cfg(test)]
-mod reports;
-#[cfg(test)]
-mod saving;
-#[cfg(test)]
-mod scripts;
+mod tests;

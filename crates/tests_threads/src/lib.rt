@@ -2,22 +2,4 @@
 #![tactic(auto)]
 
 #[cfg(test)]
-mod alone;
-#[cfg(test)]
-mod cuts;
-#[cfg(test)]
-mod held;
-#[cfg(test)]
-mod histories;
-#[cfg(test)]
-mod meeting;
-#[cfg(test)]
-mod playing;
-#[cfg(test)]
-mod scans;
-#[cfg(test)]
-mod telling;
-#[cfg(test)]
-mod turns;
-#[cfg(test)]
-mod watch;
+mod tests;

@@ -3,18 +3,4 @@
 #![tactic(auto)]
 
 #[cfg(test)]
-mod bytes;
-#[cfg(test)]
-mod histories;
-#[cfg(test)]
-mod locks;
-#[cfg(test)]
-mod maps;
-#[cfg(test)]
-mod members;
-#[cfg(test)]
-mod memory;
-#[cfg(test)]
-mod names;
-#[cfg(test)]
-mod slots;
+mod tests;

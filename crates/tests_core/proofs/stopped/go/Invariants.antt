@@ -1,5 +1,0 @@
-use Rattle.recovery.specs.Stops.{MayGoOn}
-use Rattle.tests_core.proofs.stopped.go.Given as goal
-
-abbrev pub invariant-loop : goal.invariant-loop
-invariant-loop g l = MayGoOn l.recovery

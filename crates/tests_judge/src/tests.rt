@@ -1,0 +1,6 @@
+//! The tests, by what they are of.
+
+mod drawn;
+mod plain;
+mod reading;
+mod rows;

@@ -1,0 +1,6 @@
+//! The tests, by what they are of.
+
+mod claims;
+mod layer;
+mod lines;
+mod walks;

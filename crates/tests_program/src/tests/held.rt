@@ -1,0 +1,46 @@
+//! Rounds of several callers whose gate holds them, so that they end in time only where their calls run beside each
+//! other.
+
+use super::running::{SOUND, plan_of, run_gated};
+use cat_text::MemoryShelf;
+use catalog_cli::pac_index::Gate;
+use holding_gates::{Beside, Turns};
+use std::alloc::AllocGlobal;
+use std::sync::Wait;
+use std::test::Fail;
+use std::thread::Threads;
+
+/// Whether `play` on eight nodes of four slots for two callers is done with this script, and its report has this last
+/// line.
+fn ends_with<R: AllocGlobal + Threads + Wait + Sync, G: Gate>(
+    rt: &R,
+    script: &str,
+    last: &str,
+    gate: &G,
+) -> Option<bool> {
+    let mut shelf = MemoryShelf::new(rt.alloc(), plan_of(rt.alloc(), 0)?);
+    let (code, written) = run_gated(rt, &mut shelf, "play 8 4 2", script, &SOUND, gate)?;
+    Some(code == 0 && written.ends_with(last.as_bytes()))
+}
+
+#[test]
+fn callers_run_beside_each_other(rt: HostRuntime) -> Result<(), Fail> {
+    let gate = Beside::new(0);
+    let script = "0 put a 1\n0 put b 2\n0 put c 3\n0 put d 4\n0 put e 5\njoin\n\
+        0 put a 7\n0 put b 8\n1 get d\n1 get e\n";
+    let ended = ends_with(&rt, script, "\njoin 2 names 5\n", &gate);
+    assert_eq!(rt; ended, Some(true));
+    assert_eq!(rt; gate.met(), 3);
+    Ok(())
+}
+
+#[test]
+fn the_updater_turns_beside_callers(rt: HostRuntime) -> Result<(), Fail> {
+    let gate = Turns::new();
+    let script =
+        "updater 1\n0 put a 1\n0 put b 2\n0 put c 3\n0 put d 4\n0 put e 5\n0 get a\n1 get a\n";
+    let ended = ends_with(&rt, script, "\njoin 5 names 5\n", &gate);
+    assert_eq!(rt; ended, Some(true));
+    assert_eq!(rt; gate.met(), 3);
+    Ok(())
+}

@@ -1,0 +1,7 @@
+//! The tests, by what they are of.
+
+mod outside;
+mod readings;
+mod reports;
+mod saving;
+mod scripts;

@@ -1,0 +1,12 @@
+//! The tests, by what they are of.
+
+mod alone;
+mod cuts;
+mod held;
+mod histories;
+mod meeting;
+mod playing;
+mod scans;
+mod telling;
+mod turns;
+mod watch;
