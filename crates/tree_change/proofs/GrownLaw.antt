@@ -27,10 +27,12 @@ larger_is_filled count nodes w cell filled x larger b leaf is old has new within
     let least : 2 ≤ kind_of larger = subst (λ k. 2 ≤ k) (sym new.0) has.sound.kind.0 in
     let most : kind_of larger ≤ 5 = subst (λ k. k ≤ 5) (sym new.0) has.sound.kind.1 in
     record {
-      number = ap₂ (λ p q. p && q) (ap₂ (λ p q. p && q) (le-leb 2 (kind_of larger) least) (le-leb (kind_of larger) 5 most)) (lt-ltb (number_of larger) count within);
-      depth = head 0 (omega arith);
-      prefix = words_alike (λ k. cell_in w larger (prefix_offset + k)) (λ k. cell_in w x (prefix_offset + k)) (λ k lt. head (prefix_offset + k) (omega arith));
-      has_leaf = ap reference_of (child_stands w larger filled new has.sound b ∙ has.here) ∙ leaf_reference leaf small;
-      others = λ c apart. ap reference_of (child_stands w larger filled new has.sound c ∙ has.others c apart ∙ sym (child_stands w x cell old is c));
+      cell = record {
+        number = ap₂ (λ p q. p && q) (ap₂ (λ p q. p && q) (le-leb 2 (kind_of larger) least) (le-leb (kind_of larger) 5 most)) (lt-ltb (number_of larger) count within);
+        depth = head 0 (omega arith);
+        prefix = words_alike (λ k. cell_in w larger (prefix_offset + k)) (λ k. cell_in w x (prefix_offset + k)) (λ k lt. head (prefix_offset + k) (omega arith));
+        has_leaf = ap reference_of (child_stands w larger filled new has.sound b ∙ has.here) ∙ leaf_reference leaf small;
+        others = λ c apart. ap reference_of (child_stands w larger filled new has.sound c ∙ has.others c apart ∙ sym (child_stands w x cell old is c));
+      };
       form = form_stands w larger filled new has.sound;
     }

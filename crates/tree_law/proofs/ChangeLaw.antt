@@ -23,12 +23,8 @@ way_grows count nodes w place key node x grown b leaf lawful comes at_x comes_x 
       of_tree = comes_place (tree_of w) key place comes;
       old = at_x;
       sound = is.sound;
-      number = is_grown.number;
-      depth = is_grown.depth;
-      prefix = is_grown.prefix;
+      cell = is_grown.cell;
       none = none;
-      has_leaf = is_grown.has_leaf;
-      others = is_grown.others;
       under = adds.under;
     }
 
@@ -83,9 +79,9 @@ module _ (count nodes : ℕ) (w w' : LayerWords) (lawful : IsLawful count nodes 
       (λ y way. elim (cell_goes t grown (Cell y) way) [
         | inl same ↦ subst (λ z. IsForm (kind_of z) (cell_in w z)) (let number : grown ≡ y = cc in number) is_grown.form
         | inr on ↦ elim (cases_eq on.byte b) [
-          | inl at_b ↦ leaf_forms leaf y (subst (λ r. Reaches t r (Cell y)) is_grown.has_leaf (subst (λ c. Reaches t (t.child grown c) (Cell y)) at_b on.reach))
+          | inl at_b ↦ leaf_forms leaf y (subst (λ r. Reaches t r (Cell y)) is_grown.cell.has_leaf (subst (λ c. Reaches t (t.child grown c) (Cell y)) at_b on.reach))
           | inr not_b ↦
-              let same = is_grown.others on.byte not_b in
+              let same = is_grown.cell.others on.byte not_b in
               lawful.forms y (joined (comes_place t key (Entry x b) comes_x) (below (λ e. on.some_child (same ∙ e)) (subst (λ r. Reaches t r (Cell y)) same on.reach)))
         ]
       ])

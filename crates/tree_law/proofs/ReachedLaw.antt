@@ -123,10 +123,10 @@ grow_reaches room t root child place x grown b leaf tree grows unreached is =
     let at_x : IsCell room t x = tree (Cell x) (below_x (Cell x) here) in
     let own = apart_from room t root child place (Cell grown) tree grows.of_tree is more less in
     let joins = new_reached room t root child place (Cell grown) tree grows.of_tree is more less (some_cell grown) in
-    let leaf_is : child grown b ≡ Leaf leaf = own grown b unreached ∙ grows.has_leaf in
+    let leaf_is : child grown b ≡ Leaf leaf = own grown b unreached ∙ grows.cell.has_leaf in
     let to_leaf : Reaches after (Cell grown) (Leaf leaf) = below (λ e. some_leaf leaf (sym leaf_is ∙ e)) (subst (λ r. Reaches after r (Leaf leaf)) (sym leaf_is) here) in
     let not_b : (c : ℕ) → t.child x c ≢ Nothing → c ≢ b = λ c some_child e. some_child (ap (t.child x) e ∙ grows.none) in
-    let child_is : (c : ℕ) → t.child x c ≢ Nothing → child grown c ≡ t.child x c = λ c some_child. own grown c unreached ∙ grows.others c (not_b c some_child) in
+    let child_is : (c : ℕ) → t.child x c ≢ Nothing → child grown c ≡ t.child x c = λ c some_child. own grown c unreached ∙ grows.cell.others c (not_b c some_child) in
     let makes = grow_makes room t root child place x grown b leaf tree grows is in
     record {
       comes = λ q part. elim part [
@@ -150,9 +150,9 @@ grow_reaches room t root child place x grown b leaf tree grows unreached is =
       only = only_these room t root child place (Cell grown) tree grows.of_tree is more less (λ q some_new reach. elim (cell_goes t grown q reach) [
         | inl same ↦ inr (inr same)
         | inr on ↦ elim (cases_eq on.byte b) [
-          | inl at_b ↦ inr (inl (leaf_end t leaf q (subst (λ r. Reaches t r q) grows.has_leaf (subst (λ c. Reaches t (t.child grown c) q) at_b on.reach))))
+          | inl at_b ↦ inr (inl (leaf_end t leaf q (subst (λ r. Reaches t r q) grows.cell.has_leaf (subst (λ c. Reaches t (t.child grown c) q) at_b on.reach))))
           | inr apart ↦
-              let same = grows.others on.byte apart in
+              let same = grows.cell.others on.byte apart in
               inl (below_x q (below (λ e. on.some_child (same ∙ e)) (subst (λ r. Reaches t r q) same on.reach)))
         ]
       ]);

@@ -103,29 +103,29 @@ grow_makes room t root child place x grown b leaf tree grows is =
     let some_old : reference_at t place ≢ Nothing = λ e. some_cell x (sym grows.old ∙ e) in
     let below_x : (q : Reference) → Reaches t (Cell x) q → IsReached t q = λ q reach. below_old t place q grows.of_tree some_old (subst (λ r. Reaches t r q) (sym grows.old) reach) in
     let at_x : IsCell room t x = tree (Cell x) (below_x (Cell x) here) in
-    let has_leaf : t.child grown b ≢ Nothing = λ e. some_leaf leaf (sym grows.has_leaf ∙ e) in
+    let has_leaf : t.child grown b ≢ Nothing = λ e. some_leaf leaf (sym grows.cell.has_leaf ∙ e) in
     let other_byte : (c : ℕ) → t.child x c ≢ Nothing → c ≢ b = λ c some_child e. some_child (ap (t.child x) e ∙ grows.none) in
-    let kept_some : (c : ℕ) → t.child x c ≢ Nothing → t.child grown c ≢ Nothing = λ c some_child e. some_child (sym (grows.others c (other_byte c some_child)) ∙ e) in
+    let kept_some : (c : ℕ) → t.child x c ≢ Nothing → t.child grown c ≢ Nothing = λ c some_child e. some_child (sym (grows.cell.others c (other_byte c some_child)) ∙ e) in
     let two : HasTwo t grown =
     let two_x = at_x.two in
     record { one = two_x.one; two = two_x.two; apart = two_x.apart; has_one = kept_some two_x.one two_x.has_one; has_two = kept_some two_x.two two_x.has_two } in
     let cell : IsCell room t grown = record {
-      number = grows.number;
-      depth = subst (λ d. d < key_bytes) (sym grows.depth) at_x.depth;
-      zeros = ap₂ (λ d p. first_bytes d p * span d) grows.depth grows.prefix ∙ at_x.zeros ∙ sym grows.prefix;
+      number = grows.cell.number;
+      depth = subst (λ d. d < key_bytes) (sym grows.cell.depth) at_x.depth;
+      zeros = ap₂ (λ d p. first_bytes d p * span d) grows.cell.depth grows.cell.prefix ∙ at_x.zeros ∙ sym grows.cell.prefix;
       two = two;
       under = λ c some_child. elim (cases_eq c b) [
-        | inl at_b ↦ subst (λ e. IsUnder t grown e (t.child grown e)) (sym at_b) (subst (IsUnder t grown b) (sym grows.has_leaf) (like_under t x grown b (Leaf leaf) grows.depth grows.prefix grows.under))
+        | inl at_b ↦ subst (λ e. IsUnder t grown e (t.child grown e)) (sym at_b) (subst (IsUnder t grown b) (sym grows.cell.has_leaf) (like_under t x grown b (Leaf leaf) grows.cell.depth grows.cell.prefix grows.under))
         | inr not_b ↦
-            let same = grows.others c not_b in
-            subst (IsUnder t grown c) (sym same) (like_under t x grown c (t.child x c) grows.depth grows.prefix (at_x.under c (λ e. some_child (same ∙ e))))
+            let same = grows.cell.others c not_b in
+            subst (IsUnder t grown c) (sym same) (like_under t x grown c (t.child x c) grows.cell.depth grows.cell.prefix (at_x.under c (λ e. some_child (same ∙ e))))
       ];
     } in
     let part : (q : Reference) → Reaches t (Cell grown) q → (q ≡ Cell grown) ⊎ (q ≡ Leaf leaf) ⊎ Goes t x q = λ q reach. elim (cell_goes t grown q reach) [
       | inl same ↦ inl same
       | inr on ↦ elim (cases_eq on.byte b) [
-        | inl at_b ↦ inr (inl (leaf_end t leaf q (subst (λ r. Reaches t r q) grows.has_leaf (subst (λ c. Reaches t (t.child grown c) q) at_b on.reach))))
-        | inr not_b ↦ let same = grows.others on.byte not_b in inr (inr (record { byte = on.byte; some_child = λ e. on.some_child (same ∙ e); reach = subst (λ r. Reaches t r q) same on.reach }))
+        | inl at_b ↦ inr (inl (leaf_end t leaf q (subst (λ r. Reaches t r q) grows.cell.has_leaf (subst (λ c. Reaches t (t.child grown c) q) at_b on.reach))))
+        | inr not_b ↦ let same = grows.cell.others on.byte not_b in inr (inr (record { byte = on.byte; some_child = λ e. on.some_child (same ∙ e); reach = subst (λ r. Reaches t r q) same on.reach }))
       ]
     ] in
     more_makes room t root child place (Cell grown) tree grows.of_tree is leaf (some_cell grown)
@@ -137,11 +137,11 @@ grow_makes room t root child place x grown b leaf tree grows is =
       | inl same ↦ subst (HasTwo t) (let number : grown ≡ y = cc in number) two
       | inr rest ↦ elim rest [ inl at_leaf ↦ absurd cc | inr on ↦ (tree (Cell y) (below_x (Cell y) (below on.some_child on.reach))).two ]
     ])
-    (like_fits t place x grown grows.depth grows.prefix (subst (FitsAt t place) grows.old (old_fits room t place tree grows.of_tree some_old)))
-    (below has_leaf (subst (λ r. Reaches t r (Leaf leaf)) (sym grows.has_leaf) here))
+    (like_fits t place x grown grows.cell.depth grows.cell.prefix (subst (FitsAt t place) grows.old (old_fits room t place tree grows.of_tree some_old)))
+    (below has_leaf (subst (λ r. Reaches t r (Leaf leaf)) (sym grows.cell.has_leaf) here))
     (λ i reach. elim (cell_goes t x (Leaf i) (subst (λ r. Reaches t r (Leaf i)) grows.old reach)) [
       | inl wrong ↦ absurd cc
-      | inr on ↦ below (kept_some on.byte on.some_child) (subst (λ r. Reaches t r (Leaf i)) (sym (grows.others on.byte (other_byte on.byte on.some_child))) on.reach)
+      | inr on ↦ below (kept_some on.byte on.some_child) (subst (λ r. Reaches t r (Leaf i)) (sym (grows.cell.others on.byte (other_byte on.byte on.some_child))) on.reach)
     ])
     (λ i reach. elim (part (Leaf i) reach) [
       | inl same ↦ absurd cc

@@ -1,8 +1,8 @@
 -- A set and an unset, from what the key's way has come to, to the store that makes them, on words.
-use Rattle.std.specs.Prelude.{◌≡◌, ◌≢◌, ℕ, ◌+◌, ◌<◌, true, Some, None}
+use Rattle.std.specs.Prelude.{◌≡◌, ◌≢◌, ℕ, ◌+◌, ◌<◌, Some, None}
 use Rattle.tree_law.specs.Trees.{Nothing, Leaf, Cell, IsLeaf, low, depth_of}
 use Rattle.radix_nodes.specs.Cells.{IsForm}
-use Rattle.tree_law.specs.Switches.{Place, Entry, reference_at, Removes, Collapses}
+use Rattle.tree_law.specs.Switches.{Place, Entry, reference_at, IsGrownOf, Removes, Collapses}
 use Rattle.tree_law.specs.Paths.{Comes, PartsAt, IsFilledPair}
 use Rattle.tree_law.specs.Words.{LayerWords, kind_of, cell_in, reference_of, tree_of, room_of, IsLawful, ChangesKey}
 use Rattle.tree_law.specs.Words.{IsSwitchStore}
@@ -15,11 +15,7 @@ pub record IsFilledLeaf (count nodes : ℕ) (w : LayerWords) (key node leaf : �
 
 -- the cell that takes the place of a full one
 pub record IsFilledLarger (count nodes : ℕ) (w : LayerWords) (x grown b leaf : ℕ) : Type 0 where
-  pub number : (room_of count nodes).is_cell grown ≡ true
-  pub depth : (tree_of w).depth grown ≡ (tree_of w).depth x
-  pub prefix : (tree_of w).prefix grown ≡ (tree_of w).prefix x
-  pub has_leaf : (tree_of w).child grown b ≡ Leaf leaf
-  pub others : (c : ℕ) → c ≢ b → (tree_of w).child grown c ≡ (tree_of w).child x c
+  pub cell : IsGrownOf (room_of count nodes) (tree_of w) x grown b leaf
   pub form : IsForm (kind_of grown) (cell_in w grown)
 
 abbrev pub SetAdds : Type 0

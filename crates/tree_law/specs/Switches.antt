@@ -61,17 +61,21 @@ pub record Pairs (room : Room) (t : Tree) (place : Place) (pair old_byte leaf_by
   pub leaf_under : IsUnder t pair leaf_byte (Leaf leaf)
   pub fits : FitsAt t place (Cell pair)
 
--- a cell of a larger form comes in the place of one, with all its children and the leaf
+-- a cell has all the children of another one, and the leaf
+pub record IsGrownOf (room : Room) (t : Tree) (x grown b leaf : ℕ) : Type 0 where
+  pub number : room.is_cell grown ≡ true
+  pub depth : t.depth grown ≡ t.depth x
+  pub prefix : t.prefix grown ≡ t.prefix x
+  pub has_leaf : t.child grown b ≡ Leaf leaf
+  pub others : (c : ℕ) → c ≢ b → t.child grown c ≡ t.child x c
+
+-- such a cell of a larger form comes in the place of the other one
 pub record Grows (room : Room) (t : Tree) (place : Place) (x grown b leaf : ℕ) : Type 0 where
   pub of_tree : IsPlace t place
   pub old : reference_at t place ≡ Cell x
   pub sound : IsLeaf room t leaf
-  pub number : room.is_cell grown ≡ true
-  pub depth : t.depth grown ≡ t.depth x
-  pub prefix : t.prefix grown ≡ t.prefix x
+  pub cell : IsGrownOf room t x grown b leaf
   pub none : t.child x b ≡ Nothing
-  pub has_leaf : t.child grown b ≡ Leaf leaf
-  pub others : (c : ℕ) → c ≢ b → t.child grown c ≡ t.child x c
   pub under : IsUnder t x b (Leaf leaf)
 
 -- Of an unset: the leaf goes from a cell that has two more children, or the other child comes in the place of a cell of
