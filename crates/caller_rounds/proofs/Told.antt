@@ -7,7 +7,7 @@ use Rattle.cat_history.specs.Maps.{Map}
 use Rattle.cat_history.specs.Writes.{after}
 use Rattle.cat_history.specs.CrashRounds.{is_shown, settled_reply}
 use Rattle.cat_history.specs.Records.{Call, call_of, change_asked, numbered, numbered_after}
-use Rattle.cat_history.specs.Rounds.{IsAnswered, IsItsMark, IsOld, IsWriter, AreItsParts}
+use Rattle.cat_history.specs.Rounds.{IsAnswered, IsItsMark, IsOld, IsScan, IsWriter, AreItsParts}
 use Rattle.cat_history.specs.declared.op.CallerOp.{CallerOp}
 use Rattle.cat_history.specs.declared.op.Op.{Op}
 use Rattle.cat_history.specs.declared.op.Op.TheVariants.{Put, Get, Del, Scan}
@@ -16,7 +16,7 @@ use Rattle.cat_history.specs.declared.record.CutMark.TheVariants.{At, Open, Foun
 use Rattle.cat_history.specs.declared.record.Reply.{Reply}
 use Rattle.cat_history.specs.declared.record.Reply.TheVariants.{Old, Parts, Full, Spent, Cut, Unstarted}
 use Rattle.cat_history.specs.declared.record.ScanPart.{ScanPart}
-use Rattle.cat_text.specs.ReportGrammar.{IsGet, IsReportMark, IsReportOp, IsReportReply, IsScan}
+use Rattle.cat_text.specs.ReportGrammar.{IsGet, IsReportMark, IsReportOp, IsReportReply}
 use Rattle.caller_rounds.specs.Standing.{AnswersAreTold, RecordsAreTold, SettledAreTold}
 use Rattle.caller_rounds.proofs.Parting.{map-has}
 

@@ -32,6 +32,12 @@ IsPut (Get name) = ⊥
 IsPut (Del name) = ⊥
 IsPut (Scan from count) = ⊥
 
+abbrev pub IsScan : Op → Type 0
+IsScan (Put name value) = ⊥
+IsScan (Get name) = ⊥
+IsScan (Del name) = ⊥
+IsScan (Scan from count) = Unit {0}
+
 -- The op asks for a write.
 abbrev pub IsWriter : Op → Type 0
 IsWriter (Put name value) = Unit {0}

@@ -3,7 +3,7 @@ use Rattle.std.specs.Prelude.{◌≡◌, ℕ, ◌+◌, ◌<◌, ◌≤◌, ◌^�
 use Rattle.cat_key.specs.Names.{IsName}
 use Rattle.cat_key.specs.declared.Pair.{Pair}
 use Rattle.cat_history.specs.Records.{call_of, numbered}
-use Rattle.cat_history.specs.Rounds.{IsPut, IsWriter}
+use Rattle.cat_history.specs.Rounds.{IsPut, IsScan, IsWriter}
 use Rattle.cat_history.specs.Scans.{Rise}
 use Rattle.cat_history.specs.declared.op.CallerOp.{CallerOp}
 use Rattle.cat_history.specs.declared.op.Op.{Op}
@@ -30,12 +30,6 @@ IsGet (Put name value) = ⊥
 IsGet (Get name) = Unit {0}
 IsGet (Del name) = ⊥
 IsGet (Scan from count) = ⊥
-
-abbrev pub IsScan : Op → Type 0
-IsScan (Put name value) = ⊥
-IsScan (Get name) = ⊥
-IsScan (Del name) = ⊥
-IsScan (Scan from count) = Unit {0}
 
 -- A name with a number below 2 ^ 64.
 abbrev pub IsReportPair : Pair → Type 0

@@ -1,6 +1,6 @@
 -- What the line of a call says: what is asked, and what is told of the answer.
 use Rattle.std.specs.Prelude.{◌≡◌, ℕ, ◌<◌, ◌^◌, Option, List, [], ◌∷◌, ◌++◌, IfSome, codes, decimal, length}
-use Rattle.cat_history.specs.Rounds.{IsPut, IsWriter}
+use Rattle.cat_history.specs.Rounds.{IsPut, IsScan, IsWriter}
 use Rattle.cat_history.specs.declared.op.Op.{Op}
 use Rattle.cat_history.specs.declared.record.CutMark.{CutMark}
 use Rattle.cat_history.specs.declared.record.CutMark.TheVariants.{At, Open, Found, Lost, Read}
@@ -8,7 +8,7 @@ use Rattle.cat_history.specs.declared.record.Reply.{Reply}
 use Rattle.cat_history.specs.declared.record.Reply.TheVariants as reply
 use Rattle.cat_history.specs.declared.record.ScanPart.{ScanPart}
 use Rattle.cat_text.specs.Reports.{old_text}
-use Rattle.cat_text.specs.ReportGrammar.{IsReportOp, IsGet, IsScan}
+use Rattle.cat_text.specs.ReportGrammar.{IsReportOp, IsGet}
 use Rattle.cat_text.specs.ReportLines.{op_fields, place_field, cut_fields, mark_fields}
 use Rattle.report_reader.specs.declared.answer.Answer.{Answer}
 use Rattle.report_reader.specs.declared.answer.Answer.TheVariants.{Old, Parts, Full, Spent, Cut, Unstarted}

@@ -1,9 +1,9 @@
 //! Reading what a call was answered.
 
 ghost use Rattle.std.specs.Prelude.{◌≡◌, ◌≢◌, ◌∷◌, ◌↔◌, [], List, ℕ, Bool, Option, IfSome, IsNone, IsTrue, codes};
-ghost use Rattle.cat_history.specs.Rounds.{IsPut, IsWriter};
+ghost use Rattle.cat_history.specs.Rounds.{IsPut, IsScan, IsWriter};
 ghost use Rattle.cat_history.specs.declared.record.CutMark.{CutMark};
-ghost use Rattle.cat_text.specs.ReportGrammar.{IsGet, IsScan};
+ghost use Rattle.cat_text.specs.ReportGrammar.{IsGet};
 ghost use Rattle.cat_text.specs.ReportLines.{cut_fields};
 ghost use Rattle.cat_text.specs.Reports.{old_text};
 ghost use Rattle.report_reader.specs.Answers.{SaysAnswer, SaysMark, Suits, SuitsMark, IsOld};

@@ -7,8 +7,8 @@ use Rattle.cat_history.specs.CrashEnds.{IsCrashEnd}
 use Rattle.cat_history.specs.CrashRounds.{StopsOnce, KeepsBudget, ReplySays, changes_cut}
 use Rattle.cat_history.specs.Maps.{Map, at, map_of}
 use Rattle.cat_history.specs.Records.{Call, interval, numbered}
-use Rattle.cat_history.specs.Rounds.{RecordsEachCall, AreWritesByPlace, IsPut, IsWriter, IsItsMark, IsAnswered}
-use Rattle.cat_history.specs.Rounds.{KeepsCallersOrder}
+use Rattle.cat_history.specs.Rounds.{RecordsEachCall, AreWritesByPlace, IsPut, IsScan, IsWriter, IsItsMark}
+use Rattle.cat_history.specs.Rounds.{IsAnswered, KeepsCallersOrder}
 use Rattle.cat_history.specs.Scans.{IsLegalScan}
 use Rattle.cat_history.specs.Writes.{after, after_all}
 use Rattle.cat_history.specs.declared.op.CallerOp.{CallerOp}
@@ -110,12 +110,6 @@ IsOnName (Put name value) = Unit {0}
 IsOnName (Get name) = Unit {0}
 IsOnName (Del name) = Unit {0}
 IsOnName (Scan from count) = ⊥
-
-abbrev pub IsScan : Op → Type 0
-IsScan (Put name value) = ⊥
-IsScan (Get name) = ⊥
-IsScan (Del name) = ⊥
-IsScan (Scan from count) = Unit {0}
 
 -- The reply is of a form that there is for the call: a number for a call on one name, parts for a scan, full for a put
 -- alone, spent for a put or a delete, the mark of a call that was cut off by what it asks.
