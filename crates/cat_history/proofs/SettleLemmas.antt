@@ -7,10 +7,10 @@ use Rattle.std.specs.List.{filter_map, cons_option, enumerate_from}
 use Rattle.std.specs.List.Sorted.{IsPermutation}
 use Rattle.cat_history.specs.Maps.{Map}
 use Rattle.cat_history.specs.Writes.{after_all}
-use Rattle.cat_history.specs.Records.{Call, call_of, change_asked, mark_place, place_of, placed_write, Interval, interval, interval_told, interval_asked}
+use Rattle.cat_history.specs.Records.{Call, call_of, change_asked, place_of, placed_write, Interval, interval, interval_told}
 use Rattle.cat_history.specs.Rounds.{IsItsMark, IsAnswer, IsAnswered, KeepsCallersOrder}
 use Rattle.cat_history.specs.CrashEnds.{IsCrashEnd}
-use Rattle.cat_history.specs.CrashRounds.{StopsOnce, KeepsBudget, is_unplaced, change_cut, Says, ReplySays, IsUnsettled, is_shown, settled_mark, settled_reply, settled, SettledIsCrashRound}
+use Rattle.cat_history.specs.CrashRounds.{StopsOnce, KeepsBudget, change_cut, Says, ReplySays, IsUnsettled, is_shown, settled_mark, settled_reply, settled, SettledIsCrashRound}
 use Rattle.cat_history.specs.declared.op.Change.{Change}
 use Rattle.cat_history.specs.declared.op.Op.{Op}
 use Rattle.cat_history.specs.declared.op.Op.TheVariants.{Put, Get, Del, Scan}
@@ -48,49 +48,27 @@ made_of f l b has =
     (a, (has.0, within, get_or_default l has.0 a b within), sym (get_or-map f l has.0 b b within) ∙ has.2)
 
 module _ (end : Map) where
-  mark-place : (change : Option Change) (mark : CutMark) → mark_place (settled_mark end change mark) ≡ mark_place mark
-  mark-place change (At place) = refl
-  mark-place change Open = by (is_shown end change) where
-    by : (b : Bool) → mark_place (cond b Found Lost) ≡ None
-    by true = refl
-    by false = refl
-  mark-place change Found = refl
-  mark-place change Lost = refl
-  mark-place change Read = refl
+  -- what is told alike of a mark that says nothing, of a found one and of a lost one is told alike of the settled mark
+  mark-alike : {A : Type 0} (told : CutMark → A) → told Found ≡ told Open → told Lost ≡ told Open → (change : Option Change) (mark : CutMark) →
+      told (settled_mark end change mark) ≡ told mark
+  mark-alike told found lost change (At place) = refl
+  mark-alike told found lost change Open = by (is_shown end change) where
+    by : (b : Bool) → told (cond b Found Lost) ≡ told Open
+    by true = found
+    by false = lost
+  mark-alike told found lost change Found = refl
+  mark-alike told found lost change Lost = refl
+  mark-alike told found lost change Read = refl
 
-  mark-unplaced : (change : Option Change) (mark : CutMark) → is_unplaced (settled_mark end change mark) ≡ is_unplaced mark
-  mark-unplaced change (At place) = refl
-  mark-unplaced change Open = by (is_shown end change) where
-    by : (b : Bool) → is_unplaced (cond b Found Lost) ≡ true
-    by true = refl
-    by false = refl
-  mark-unplaced change Found = refl
-  mark-unplaced change Lost = refl
-  mark-unplaced change Read = refl
-
-  reply-place : (op : Op) (reply : Reply) → place_of (settled_reply end op reply) ≡ place_of reply
-  reply-place op (Old old place) = refl
-  reply-place op (Parts parts cut) = refl
-  reply-place op Full = refl
-  reply-place op (Spent clock) = refl
-  reply-place op (Cut mark) = mark-place (change_asked op) mark
-  reply-place op Unstarted = refl
-
-  reply-interval : (op : Op) (reply : Reply) → interval_told op (settled_reply end op reply) ≡ interval_told op reply
-  reply-interval op (Old old place) = refl
-  reply-interval op (Parts parts cut) = refl
-  reply-interval op Full = refl
-  reply-interval op (Spent clock) = refl
-  reply-interval op (Cut mark) = ap (option_map (interval_asked op)) (mark-place (change_asked op) mark)
-  reply-interval op Unstarted = refl
-
-  reply-cut : (op : Op) (reply : Reply) → change_cut op (settled_reply end op reply) ≡ change_cut op reply
-  reply-cut op (Old old place) = refl
-  reply-cut op (Parts parts cut) = refl
-  reply-cut op Full = refl
-  reply-cut op (Spent clock) = refl
-  reply-cut op (Cut mark) = ap (λ b. cond b (change_asked op) None) (mark-unplaced (change_asked op) mark)
-  reply-cut op Unstarted = refl
+  -- and so of the settled reply
+  reply-alike : {A : Type 0} (told : Reply → A) → told (Cut Found) ≡ told (Cut Open) → told (Cut Lost) ≡ told (Cut Open) → (op : Op) (reply : Reply) →
+      told (settled_reply end op reply) ≡ told reply
+  reply-alike told found lost op (Old old place) = refl
+  reply-alike told found lost op (Parts parts cut) = refl
+  reply-alike told found lost op Full = refl
+  reply-alike told found lost op (Spent clock) = refl
+  reply-alike told found lost op (Cut mark) = mark-alike (λ (m : CutMark). told (Cut m)) found lost (change_asked op) mark
+  reply-alike told found lost op Unstarted = refl
 
   -- a mark of a write stays one
   mark-writes : (change : Option Change) (mark : CutMark) → mark ≢ Read → settled_mark end change mark ≢ Read
@@ -158,10 +136,10 @@ module _ (end : Map) where
       ap (λ (o : Option ℕ). elim o [
         | None ↦ None
         | Some place ↦ option_map (λ (c : Change). (place, record { caller = r.caller; index = r.index; change = c })) (change_asked r.op)
-      ]) (reply-place r.op r.reply)
+      ]) (reply-alike place_of refl refl r.op r.reply)
 
   interval-same : (r : Record) → interval (settled end r) ≡ interval r
-  interval-same r = reply-interval r.op r.reply
+  interval-same r = reply-alike (interval_told r.op) refl refl r.op r.reply
 
   each : (P Q : Record → Type 0) → ((r : Record) → P r → Q (settled end r)) → (records : List Record) → All P records → All Q (map (settled end) records)
   each P Q to records all = All-map Q (settled end) records (λ k d within. to (get_or records k d) (all k d within))
@@ -218,6 +196,6 @@ settled_is_crash_round base calls limit budgets records writes end stopped leave
       once = once end records stopped.once;
       budget = each end (KeepsBudget budgets) (KeepsBudget budgets) (budget end budgets) records stopped.budget;
       leaves = subst (λ cuts. IsCrashEnd (after_all base writes) cuts end)
-          (sym (alike_given (settled end) (λ (r : Record). change_cut r.op r.reply) (λ r. reply-cut end r.op r.reply) records)) leaves;
+          (sym (alike_given (settled end) (λ (r : Record). change_cut r.op r.reply) (λ r. reply-alike end (change_cut r.op) refl refl r.op r.reply) records)) leaves;
       says = each end (λ r. IsUnsettled r.reply) (λ r. ReplySays end r.op r.reply) (λ r is. reply-says end r.op r.reply is) records stopped.unsettled;
     }
