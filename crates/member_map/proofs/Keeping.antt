@@ -10,7 +10,7 @@ use Rattle.cat_history.proofs.ReplayLemmas.{map_of-pairs_of}
 use Rattle.shapes.specs.Anchors.{Anchors, names_between, past, target_of, next_of, names_at, IsFullPut, put_anchors, del_anchors}
 use Rattle.shapes.specs.Weights.{IsShape}
 use Rattle.shapes.proofs.Agreements.{put-stays}
-use Rattle.shapes.proofs.Shapes.{del-stays, put_keeps_shape}
+use Rattle.shapes.proofs.Shapes.{del-stays, delete_keeps_shape, put_keeps_shape}
 use Rattle.member_map.specs.Members.{AreMembers, anchors_of}
 use Rattle.member_map.proofs.ShapeLemmas.{names-fit}
 
@@ -29,6 +29,20 @@ made-members slots nodes m anchors ps bounds halves is bounded shape =
       in_order = pairs-in-order m ps is;
       shape = subst (λ xs. IsShape slots nodes (map_of ps) xs) (sym bounded) (subst (λ n. IsShape slots nodes n anchors) (sym (pairs-map m ps is)) shape);
     }
+
+-- what a put that isn't full makes of members is members, and so is what a delete makes of them
+pub put-members : (slots nodes : ℕ) (ps after : List Pair) (bounds now : List (List ℕ)) (name : List ℕ) (v : ℕ) → AreMembers slots nodes ps bounds →
+    (IsFullPut slots nodes (map_of ps) (anchors_of bounds) name → ⊥) → after ≡ pairs_of (insert (map_of ps) name v) → anchors_of now ≡ put_anchors slots (map_of ps) (anchors_of bounds) name →
+    AreMembers slots nodes after now
+put-members slots nodes ps after bounds now name v was room grown bounded =
+    made-members slots nodes (insert (map_of ps) name v) (put_anchors slots (map_of ps) (anchors_of bounds) name) after now was.halves grown bounded
+    (put_keeps_shape slots nodes (map_of ps) (anchors_of bounds) name v was.halves was.shape room)
+
+pub del-members : (slots nodes : ℕ) (ps after : List Pair) (bounds now : List (List ℕ)) (name : List ℕ) → AreMembers slots nodes ps bounds → after ≡ pairs_of (remove (map_of ps) name) →
+    anchors_of now ≡ del_anchors slots (map_of ps) (anchors_of bounds) name → AreMembers slots nodes after now
+del-members slots nodes ps after bounds now name was left bounded =
+    made-members slots nodes (remove (map_of ps) name) (del_anchors slots (map_of ps) (anchors_of bounds) name) after now was.halves left bounded
+    (delete_keeps_shape slots nodes (map_of ps) (anchors_of bounds) name was.shape)
 
 -- a put of a name that is there is never full, and splits nothing
 pub there-is-not-full : (slots nodes : ℕ) (m : Map) (anchors : Anchors) (name : List ℕ) (v : ℕ) → at m name ≡ Some v → IsFullPut slots nodes m anchors name → ⊥

@@ -14,6 +14,7 @@ use crate::bounds::{insert_bound, next_bound, number_of, second_bound, target_bo
 use crate::pairs::{count_between, lies_between, name_behind};
 use cat_history::NoMemory;
 use cat_key::{Name, Pair};
+use shapes::told;
 use std::alloc::Global;
 
 /// The first names of the target of this name that are at least it, so many at most, with their numbers.
@@ -39,14 +40,6 @@ pub fn first_in_target(
         }
     }
     Ok(first)
-}
-
-/// The pair itself: a name with a number.
-fn told(pair: Pair) -> Pair
-    ensures same { result ≡ pair }
-    ensures named { IsName result.name × (result.value < 2 ^ 64) }
-{
-    pair
 }
 
 /// Splits the target of a name that the pairs lack, where it has no room for one more. False where that asks for a

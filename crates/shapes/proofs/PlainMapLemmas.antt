@@ -1,5 +1,5 @@
 -- The map of pairs no two of which have one name, and what a push, a write in place and a removal leave of it.
-use Rattle.std.proofs.Common.{◌≡◌, ◌≢◌, ℕ, zero, suc, ◌+◌, ◌<◌, cond, Option, Some, None, List, [], ◌∷◌, ◌++◌, length, get_or, map, refl, sym, ap, ◌∙◌, arith}
+use Rattle.std.proofs.Common.{◌≡◌, ◌≢◌, ℕ, zero, suc, ◌+◌, ◌<◌, ◌≤◌, cond, Option, Some, None, List, [], ◌∷◌, ◌++◌, length, get_or, map, refl, sym, ap, ◌∙◌, arith}
 use Rattle.std.proofs.Math.ListN.{set}
 use Rattle.std.proofs.lemmas.List.{map-append}
 use Rattle.std.proofs.lemmas.Map.Lookups.{exact_bytes}
@@ -13,7 +13,7 @@ use Rattle.cat_key.specs.declared.Pair.{Pair}
 use Rattle.cat_history.specs.Maps.{Map, at, map_of}
 use Rattle.cat_history.proofs.NameLemmas.{same, same-Decides, by_names, some≢none}
 use Rattle.cat_history.proofs.PairLemmas.{at-cons, at-other, HasName}
-use Rattle.shapes.specs.PlainMaps.{NamesDiffer}
+use Rattle.shapes.specs.PlainMaps.{NamesDiffer, ArePlainPairs}
 
 pub len-map_of : (ps : List Pair) → NamesDiffer ps → len (map_of ps) ≡ length ps
 len-map_of [] differ = len-empty name_cmp ℕ
@@ -29,6 +29,13 @@ at-position (p ∷ ps) zero n d differ within named =
 at-position (p ∷ ps) (suc i) n d differ within named =
     let later : at (map_of ps) n ≡ Some (get_or ps i d).value = at-position ps i n d differ.1 (omega (arith, within)) named in
     at-other p ps n (λ e. some≢none (get_or ps i d).value (sym later ∙ ap (at (map_of ps)) e ∙ differ.0)) ∙ later
+
+-- they are no more names than there is room for
+pub few-names : (ps : List Pair) (room capacity : ℕ) (m : Map) (most : ℕ) → ArePlainPairs ps room capacity → map_of ps ≡ m → room ≡ most → len m ≤ most
+few-names ps room capacity m most are is within = omega (arith, are.fits, len-map_of ps are.differ, ap (λ (x : Map). len x) is, within)
+
+pub at-there : (ps : List Pair) (i : ℕ) (n : List ℕ) (d : Pair) → NamesDiffer ps → i < length ps → HasName ps i n → at (map_of ps) n ≢ None
+at-there ps i n d differ within named lacks = some≢none (get_or ps i d).value (sym (at-position ps i n d differ within named) ∙ lacks)
 
 -- a pair's name is no later one's
 apart : (p : Pair) (ps : List Pair) (i : ℕ) (n : List ℕ) → NamesDiffer (p ∷ ps) → i < length ps → HasName ps i n → p.name ≢ n

@@ -8,4 +8,4 @@ mod map;
 mod plain;
 
 pub use map::{Full, MapPart, NameMap};
-pub use plain::PlainMap;
+pub use plain::{PlainMap, told};

@@ -135,7 +135,7 @@ fn first_from(alloc: Global, pairs: &[Pair], low: &Name, count: u64) -> Result<V
 }
 
 /// The pair itself: a name with a number.
-fn told(pair: Pair) -> Pair
+pub fn told(pair: Pair) -> Pair
     ensures same { result ≡ pair }
     ensures named { IsName result.name × (result.value < 2 ^ 64) }
 {

@@ -40,13 +40,12 @@ returns-clause-merges c =
     let bounds = c.args.bounds.now.items in
     let name = c.args.name.now in
     let pairs = c.args.pairs.now in
-    let low = unwrap_or c.target_bound-low.result [] in
-    let high = c.second_bound-high.result in
     let at = goal.at.returns-clause-merges c in
     let is = bounds_are at.After-count_between in
     let goes = next_goes at.After-number_of-place in
-    let few : length (lying low high pairs) ≤ c.args.slots / 2 = omega (arith, c.count_between.ensures, c.if-count_between-slots.false) in
+    let few : length (lying (unwrap_or c.target_bound-low.result []) c.second_bound-high.result pairs) ≤ c.args.slots / 2 =
+    omega (arith, c.count_between.ensures, c.if-count_between-slots.false) in
     λ m had after.
     ap anchors_of (rw goes.1 at c.remove.ensures.items)
     ∙ bound-removed bounds name c.requires.rise
-    ∙ sym (few-merge c.args.slots m (anchors_of bounds) name low high pairs (c.requires.in_order ∙ ap pairs_of after) is.0 is.1 had goes.0 few)
+    ∙ sym (few-merge c.args.slots m (anchors_of bounds) name _ _ pairs (c.requires.in_order ∙ ap pairs_of after) is.0 is.1 had goes.0 few)

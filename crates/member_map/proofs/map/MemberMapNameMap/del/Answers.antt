@@ -6,10 +6,8 @@ use Rattle.cat_history.specs.Replays.{pairs_of}
 use Rattle.cat_history.proofs.PairLemmas.{at-lacking}
 use Rattle.shapes.specs.Anchors.{del_anchors}
 use Rattle.shapes.proofs.PlainMapLemmas.{removed-lacking}
-use Rattle.shapes.proofs.Shapes.{delete_keeps_shape}
-use Rattle.member_map.specs.Members.{anchors_of}
 use Rattle.member_map.proofs.OrderedPairs.{nameless, removed-pairs, at-pair}
-use Rattle.member_map.proofs.Keeping.{pairs-map, pairs-in-order, made-members, lacking-merges-none}
+use Rattle.member_map.proofs.Keeping.{pairs-map, pairs-in-order, del-members, lacking-merges-none}
 use Rattle.member_map.proofs.map.MemberMapNameMap.del.Goals.{After-remove-old, In_err-position, In_ok-position}
 use Rattle.member_map.proofs.map.MemberMapNameMap.del.Goals as goal
 
@@ -58,16 +56,12 @@ merge_target-requires-clause-in_order c =
 
 pub invariant_of-self : goal.invariant_of-self
 invariant_of-self c =
-    let slots = c.self.inside.slots in
-    let nodes = c.self.inside.nodes in
-    let m = map_of c.self.inside.pairs.items in
-    let anchors = anchors_of c.self.inside.bounds.items in
-    let name = c.args.name.now in
-    let was = c.self.invariant.0 in
+    let pairs = c.self.inside.pairs.items in
     let rest = left (goal.at.invariant_of-self c).After-remove-old in
     let had = ap {B = Bool} is_some (has (goal.at.invariant_of-self c).In_ok-position nameless) in
-    let merged = c.merge_target.ensures.merges m had (ap map_of c.deref-2.ensures.value ∙ pairs-map (remove m name) c.remove-old.new.self.items rest) in (
-      made-members slots nodes (remove m name) (del_anchors slots m anchors name) c.remove-old.new.self.items c.merge_target.new.bounds.items was.halves rest merged (delete_keeps_shape slots nodes m anchors name was.shape),
+    let kept = ap map_of c.deref-2.ensures.value ∙ pairs-map (remove (map_of pairs) c.args.name.now) c.remove-old.new.self.items rest in (
+      del-members c.self.inside.slots c.self.inside.nodes pairs c.remove-old.new.self.items c.self.inside.bounds.items c.merge_target.new.bounds.items c.args.name.now
+          c.self.invariant.0 rest (c.merge_target.ensures.merges (map_of pairs) had kept),
       rw (c.remove-old.ensures.capacity, c.merge_target.ensures.capacity) c.self.invariant.1,
     )
 

@@ -6,10 +6,9 @@ use Rattle.cat_history.specs.Maps.{at, map_of}
 use Rattle.cat_history.specs.Replays.{pairs_of}
 use Rattle.cat_history.proofs.PairLemmas.{at-lacking}
 use Rattle.shapes.specs.Anchors.{put_anchors}
-use Rattle.shapes.proofs.Shapes.{put_keeps_shape}
 use Rattle.member_map.specs.Members.{anchors_of}
 use Rattle.member_map.proofs.OrderedPairs.{nameless, written-pairs, at-pair, many-pairs}
-use Rattle.member_map.proofs.Keeping.{pairs-map, made-members, there-is-not-full, there-splits-none, room-for-one}
+use Rattle.member_map.proofs.Keeping.{pairs-map, put-members, there-is-not-full, there-splits-none, room-for-one}
 use Rattle.member_map.proofs.map.MemberMapNameMap.put.Goals.{After-index_mut, In-Some}
 use Rattle.member_map.proofs.map.MemberMapNameMap.put.Goals as goal
 
@@ -36,17 +35,14 @@ name_is c =
 pub invariant_of-self : goal.invariant_of-self
 invariant_of-self c =
     let slots = c.self.inside.slots in
-    let nodes = c.self.inside.nodes in
-    let m = map_of c.self.inside.pairs.items in
-    let anchors = anchors_of c.self.inside.bounds.items in
-    let name = c.args.name.now in
-    let was = c.self.invariant.0 in
+    let pairs = c.self.inside.pairs.items in
+    let bounds = c.self.inside.bounds.items in
     let at = goal.at.invariant_of-self c in
-    let had = has at.In-Some nameless in
-    let shape = put_keeps_shape slots nodes m anchors name c.args.value was.halves was.shape (there-is-not-full slots nodes m anchors name _ had) in (
+    let had = has at.In-Some nameless in (
       rw (name_is at.After-index_mut, c.replace-old.ensures.after)
-          (made-members slots nodes (insert m name c.args.value) (put_anchors slots m anchors name) _ c.self.inside.bounds.items was.halves (written at.In-Some)
-          (sym (there-splits-none slots m anchors name _ had)) shape),
+          (put-members slots c.self.inside.nodes pairs _ bounds bounds c.args.name.now c.args.value c.self.invariant.0
+          (there-is-not-full slots c.self.inside.nodes (map_of pairs) (anchors_of bounds) c.args.name.now _ had) (written at.In-Some)
+          (sym (there-splits-none slots (map_of pairs) (anchors_of bounds) c.args.name.now _ had))),
       c.self.invariant.1,
     )
 
@@ -95,17 +91,11 @@ insert_pair-requires-clause-reserved c =
 
 pub invariant_of-self-2 : goal.invariant_of-self-2
 invariant_of-self-2 c =
-    let slots = c.self.inside.slots in
-    let nodes = c.self.inside.nodes in
-    let m = map_of c.self.inside.pairs.items in
-    let anchors = anchors_of c.self.inside.bounds.items in
-    let name = c.args.name.now in
-    let was = c.self.invariant.0 in
     let full = rw c.deref-2.ensures.value at c.split_target.ensures.full in
-    let splits = rw c.deref-2.ensures.value at c.split_target.ensures.splits in
-    let shape = put_keeps_shape slots nodes m anchors name c.args.value was.halves was.shape (λ none. false≢true (sym (full.1 none) ∙ c.if-not-split_target.false)) in (
-      made-members slots nodes (insert m name c.args.value) (put_anchors slots m anchors name) c.insert_pair.new.pairs.items c.split_target.new.bounds.items was.halves
-          c.insert_pair.ensures.items (splits c.if-not-split_target.false) shape,
+    let splits = rw c.deref-2.ensures.value at c.split_target.ensures.splits in (
+      put-members c.self.inside.slots c.self.inside.nodes c.self.inside.pairs.items c.insert_pair.new.pairs.items c.self.inside.bounds.items c.split_target.new.bounds.items
+          c.args.name.now c.args.value c.self.invariant.0 (λ none. false≢true (sym (full.1 none) ∙ c.if-not-split_target.false)) c.insert_pair.ensures.items
+          (splits c.if-not-split_target.false),
       rw (c.insert_pair.ensures.capacity, c.split_target.ensures.capacity) c.self.invariant.1,
     )
 

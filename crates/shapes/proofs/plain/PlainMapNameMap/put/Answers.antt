@@ -1,12 +1,11 @@
-use Rattle.std.proofs.Common.{◌≡◌, ◌≤◌, Some, [], ◌∷◌, length, get_or, refl, sym, ap, ◌∙◌, arith, length-append}
+use Rattle.std.proofs.Common.{◌≡◌, Some, [], ◌∷◌, length, refl, sym, ap, ◌∙◌, arith, length-append}
 use Rattle.std.proofs.lemmas.Bool.{false≢true}
 use Rattle.std.proofs.Math.ListN.{length-set}
 use Rattle.std.specs.FinMap.{insert, len}
 use Rattle.cat_key.specs.declared.Pair.{Pair}
 use Rattle.cat_history.specs.Maps.{at}
-use Rattle.cat_history.proofs.NameLemmas.{some≢none}
 use Rattle.cat_history.proofs.PairLemmas.{at-lacking}
-use Rattle.shapes.proofs.PlainMapLemmas.{pushed, at-position, len-map_of, map_of-written, differ-written, map_of-pushed, differ-pushed}
+use Rattle.shapes.proofs.PlainMapLemmas.{pushed, at-position, at-there, few-names, len-map_of, map_of-written, differ-written, map_of-pushed, differ-pushed}
 use Rattle.shapes.proofs.OneMember.{one_full, one_stays}
 use Rattle.shapes.proofs.Shapes.{one_node_is_room}
 use Rattle.shapes.proofs.plain.PlainMapNameMap.put.Goals as goal
@@ -46,29 +45,21 @@ pub returns-in-Some-clause-full : goal.returns-in-Some-clause-full
 returns-in-Some-clause-full c =
     let within = rw c.deref.ensures.value at c.in-Some.ensures.within in
     let named = rw c.deref.ensures.value at c.in-Some.ensures.named in
-    let pair : Pair = get_or c.self.inside.pairs.items c.in-Some.position c.index_mut.result.now in
-    let has : at c.args.self.now.contents c.args.name.now ≡ Some pair.value =
-    ap (λ m. at m.contents c.args.name.now) (sym c.self.view_is)
-    ∙ at-position c.self.inside.pairs.items c.in-Some.position c.args.name.now c.index_mut.result.now c.self.invariant.differ within named in
-    (λ e. absurd (false≢true e), λ full. absurd (some≢none pair.value (sym has ∙ full.lacks)))
+    let there = at-there c.self.inside.pairs.items c.in-Some.position c.args.name.now c.index_mut.result.now c.self.invariant.differ within named in
+    (λ e. absurd (false≢true e), λ full. absurd (there (ap (λ m. at m.contents c.args.name.now) c.self.view_is ∙ full.lacks)))
 
 pub returns-in-Some-clause-splits : goal.returns-in-Some-clause-splits
 returns-in-Some-clause-splits c =
     let within = rw c.deref.ensures.value at c.in-Some.ensures.within in
     let named = rw c.deref.ensures.value at c.in-Some.ensures.named in
-    let pair : Pair = get_or c.self.inside.pairs.items c.in-Some.position c.index_mut.result.now in
-    let has : at c.args.self.now.contents c.args.name.now ≡ Some pair.value =
-    ap (λ m. at m.contents c.args.name.now) (sym c.self.view_is)
-    ∙ at-position c.self.inside.pairs.items c.in-Some.position c.args.name.now c.index_mut.result.now c.self.invariant.differ within named in
-    sym (one_stays c.args.self.now.room c.args.self.now.contents c.args.name.now (λ full. some≢none pair.value (sym has ∙ full.lacks)))
+    let there = at-there c.self.inside.pairs.items c.in-Some.position c.args.name.now c.index_mut.result.now c.self.invariant.differ within named in
+    sym (one_stays c.args.self.now.room c.args.self.now.contents c.args.name.now (λ full. there (ap (λ m. at m.contents c.args.name.now) c.self.view_is ∙ full.lacks)))
 
 pub returns-then-len-self-clause-full : goal.returns-then-len-self-clause-full
 returns-then-len-self-clause-full c =
     let lacks = rw c.deref.ensures.value at c.in_default.ensures.none in
     let pairs = c.self.inside.pairs in
-    let was = c.self.invariant in
-    let few : len c.args.self.now.contents ≤ c.args.self.now.room =
-    omega (arith, pairs.ok.0, was.fits, len-map_of pairs.items was.differ, ap (λ m. len m.contents) c.self.view_is, ap (λ m. m.room) c.self.view_is) in
+    let few = few-names pairs.items _ _ _ _ c.self.invariant (ap (λ m. m.contents) c.self.view_is) (ap (λ m. m.room) c.self.view_is) in
     one_full c.args.self.now.room c.args.self.now.contents c.args.name.now few (
       λ _. (
         ap (λ m. at m.contents c.args.name.now) (sym c.self.view_is) ∙ at-lacking pairs.items c.args.name.now lacks,
@@ -103,9 +94,7 @@ returns-clause-ok c =
 pub returns-clause-full : goal.returns-clause-full
 returns-clause-full c =
     let pairs = c.self.inside.pairs in
-    let was = c.self.invariant in
-    let few : len c.args.self.now.contents ≤ c.args.self.now.room =
-    omega (arith, pairs.ok.0, was.fits, len-map_of pairs.items was.differ, ap (λ m. len m.contents) c.self.view_is, ap (λ m. m.room) c.self.view_is) in
+    let few = few-names pairs.items _ _ _ _ c.self.invariant (ap (λ m. m.contents) c.self.view_is) (ap (λ m. m.room) c.self.view_is) in
     one_full c.args.self.now.room c.args.self.now.contents c.args.name.now few (
       λ e. absurd (false≢true e),
       λ full. absurd (omega (arith, full.1, c.if-len-self.false, pairs.ok.0, c.len.ensures, len-map_of pairs.items c.self.invariant.differ, ap (λ m. len m.contents) c.self.view_is, ap (λ m. m.room) c.self.view_is)),
@@ -114,9 +103,7 @@ returns-clause-full c =
 pub returns-clause-splits : goal.returns-clause-splits
 returns-clause-splits c =
     let pairs = c.self.inside.pairs in
-    let was = c.self.invariant in
-    let few : len c.args.self.now.contents ≤ c.args.self.now.room =
-    omega (arith, pairs.ok.0, was.fits, len-map_of pairs.items was.differ, ap (λ m. len m.contents) c.self.view_is, ap (λ m. m.room) c.self.view_is) in
+    let few = few-names pairs.items _ _ _ _ c.self.invariant (ap (λ m. m.contents) c.self.view_is) (ap (λ m. m.room) c.self.view_is) in
     let is = one_node_is_room c.args.self.now.room c.args.self.now.contents c.args.name.now few in
     sym (one_stays c.args.self.now.room c.args.self.now.contents c.args.name.now
-    (λ full. let none = is.0 full in omega (arith, none.1, c.if-len-self.false, pairs.ok.0, c.len.ensures, len-map_of pairs.items was.differ, ap (λ m. len m.contents) c.self.view_is, ap (λ m. m.room) c.self.view_is)))
+    (λ full. let none = is.0 full in omega (arith, none.1, c.if-len-self.false, pairs.ok.0, c.len.ensures, len-map_of pairs.items c.self.invariant.differ, ap (λ m. len m.contents) c.self.view_is, ap (λ m. m.room) c.self.view_is)))
