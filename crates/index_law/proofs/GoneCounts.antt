@@ -15,7 +15,7 @@ use Rattle.index_law.specs.Lawful.{Sure}
 use Rattle.call_stages.specs.Prevs.{IsRetire}
 use Rattle.index_law.specs.Anchors.{gone_nodes}
 use Rattle.index_law.specs.LoneShapes.{StepCountsGone}
-use Rattle.index_law.proofs.Moves.{fact_after, split_after, merge_after, facts_step}
+use Rattle.index_law.proofs.Moves.{fact_after, split_after, merge_after, each_after, facts_step}
 
 -- ---- of two facts
 
@@ -96,19 +96,7 @@ module _ {l : Layout} {g : ℕ} (f : Facts) (caller index since : ℕ) where
   merge_goes (kinds.yields next durable) knows = inl (λ k. refl)
 
   goes : {s : Stage} {a : Action} {x : ℕ} {t : Stage} {r : Option (Once Placed)} → (k : Step l g s a x t r) → Sure l g f caller index since s → Goes l.nodes s t f (fact_after k f caller index)
-  goes (kinds.looks look) knows = inl (λ k. refl)
-  goes (kinds.locks same named live between) knows = inl (λ k. refl)
-  goes (kinds.locks_read same named live between unworn taken small) knows = inl (λ k. refl)
-  goes (kinds.stores has content small clean soils learnt means) knows = inl (λ k. refl)
-  goes (kinds.commits has content small clean durable soiled old about learnt means) knows = inl (λ k. refl)
-  goes (kinds.drains has small unready hand cleans) knows = inl (λ k. refl)
-  goes (kinds.counts durable ready pending unplaced) knows = inl (λ k. refl)
-  goes (kinds.unlocks next pending durable unready answers) knows = inl (λ k. refl)
-  goes (kinds.claims unplaced here same) knows = inl (λ k. refl)
-  goes (kinds.publishes next left fresh) knows = inl (λ k. refl)
-  goes (kinds.leaves next) knows = inl (λ k. refl)
-  goes (kinds.splits k) knows = split_goes k knows
-  goes (kinds.merges k) knows = merge_goes k knows
+  goes {s = s} {t = t} k knows = each_after f caller index k (λ φ. Goes l.nodes s t f φ) (λ φ list status. inl (λ n. ap (λ (u : ℕ → ℕ). u n == gone_status) status)) (λ k. split_goes k knows) (λ k. merge_goes k knows)
 
 pub step_counts_gone : StepCountsGone
 step_counts_gone w i p a x t r lawful there k told =

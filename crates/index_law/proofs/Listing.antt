@@ -9,7 +9,7 @@ use Rattle.pm_words.specs.Offsets.{bitmap_offset, next_offset}
 use Rattle.version_lock.specs.Versions.{IsFree}
 use Rattle.cat_key.specs.Names.{IsName}
 use Rattle.std.specs.List.{AllByRecursion}
-use Rattle.data_node.specs.Lists.{ListNode, IsChain, Rise, key_of}
+use Rattle.data_node.specs.Lists.{ListNode, IsIn, IsChain, Rise, key_of}
 use Rattle.call_stages.specs.declared.once.Once.{Once}
 use Rattle.call_stages.specs.declared.once.Placed.{Placed}
 use Rattle.call_stages.specs.Stages.{Stage}
@@ -19,7 +19,7 @@ use Rattle.index_law.specs.Lawful.{IsList, AreLive, Sure}
 use Rattle.call_stages.specs.Stages.{HoldsNode}
 use Rattle.data_node.proofs.ListLemmas.{chain_same}
 use Rattle.index_law.proofs.Locks.{cut_now, own_of, holds_or, steady_else, given_back, lead}
-use Rattle.index_law.proofs.Moves.{fact_after, split_after, merge_after}
+use Rattle.index_law.proofs.Moves.{fact_after, split_after, merge_after, each_after}
 use Rattle.index_law.proofs.Past.{list_past, listed_was}
 use Rattle.index_law.proofs.Rows.{with_word, SameLinks, links_content, links_else}
 use Rattle.index_law.proofs.Switch.{list_after, listed_after}
@@ -152,19 +152,9 @@ module _ {l : Layout} {g : ℕ} (f : Facts) (caller index since : ℕ) where
   status : {s : Stage} {a : Action} {x : ℕ} {t : Stage} {r : Option (Once Placed)} → (k : Step l g s a x t r) → Sure l g f caller index since s → (m : ℕ)
       → ((fact_after k f caller index).status m ≡ f.status m) ⊎ ((((fact_after k f caller index).status m ≡ live_status) × ((fact_after k f caller index).now m next_offset < l.nodes))
       ⊎ (((fact_after k f caller index).status m ≢ live_status) × (IsListed f m → ⊥) × ((fact_after k f caller index).status m ≤ gone_status)))
-  status (looks look) mine m = inl refl
-  status (locks same named live between) mine m = inl refl
-  status (locks_read same named live between unworn taken small) mine m = inl refl
-  status (stores has content small clean soils learnt means) mine m = inl refl
-  status (commits has content small clean durable soiled old about learnt means) mine m = inl refl
-  status (drains has small unready hand cleans) mine m = inl refl
-  status (counts durable ready pending unplaced) mine m = inl refl
-  status (unlocks next pending durable unready answers) mine m = inl refl
-  status (claims unplaced here same) mine m = inl refl
-  status (publishes next left fresh) mine m = inl refl
-  status (leaves next) mine m = inl refl
-  status (splits k) mine m = ⊎_elim (λ same. inl same) (λ lit. inr (inl lit)) (split_status k mine m)
-  status (merges k) mine m = ⊎_elim (λ same. inl same) (λ gone. inr (inr gone)) (merge_status k mine m)
+  status k mine m = each_after f caller index k
+      (λ φ. (φ.status m ≡ f.status m) ⊎ (((φ.status m ≡ live_status) × (φ.now m next_offset < l.nodes)) ⊎ ((φ.status m ≢ live_status) × (IsListed f m → ⊥) × (φ.status m ≤ gone_status))))
+      (λ φ list status. inl (ap (λ (u : ℕ → ℕ). u m) status)) (λ k. ⊎_elim (λ same. inl same) (λ lit. inr (inl lit)) (split_status k mine m)) (λ k. ⊎_elim (λ same. inl same) (λ gone. inr (inr gone)) (merge_status k mine m))
 
   split_members : {s : Stage} {a : Action} {x : ℕ} {t : Stage} → (k : Split l g s a x t) → IsList l f → Sure l g f caller index since s → (m : ℕ)
       → IsListed (split_after k f) m → IsListed f m ⊎ ((split_after k f).status m ≡ live_status)
@@ -199,19 +189,8 @@ module _ {l : Layout} {g : ℕ} (f : Facts) (caller index since : ℕ) where
   -- a node that is listed then was listed, or is LIVE
   members : {s : Stage} {a : Action} {x : ℕ} {t : Stage} {r : Option (Once Placed)} → (k : Step l g s a x t r) → IsList l f → Sure l g f caller index since s → (m : ℕ)
       → IsListed (fact_after k f caller index) m → IsListed f m ⊎ ((fact_after k f caller index).status m ≡ live_status)
-  members (looks look) list mine m is = inl is
-  members (locks same named live between) list mine m is = inl is
-  members (locks_read same named live between unworn taken small) list mine m is = inl is
-  members (stores has content small clean soils learnt means) list mine m is = inl is
-  members (commits has content small clean durable soiled old about learnt means) list mine m is = inl is
-  members (drains has small unready hand cleans) list mine m is = inl is
-  members (counts durable ready pending unplaced) list mine m is = inl is
-  members (unlocks next pending durable unready answers) list mine m is = inl is
-  members (claims unplaced here same) list mine m is = inl is
-  members (publishes next left fresh) list mine m is = inl is
-  members (leaves next) list mine m is = inl is
-  members (splits k) list mine m is = split_members k list mine m is
-  members (merges k) list mine m is = inl (merge_members k list mine m is)
+  members k list mine m = each_after f caller index k (λ φ. IsListed φ m → IsListed f m ⊎ (φ.status m ≡ live_status))
+      (λ φ listed status is. inl (subst (λ (ns : List ListNode). IsIn ns m) listed is)) (λ k. split_members k list mine m) (λ k is. inl (merge_members k list mine m is))
 
   -- the statuses go with the list
   pub step_live : {s : Stage} {a : Action} {x : ℕ} {t : Stage} {r : Option (Once Placed)} → (k : Step l g s a x t r) → IsList l f → Sure l g f caller index since s

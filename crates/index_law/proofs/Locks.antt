@@ -118,6 +118,10 @@ pub cut_now : (l : Layout) (g : ℕ) (f : Facts) (left fresh : Grip) → SureSpl
 cut_now l g f left fresh mine cut =
     cut (range_of l f left.node) (f.now left.node) (f.now fresh.node) (map_now f) mine.full.seen mine.new.seen mine.at.settled.means mine.at.settled.stays
 
+-- a version word that was read free and unworn is so still
+word_was : (g : ℕ) (f : Facts) (v m : ℕ) → f.version m ≡ v → IsFree v g → (IsWorn v g → ⊥) → IsFree (f.version m) g × (IsWorn (f.version m) g → ⊥)
+word_was g f v m is free unworn = (subst (λ (u : ℕ). IsFree u g) (sym is) free, λ worn. unworn (subst (λ (u : ℕ). IsWorn u g) is worn))
+
 -- What holds of a node that a step gives back: it is listed and means the map, or it is neither listed nor LIVE.
 pub record IsGivenBack (l : Layout) (g : ℕ) (f : Facts) (m : ℕ) : Type 0 where
   pub free : IsFree (f.version m) g
@@ -451,9 +455,7 @@ module _ {l : Layout} {g : ℕ} (f : Facts) (caller index since : ℕ) where
   merge_before : {s : Stage} {a : Action} {x : ℕ} {t : Stage} → (k : Merge l g s a x t) → MergeGave k f → Sure l g f caller index since s → (m : ℕ) → HoldsNode t m
       → HoldsNode s m ⊎ (IsFree (f.version m) g × (IsWorn (f.version m) g → ⊥))
   merge_before (meets here same untimed leads) e mine m (inl lock) = inl lock
-  merge_before (meets here same untimed leads) e mine m (inr lock) =
-      let is = sym (ap f.version (sym lock) ∙ sym e ∙ same) in
-      inr (subst (λ (v : ℕ). IsFree v g) is mine.1.word.free, λ worn. mine.1.word.unworn (subst (λ (v : ℕ). IsWorn v g) (sym is) worn))
+  merge_before (meets {v = v} here same untimed leads) e mine m (inr lock) = inr (word_was g f v m (ap f.version (sym lock) ∙ sym e ∙ same) mine.1.word.free mine.1.word.unworn)
   merge_before (knows_own has positive learnt) e mine m lock = inl lock
   merge_before (knows_right has positive told) e mine m lock = inl lock
   merge_before (copies has content small soils learnt means) e mine m lock = inl lock
@@ -467,41 +469,27 @@ module _ {l : Layout} {g : ℕ} (f : Facts) (caller index since : ℕ) where
   merge_before (retires durable) e mine m lock = inl lock
   merge_before (yields next durable) e mine m lock = inl (inl lock)
 
-  -- who holds a node afterwards held it, or found it free
+  -- who holds a node afterwards held it, or found it free and unworn
+  found_free : {s : Stage} {a : Action} {x : ℕ} {t : Stage} {r : Option (Once Placed)} → (k : Step l g s a x t r) → Gives k f → Sure l g f caller index since s
+      → (m : ℕ) → HoldsNode t m → HoldsNode s m ⊎ (IsFree (f.version m) g × (IsWorn (f.version m) g → ⊥))
+  found_free (looks look) e mine m lock = inl ((look_holds look m).1 lock)
+  found_free (locks {v = v} same named live between) e mine m lock = inr (word_was g f v m (ap f.version (sym lock) ∙ sym e ∙ same) mine.word.free mine.word.unworn)
+  found_free (locks_read {v = v} same named live between unworn taken small) e mine m lock = inr (word_was g f v m (ap f.version (sym lock) ∙ sym e ∙ same) mine.free unworn)
+  found_free (stores has content small clean soils learnt means) e mine m lock = inl lock
+  found_free (commits has content small clean durable soiled old about learnt means) e mine m lock = inl lock
+  found_free (drains has small unready hand cleans) e mine m lock = inl lock
+  found_free (counts durable ready pending unplaced) e mine m lock = inl lock
+  found_free (unlocks next pending durable unready answers) e mine m lock = absurd lock
+  found_free (claims unplaced here same) e mine m (inl lock) = inl lock
+  found_free (claims {v = v} unplaced here same) e mine m (inr lock) = inr (word_was g f v m (ap f.version (sym lock) ∙ sym e ∙ same) mine.1.word.free mine.1.word.unworn)
+  found_free (publishes next left fresh) e mine m lock = inl (inl lock)
+  found_free (leaves next) e mine m lock = absurd lock
+  found_free (splits k) e mine m lock = inl ((split_holds k m).1 lock)
+  found_free (merges k) e mine m lock = merge_before k e mine m lock
+
   pub lock_before : {s : Stage} {a : Action} {x : ℕ} {t : Stage} {r : Option (Once Placed)} → (k : Step l g s a x t r) → Gives k f → Sure l g f caller index since s
       → (m : ℕ) → HoldsNode t m → HoldsNode s m ⊎ IsFree (f.version m) g
-  lock_before (looks look) e mine m lock = inl ((look_holds look m).1 lock)
-  lock_before (locks {n = n} same named live between) e mine m lock = inr (subst (λ (v : ℕ). IsFree v g) (sym (ap f.version (sym lock) ∙ sym e ∙ same)) mine.word.free)
-  lock_before (locks_read {n = n} same named live between unworn taken small) e mine m lock = inr (subst (λ (v : ℕ). IsFree v g) (sym (ap f.version (sym lock) ∙ sym e ∙ same)) mine.free)
-  lock_before (stores has content small clean soils learnt means) e mine m lock = inl lock
-  lock_before (commits has content small clean durable soiled old about learnt means) e mine m lock = inl lock
-  lock_before (drains has small unready hand cleans) e mine m lock = inl lock
-  lock_before (counts durable ready pending unplaced) e mine m lock = inl lock
-  lock_before (unlocks next pending durable unready answers) e mine m lock = absurd lock
-  lock_before (claims unplaced here same) e mine m (inl lock) = inl lock
-  lock_before (claims unplaced here same) e mine m (inr lock) = inr (subst (λ (v : ℕ). IsFree v g) (sym (ap f.version (sym lock) ∙ sym e ∙ same)) mine.1.word.free)
-  lock_before (publishes next left fresh) e mine m lock = inl (inl lock)
-  lock_before (leaves next) e mine m lock = absurd lock
-  lock_before (splits k) e mine m lock = inl ((split_holds k m).1 lock)
-  lock_before (merges k) e mine m lock = ⊎_elim (λ was. inl was) (λ found. inr found.0) (merge_before k e mine m lock)
-
-  -- who holds a node afterwards held it, or found it unworn
-  taken_unworn : {s : Stage} {a : Action} {x : ℕ} {t : Stage} {r : Option (Once Placed)} → (k : Step l g s a x t r) → Gives k f → Sure l g f caller index since s
-      → (m : ℕ) → HoldsNode t m → HoldsNode s m ⊎ (IsWorn (f.version m) g → ⊥)
-  taken_unworn (looks look) e mine m lock = inl ((look_holds look m).1 lock)
-  taken_unworn (locks {n = n} same named live between) e mine m lock = inr (λ worn. mine.word.unworn (subst (λ (v : ℕ). IsWorn v g) (ap f.version (sym lock) ∙ sym e ∙ same) worn))
-  taken_unworn (locks_read {n = n} same named live between unworn taken small) e mine m lock = inr (λ worn. unworn (subst (λ (v : ℕ). IsWorn v g) (ap f.version (sym lock) ∙ sym e ∙ same) worn))
-  taken_unworn (stores has content small clean soils learnt means) e mine m lock = inl lock
-  taken_unworn (commits has content small clean durable soiled old about learnt means) e mine m lock = inl lock
-  taken_unworn (drains has small unready hand cleans) e mine m lock = inl lock
-  taken_unworn (counts durable ready pending unplaced) e mine m lock = inl lock
-  taken_unworn (unlocks next pending durable unready answers) e mine m lock = absurd lock
-  taken_unworn (claims unplaced here same) e mine m (inl lock) = inl lock
-  taken_unworn (claims unplaced here same) e mine m (inr lock) = inr (λ worn. mine.1.word.unworn (subst (λ (v : ℕ). IsWorn v g) (ap f.version (sym lock) ∙ sym e ∙ same) worn))
-  taken_unworn (publishes next left fresh) e mine m lock = inl (inl lock)
-  taken_unworn (leaves next) e mine m lock = absurd lock
-  taken_unworn (splits k) e mine m lock = inl ((split_holds k m).1 lock)
-  taken_unworn (merges k) e mine m lock = ⊎_elim (λ was. inl was) (λ found. inr found.1) (merge_before k e mine m lock)
+  lock_before k e mine m lock = ⊎_elim (λ was. inl was) (λ found. inr found.0) (found_free k e mine m lock)
 
   -- the nodes that the other parties hold are steady
   pub steadies : {s : Stage} {a : Action} {x : ℕ} {t : Stage} {r : Option (Once Placed)} → (k : Step l g s a x t r) → Gives k f → IsList l f → Sure l g f caller index since s
@@ -523,7 +511,7 @@ module _ {l : Layout} {g : ℕ} (f : Facts) (caller index since : ℕ) where
     leads = λ m was. lead k list mine m was;
     worn = λ m here free worn.
         let never : HoldsNode s m → ⊥ = λ was. unfree (f.version m) g (own_of l g f caller index since s m was mine) free in
-        (steady_else k list mine m never (λ lock. ⊎_elim never (λ unworn. unworn worn) (taken_unworn k e mine m lock))).version;
+        (steady_else k list mine m never (λ lock. ⊎_elim never (λ found. found.1 worn) (found_free k e mine m lock))).version;
   }
 
   -- the other parties go on as they were

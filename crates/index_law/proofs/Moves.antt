@@ -111,6 +111,24 @@ module _ {l : Layout} {g : ℕ} where
   fact_after (splits k) f caller index = split_after k f
   fact_after (merges k) f caller index = merge_after k f
 
+  -- what holds of all facts whose list and statuses are those of before, and after each step that splits or merges
+  -- nodes, holds after each step
+  pub each_after : (f : Facts) (caller index : ℕ) {s : Stage} {a : Action} {x : ℕ} {t : Stage} {r : Option (Once Placed)} (k : Step l g s a x t r) (P : Facts → Type 0)
+      → ((φ : Facts) → φ.list ≡ f.list → φ.status ≡ f.status → P φ) → ((k : Split l g s a x t) → P (split_after k f)) → ((k : Merge l g s a x t) → P (merge_after k f)) → P (fact_after k f caller index)
+  each_after f caller index (looks look) P same split merge = same f refl refl
+  each_after f caller index (locks {n = n} {w = w} named_is named live between) P same split merge = same (with_version f n w) refl refl
+  each_after f caller index (locks_read {n = n} {w = w} named_is named live between unworn taken small) P same split merge = same (with_version f n w) refl refl
+  each_after f caller index (stores {n = n} {y = y} {offset = offset} has content small clean soils knows means) P same split merge = same (with_word f n offset y) refl refl
+  each_after f caller index (commits {n = n} {y = y} {offset = offset} has content small clean durable soiled old about knows means) P same split merge = same (with_word f n offset y) refl refl
+  each_after f caller index (drains has small unready hand cleans) P same split merge = same f refl refl
+  each_after f caller index (counts {c = c} durable ready pending unplaced) P same split merge = same (with_writes f ((record { caller = caller; index = index; change = c }) ∷ [])) refl refl
+  each_after f caller index (unlocks {n = n} {f = freed} next pending durable unready answers) P same split merge = same (with_version f n freed) refl refl
+  each_after f caller index (claims {m = m} {u = u} unplaced here is) P same split merge = same (with_version f m u) refl refl
+  each_after f caller index (publishes {freed = freed} {fresh = fresh} next left fresh') P same split merge = same (with_version f fresh.node freed) refl refl
+  each_after f caller index (leaves {freed = freed} {left = left} next) P same split merge = same (with_version f left.node freed) refl refl
+  each_after f caller index (splits k) P same split merge = split k
+  each_after f caller index (merges k) P same split merge = merge k
+
   -- the number that a step of a reader gives
   abbrev pub ReadGave : {s : Stage} {a : Action} {x : ℕ} {t : Stage} {r : Option (Once Placed)} → Read l g s a x t r → Facts → Type 0
   ReadGave (views {n = n} {x = x} loose here free) f = x ≡ f.version n

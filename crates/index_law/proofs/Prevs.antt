@@ -23,7 +23,7 @@ use Rattle.data_node.specs.Lists.{ListNode, anchor_in, IsMember, IsIn, IsChain, 
 use Rattle.call_stages.specs.declared.once.Once.{Once}
 use Rattle.call_stages.specs.declared.once.Placed.{Placed}
 use Rattle.call_stages.specs.Stages.{Gone, Stage, Idle, Saw, Wears, Reads, Holds, Eyes, Splits, Leaves, Meets, Joins}
-use Rattle.call_stages.specs.Kinds.{Step, clock_address, word_address, status_address, prev_address}
+use Rattle.call_stages.specs.Kinds.{Step, Split, Merge, clock_address, word_address, status_address, prev_address}
 use Rattle.call_stages.specs.Kinds as kinds
 use Rattle.index_law.specs.Facts.{Facts, IsListed}
 use Rattle.index_law.specs.Worlds.{Party, World, facts, moved_on, started, stepped, evicted_world}
@@ -39,7 +39,7 @@ use Rattle.index_law.proofs.Law.{step_law}
 use Rattle.data_node.proofs.ListLemmas.{not_behind, rise_at}
 use Rattle.pm_words.specs.Offsets.{version_offset, next_offset, status_offset, prev_offset}
 use Rattle.index_law.proofs.Locks.{steady_else, steadies}
-use Rattle.index_law.proofs.Moves.{fact_after, facts_step, gives}
+use Rattle.index_law.proofs.Moves.{fact_after, split_after, merge_after, each_after, facts_step, gives}
 use Rattle.index_law.proofs.Noting.{beside_law}
 use Rattle.index_law.proofs.Own.{allow_law, sure_within, mine}
 use Rattle.index_law.proofs.Parties.{at_set, set_here, set_else}
@@ -240,48 +240,42 @@ abbrev Goes : Stage → Stage → Facts → Facts → Type 0
 Goes s t f f' = ((n : ℕ) → IsGone f' n → IsGone f n) ⊎ Retires s t f f'
 
 module _ {l : Layout} {g : ℕ} (f : Facts) (caller index : ℕ) where
-  goes : {s : Stage} {a : Action} {x : ℕ} {t : Stage} {r : Option (Once Placed)} → (k : Step l g s a x t r) → Goes s t f (fact_after k f caller index)
-  goes (kinds.looks look) = inl (λ n is. is)
-  goes (kinds.locks same named live between) = inl (λ n is. is)
-  goes (kinds.locks_read same named live between unworn taken small) = inl (λ n is. is)
-  goes (kinds.stores has content small clean soils learnt means) = inl (λ n is. is)
-  goes (kinds.commits has content small clean durable soiled old about learnt means) = inl (λ n is. is)
-  goes (kinds.drains has small unready hand cleans) = inl (λ n is. is)
-  goes (kinds.counts durable ready pending unplaced) = inl (λ n is. is)
-  goes (kinds.unlocks next pending durable unready answers) = inl (λ n is. is)
-  goes (kinds.claims unplaced here same) = inl (λ n is. is)
-  goes (kinds.publishes next left fresh) = inl (λ n is. is)
-  goes (kinds.leaves next) = inl (λ n is. is)
-  goes (kinds.splits (kinds.fills has positive small within soils told)) = inl (λ n is. is)
-  goes (kinds.splits (kinds.lights {fresh = fresh} here leads)) = inl (λ n is. ⊎_elim
+  split_goes : {s : Stage} {a : Action} {x : ℕ} {t : Stage} → (k : Split l g s a x t) → Goes s t f (split_after k f)
+  split_goes (kinds.fills has positive small within soils told) = inl (λ n is. is)
+  split_goes (kinds.lights {fresh = fresh} here leads) = inl (λ n is. ⊎_elim
       (λ (e : n ≡ fresh.node). absurd (let no : 1 ≡ 2 = sym (ap (λ (b : Bool). cond b live_status (f.status n)) (eq-eqb n fresh.node e)) ∙ is in omega arith))
       (λ (other : n ≢ fresh.node). sym (ap (λ (b : Bool). cond b live_status (f.status n)) (ne_eqb n fresh.node other)) ∙ is)
       (cases_eq n fresh.node))
-  goes (kinds.splits (kinds.switches here small durable soiled cut told means)) = inl (λ n is. is)
-  goes (kinds.splits (kinds.glances_left has learnt)) = inl (λ n is. is)
-  goes (kinds.splits (kinds.glances_fresh has)) = inl (λ n is. is)
-  goes (kinds.splits (kinds.drains_left has small hand cleans)) = inl (λ n is. is)
-  goes (kinds.splits (kinds.drains_fresh has small hand cleans)) = inl (λ n is. is)
-  goes (kinds.splits (kinds.trims here small durable soiled anchor told means)) = inl (λ n is. is)
-  goes (kinds.merges (kinds.meets here same untimed leads)) = inl (λ n is. is)
-  goes (kinds.merges (kinds.knows_own has positive learnt)) = inl (λ n is. is)
-  goes (kinds.merges (kinds.knows_right has positive told)) = inl (λ n is. is)
-  goes (kinds.merges (kinds.copies has content small soils learnt means)) = inl (λ n is. is)
-  goes (kinds.merges (kinds.takes_up has)) = inl (λ n is. is)
-  goes (kinds.merges (kinds.puts_down has small hand cleans)) = inl (λ n is. is)
-  goes (kinds.merges (kinds.parts next)) = inl (λ n is. is)
-  goes (kinds.merges (kinds.gathers small durable soiled told gathered)) = inl (λ n is. is)
-  goes (kinds.merges (kinds.joins small durable soiled next told)) = inl (λ n is. is)
-  goes (kinds.merges (kinds.glances_joined has learnt)) = inl (λ n is. is)
-  goes (kinds.merges (kinds.drains_joined has small hand cleans)) = inl (λ n is. is)
-  goes (kinds.merges (kinds.retires {h = h} {left = left} {right = right} durable)) = inr (record {
+  split_goes (kinds.switches here small durable soiled cut told means) = inl (λ n is. is)
+  split_goes (kinds.glances_left has learnt) = inl (λ n is. is)
+  split_goes (kinds.glances_fresh has) = inl (λ n is. is)
+  split_goes (kinds.drains_left has small hand cleans) = inl (λ n is. is)
+  split_goes (kinds.drains_fresh has small hand cleans) = inl (λ n is. is)
+  split_goes (kinds.trims here small durable soiled anchor told means) = inl (λ n is. is)
+
+  merge_goes : {s : Stage} {a : Action} {x : ℕ} {t : Stage} → (k : Merge l g s a x t) → Goes s t f (merge_after k f)
+  merge_goes (kinds.meets here same untimed leads) = inl (λ n is. is)
+  merge_goes (kinds.knows_own has positive learnt) = inl (λ n is. is)
+  merge_goes (kinds.knows_right has positive told) = inl (λ n is. is)
+  merge_goes (kinds.copies has content small soils learnt means) = inl (λ n is. is)
+  merge_goes (kinds.takes_up has) = inl (λ n is. is)
+  merge_goes (kinds.puts_down has small hand cleans) = inl (λ n is. is)
+  merge_goes (kinds.parts next) = inl (λ n is. is)
+  merge_goes (kinds.gathers small durable soiled told gathered) = inl (λ n is. is)
+  merge_goes (kinds.joins small durable soiled next told) = inl (λ n is. is)
+  merge_goes (kinds.glances_joined has learnt) = inl (λ n is. is)
+  merge_goes (kinds.drains_joined has small hand cleans) = inl (λ n is. is)
+  merge_goes (kinds.retires {h = h} {left = left} {right = right} durable) = inr (record {
     retire = record { held = h; left = left; right = right; was = refl; is = refl };
     others = λ n is. ⊎_elim
         (λ (e : n ≡ right.node). inr e)
         (λ (other : n ≢ right.node). inl (sym (ap (λ (b : Bool). cond b gone_status (f.status n)) (ne_eqb n right.node other)) ∙ is))
         (cases_eq n right.node);
   })
-  goes (kinds.merges (kinds.yields next durable)) = inl (λ n is. is)
+  merge_goes (kinds.yields next durable) = inl (λ n is. is)
+
+  goes : {s : Stage} {a : Action} {x : ℕ} {t : Stage} {r : Option (Once Placed)} → (k : Step l g s a x t r) → Goes s t f (fact_after k f caller index)
+  goes {s = s} {t = t} k = each_after f caller index k (λ φ. Goes s t f φ) (λ φ list status. inl (λ n is. ap (λ (u : ℕ → ℕ). u n) (sym status) ∙ is)) (λ k. split_goes k) (λ k. merge_goes k)
 
 -- what the stage knows of where a node leads is so
 pub leads_now : (l : Layout) (g : ℕ) (f : Facts) (caller index since : ℕ) (s : Stage) (n y : ℕ) → Sure l g f caller index since s → Leads s n y → f.now n next_offset ≡ y

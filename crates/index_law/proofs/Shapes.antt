@@ -9,7 +9,7 @@ use Rattle.data_node.specs.Weights.{names_in}
 use Rattle.call_stages.specs.declared.once.Once.{Once}
 use Rattle.call_stages.specs.declared.once.Placed.{Placed}
 use Rattle.call_stages.specs.Stages.{Stage}
-use Rattle.call_stages.specs.Kinds.{below_key, IsCut, Split, fills, lights, switches, glances_left, glances_fresh, drains_left, drains_fresh, trims, Merge, meets, knows_own, knows_right, copies, takes_up, puts_down, parts, gathers, joins, glances_joined, drains_joined, retires, yields, merges, from_key, Step, looks, locks, locks_read, stores, commits, drains, counts, unlocks, splits, claims, publishes, leaves}
+use Rattle.call_stages.specs.Kinds.{below_key, IsCut, Split, fills, lights, switches, glances_left, glances_fresh, drains_left, drains_fresh, trims, Merge, meets, knows_own, knows_right, copies, takes_up, puts_down, parts, gathers, joins, glances_joined, drains_joined, retires, yields, from_key, Step}
 use Rattle.index_law.specs.Facts.{Facts, map_now, range_of}
 use Rattle.index_law.specs.Lawful.{IsList, SureJoins, SureSplits, Sure}
 use Rattle.index_law.proofs.Past.{range_right}
@@ -23,7 +23,7 @@ use Rattle.call_stages.specs.Prevs.{IsSwitch, IsJoin}
 use Rattle.index_law.specs.Worlds.{facts}
 use Rattle.index_law.proofs.Locks.{cut_now}
 use Rattle.index_law.proofs.Rows.{with_next}
-use Rattle.index_law.proofs.Moves.{fact_after, split_after, merge_after, facts_step}
+use Rattle.index_law.proofs.Moves.{fact_after, split_after, merge_after, each_after, facts_step}
 
 or_true : (b : Bool) → (b || true) ≡ true
 or_true true = refl
@@ -118,19 +118,9 @@ module _ {l : Layout} {g : ℕ} (f : Facts) (caller index since : ℕ) where
   shapes : {s : Stage} {a : Action} {x : ℕ} {t : Stage} {r : Option (Once Placed)} → (k : Step l g s a x t r) → IsList l f → Sure l g f caller index since s
       → ((fact_after k f caller index).list ≡ f.list) ⊎ (((switch : IsSwitch s t) × (halved : IsHalved l f (fact_after k f caller index).list) × (halved.node ≡ switch.left.node))
       ⊎ ((join : IsJoin s t) × (merged : IsMerged l f (fact_after k f caller index).list) × (merged.node ≡ join.left.node)))
-  shapes (looks look) list knows = inl refl
-  shapes (locks same named live between) list knows = inl refl
-  shapes (locks_read same named live between unworn taken small) list knows = inl refl
-  shapes (stores has content small clean soils learnt means) list knows = inl refl
-  shapes (commits has content small clean durable soiled old about learnt means) list knows = inl refl
-  shapes (drains has small unready hand cleans) list knows = inl refl
-  shapes (counts durable ready pending unplaced) list knows = inl refl
-  shapes (unlocks next pending durable unready answers) list knows = inl refl
-  shapes (claims unplaced here same) list knows = inl refl
-  shapes (publishes next left fresh) list knows = inl refl
-  shapes (leaves next) list knows = inl refl
-  shapes (splits k) list knows = ⊎_elim (λ same. inl same) (λ cut. inr (inl cut)) (split_shapes k knows)
-  shapes (merges k) list knows = ⊎_elim (λ same. inl same) (λ one. inr (inr one)) (merge_shapes k list knows)
+  shapes {s = s} {t = t} k list knows = each_after f caller index k
+      (λ φ. (φ.list ≡ f.list) ⊎ (((switch : IsSwitch s t) × (halved : IsHalved l f φ.list) × (halved.node ≡ switch.left.node)) ⊎ ((join : IsJoin s t) × (merged : IsMerged l f φ.list) × (merged.node ≡ join.left.node))))
+      (λ φ list status. inl list) (λ k. ⊎_elim (λ same. inl same) (λ cut. inr (inl cut)) (split_shapes k knows)) (λ k. ⊎_elim (λ same. inl same) (λ one. inr (inr one)) (merge_shapes k list knows))
 
 pub step_shapes : StepShapes
 step_shapes w i p a x t r lawful there k told =

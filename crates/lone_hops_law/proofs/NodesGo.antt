@@ -38,7 +38,7 @@ use Rattle.index_law.proofs.Footings.{permutation_leaves}
 use Rattle.index_law.proofs.Law.{step_law}
 use Rattle.index_law.proofs.Listing.{merge_gone}
 use Rattle.index_law.proofs.Loose.{each_loose, out_unmerged}
-use Rattle.index_law.proofs.Moves.{fact_after, split_after, merge_after, facts_step}
+use Rattle.index_law.proofs.Moves.{fact_after, each_after, split_after, merge_after, facts_step}
 use Rattle.index_law.proofs.Own.{allow_law, sure_within}
 use Rattle.index_law.proofs.Parties.{set_here}
 use Rattle.index_law.proofs.Prevs.{store_prev, nodes_leave_prevs, leads_now, chain_next, prev_here, prev_else}
@@ -76,19 +76,7 @@ module _ {l : Layout} {g : ℕ} (f : Facts) (caller index since : ℕ) where
 
   -- a GONE node stays GONE
   gone_stays : {s : Stage} {a : Action} {x : ℕ} {t : Stage} {r : Option (Once Placed)} → (k : Step l g s a x t r) → Sure l g f caller index since s → (n : ℕ) → IsGone f n → IsGone (fact_after k f caller index) n
-  gone_stays (kinds.looks look) knows n is = is
-  gone_stays (kinds.locks same named live between) knows n is = is
-  gone_stays (kinds.locks_read same named live between unworn taken small) knows n is = is
-  gone_stays (kinds.stores has content small clean soils learnt means) knows n is = is
-  gone_stays (kinds.commits has content small clean durable soiled old about learnt means) knows n is = is
-  gone_stays (kinds.drains has small unready hand cleans) knows n is = is
-  gone_stays (kinds.counts durable ready pending unplaced) knows n is = is
-  gone_stays (kinds.unlocks next pending durable unready answers) knows n is = is
-  gone_stays (kinds.claims unplaced here same) knows n is = is
-  gone_stays (kinds.publishes next left fresh) knows n is = is
-  gone_stays (kinds.leaves next) knows n is = is
-  gone_stays (kinds.splits k) knows n is = split_stays k knows n is
-  gone_stays (kinds.merges k) knows n is = merge_stays k n is
+  gone_stays k knows n is = each_after f caller index k (λ φ. IsGone φ n) (λ φ list status. ap (λ (u : ℕ → ℕ). u n) status ∙ is) (λ k. split_stays k knows n is) (λ k. merge_stays k n is)
 
 loose_own : (n m : ℕ) (s : Stage) → IsLoose s → IsOwn s n m
 loose_own n m = each_loose (λ s. IsOwn s n m) tt (λ o v w k. tt) (λ o v. tt) (λ o v sight told. tt)
