@@ -16,15 +16,14 @@ use Rattle.node_ops.specs.declared.part.Part.{Part}
 use Rattle.node_ops.specs.declared.part.Part.TheVariants as part
 use Rattle.node_ops.specs.declared.part.PartWords.{PartWords}
 use Rattle.node_ops.specs.declared.part.Reading.{Reading}
-use Rattle.node_ops.specs.declared.part.ReadingAt.{ReadingAt}
 use Rattle.node_ops.specs.declared.part.ReadingAt.TheVariants as reading_at
 use Rattle.node_ops.specs.declared.part.Way.{Way}
 use Rattle.node_ops.specs.declared.part.Way.TheVariants as ways
 use Rattle.node_ops.specs.declared.running.Running.TheVariants.{Parting}
 use Rattle.node_ops.specs.Asked.{name_asked}
 use Rattle.node_ops.specs.Calls.{name_in, call_address}
-use Rattle.node_ops.specs.PartSteps.{IsFreely, IsPart, IsReading, IsWalkingAt, compared_by, order_in, part_asks}
-use Rattle.node_ops.specs.PartSteps.{part_call, part_turned, reading_at_asks, reading_turned}
+use Rattle.node_ops.specs.PartSteps.{IsFreely, IsPart, IsWalkingAt, compared_by, order_in, part_asks}
+use Rattle.node_ops.specs.PartSteps.{part_call, part_turned}
 use Rattle.node_ops.proofs.PartTelling.{ends_reading, done_words}
 use Rattle.lone_call_law.specs.There.{IsAtNode, LookupStands}
 use Rattle.lone_call_law.specs.LoneCalls.{IsMadeNow, WayIsThere, PartIsThere, LonePartsAreServed}
@@ -66,25 +65,17 @@ module _ (l : Layout) (words0 words name : List ℕ) (fresh : made_at l words0 (
   way_free (ways.Held made) call word names named stands = absurd (has_order call named stands.0.0 stands.1)
   way_free ways.Alone call word names named stands = absurd (has_order call named stands.0.0 stands.1)
 
-  reading_ends : (reading : Reading) (at : ReadingAt) (x : ℕ) (answer : PartWords) → IsReading (record reading { at = at }) → name_in reading.call ≡ name → WayIsThere l words0 words reading.call reading.hold.locked reading.way
-      → reading_turned (record reading { at = at }) at x ≡ Done (once.Done answer) → (answer.compared ≡ 0) × (acted l words (reading_at_asks reading.call reading.hold at) ≡ words)
-  reading_ends reading reading_at.Clock x answer sound named stands is = absurd (cc)
-  reading_ends reading reading_at.Bitmap x answer sound named stands is = absurd (cc)
-  reading_ends reading (reading_at.Load slot word) x answer sound named stands is = absurd (cc)
-  reading_ends reading (reading_at.Store store) x answer sound named stands is = absurd (cc)
-  reading_ends reading reading_at.Check x answer sound named stands is =
-      let done = done_words (record reading { at = reading_at.Check }) x answer is in (
-        subst (λ (a : PartWords). a.compared ≡ 0) done.1 (way_free reading.way reading.call reading.hold.locked (length (order_in (record reading { at = reading_at.Check }))) named stands).1,
-        set-get_or words (call_address reading.call version_offset) 0,
-      )
-  reading_ends reading reading_at.Unlock x answer sound named stands is =
-      absurd (subst IsFreely sound.here.made (way_free reading.way reading.call reading.hold.locked 0 named stands).0)
-
   ends : (machine : Part) (x : ℕ) (answer : PartWords) → IsPart machine → name_in (part_call machine) ≡ name → PartIsThere l words0 words machine → part_turned machine x ≡ Done (once.Done answer)
       → (answer.compared ≡ 0) × (acted l words (part_asks machine) ≡ words)
   ends machine x answer sound named stands is =
       ends_reading machine x answer is (λ (q : Part). IsPart q → name_in (part_call q) ≡ name → PartIsThere l words0 words q → (answer.compared ≡ 0) × (acted l words (part_asks q) ≡ words))
-      (λ reading done ok named_so stand. reading_ends reading reading.at x answer ok named_so stand done) sound named stands
+      (λ reading done ok named_so stand.
+      let checked = done_words (record reading { at = reading_at.Check }) x answer done in (
+        subst (λ (a : PartWords). a.compared ≡ 0) checked.1 (way_free reading.way reading.call reading.hold.locked (length (order_in (record reading { at = reading_at.Check }))) named_so stand).1,
+        set-get_or words (call_address reading.call version_offset) 0,
+      ))
+      (λ reading done ok named_so stand. absurd (subst IsFreely ok.here.made (way_free reading.way reading.call reading.hold.locked 0 named_so stand).0))
+      sound named stands
 
 pub lone_parts_are_served : LonePartsAreServed
 lone_parts_are_served w0 i asked limit w p machine o fresh =

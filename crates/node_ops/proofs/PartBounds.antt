@@ -202,28 +202,17 @@ free_ends l g f caller index since reading x list fits sound sure still = by rea
     by ways.Alone is free = reads (subst (λ (w : Way). Sure l g f caller index since (stage_by w reading.call.node reading.hold.locked (behind_sight reading.behind) (reading_whole reading))) is sure)
     by (ways.Served words) is free = reads (subst (λ (w : Way). Sure l g f caller index since (stage_by w reading.call.node reading.hold.locked (behind_sight reading.behind) (reading_whole reading))) is sure)
 
-reading_ends : (l : Layout) (g : ℕ) (f : Facts) (row : List ℕ) (caller index since : ℕ) (reading : Reading) (at : ReadingAt) (x : ℕ) (words : PartWords) → reading.call.view.layout ≡ l → IsReading (record reading { at = at })
-    → IsList l f → HaveWords f → Sure l g f caller index since (part_stage (part.Reading (record reading { at = at }))) → Relies l f row (Parting (part.Reading (record reading { at = at })))
-    → IsToldVersion l f (part.Reading (record reading { at = at })) x → reading_turned (record reading { at = at }) at x ≡ Done (once.Done words)
-    → EndsAt (range_of l f words.node) (name_in reading.call) words.high
-reading_ends l g f row caller index since reading at.Clock x words layout sound list fits sure relies gives is = absurd (cc)
-reading_ends l g f row caller index since reading at.Bitmap x words layout sound list fits sure relies gives is = absurd (cc)
-reading_ends l g f row caller index since reading (at.Load slot word) x words layout sound list fits sure relies gives is = absurd (cc)
-reading_ends l g f row caller index since reading (at.Store store) x words layout sound list fits sure relies gives is = absurd (cc)
-reading_ends l g f row caller index since reading at.Check x words layout sound list fits sure relies gives is =
-    let done = done_words (record reading { at = at.Check }) x words is in
-    let still : f.version reading.call.node ≡ reading.hold.locked = sym (gives (ap (λ (k : Layout). Load (version_address k reading.call.node)) layout)) ∙ done.0 in
-    subst (λ (w : PartWords). EndsAt (range_of l f w.node) (name_in reading.call) w.high) done.1 (free_ends l g f caller index since reading x list fits sound sure still)
-reading_ends l g f row caller index since reading at.Unlock x words layout sound list fits sure relies gives is =
-    let done = given_words (record reading { at = at.Unlock }) x words is in
-    let has = subst (λ (w : Way). HasEnd l f (way_end w reading.call reading.behind)) sound.here.made relies.end in
-    subst (λ (w : PartWords). EndsAt (range_of l f w.node) (name_in reading.call) w.high) done has
-
 pub parts_end : PartsEnd
 parts_end l g f row caller index since p x words sound list fits sure relies gives is =
     ends_reading p x words is (λ (q : Part). (part_call q).view.layout ≡ l → IsPart q → Sure l g f caller index since (part_stage q) → Relies l f row (Parting q) → IsToldVersion l f q x
     → EndsAt (range_of l f words.node) (name_in (part_call q)) words.high)
-    (λ reading done layout ok knows rely told. reading_ends l g f row caller index since reading reading.at x words layout ok list fits knows rely told done)
+    (λ reading done layout ok knows rely told.
+    let checked = done_words (record reading { at = at.Check }) x words done in
+    let still : f.version reading.call.node ≡ reading.hold.locked = sym (told (ap (λ (k : Layout). Load (version_address k reading.call.node)) layout)) ∙ checked.0 in
+    subst (λ (w : PartWords). EndsAt (range_of l f w.node) (name_in reading.call) w.high) checked.1 (free_ends l g f caller index since reading x list fits ok knows still))
+    (λ reading done layout ok knows rely told.
+    let has = subst (λ (w : Way). HasEnd l f (way_end w reading.call reading.behind)) ok.here.made rely.end in
+    subst (λ (w : PartWords). EndsAt (range_of l f w.node) (name_in reading.call) w.high) (given_words (record reading { at = at.Unlock }) x words done) has)
     sound.layout sound.here sure relies gives
 
 way_held : (way : Way) (reading : Reading) → IfSome (way_end way reading.call reading.behind) (λ e. (lock : ℕ) × (h : Held) × (stage_by way reading.call.node reading.hold.locked (behind_sight reading.behind) (reading_at_held reading reading.at) ≡ Holds e.node lock h))

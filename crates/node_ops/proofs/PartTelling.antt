@@ -301,15 +301,6 @@ locking_on call seen count locked x words is = elim (x == seen.version) as (λ b
   | false ↦ λ moved. cc
 ] is
 
--- so it has loaded all live slots
-pub ends_reading : (p : Part) (x : ℕ) (words : PartWords) → part_turned p x ≡ Done (once.Done words) → (P : Part → Type 0)
-    → ((reading : Reading) → reading_turned reading reading.at x ≡ Done (once.Done words) → P (part.Reading reading)) → P p
-ends_reading (part.Looking lookup count) x words is P so = absurd (looked_on count (lookup_turned lookup x) words is)
-ends_reading (part.Ordering call seen count load) x words is P so = absurd (ordering_on call seen count (load_turned load x) words is)
-ends_reading (part.Locking call seen count locked) x words is P so = absurd (locking_on call seen count locked x words is)
-ends_reading (part.Dating call seen count way) x words is P so = absurd (cc)
-ends_reading (part.Reading reading) x words is P so = so reading is
-
 -- the second load gives the version word that its walk saw
 pub done_checked : (reading : Reading) (x : ℕ) (words : PartWords) → part_checked reading x ≡ once.Done words → (x ≡ reading.hold.locked) × (part_words reading ≡ words)
 done_checked reading x words is =
@@ -324,6 +315,25 @@ done_words reading x words is = done_checked reading x words (cc)
 
 pub given_words : (reading : Reading) (x : ℕ) (words : PartWords) → reading_turned reading at.Unlock x ≡ Done (once.Done words) → part_words reading ≡ words
 given_words reading x words is = cc
+
+-- A part that ends has all live slots: without a lock it has loaded the version word again, with one it has given its
+-- node back.
+pub ends_reading : (p : Part) (x : ℕ) (words : PartWords) → part_turned p x ≡ Done (once.Done words) → (P : Part → Type 0)
+    → ((reading : Reading) → reading_turned (record reading { at = at.Check }) at.Check x ≡ Done (once.Done words) → P (part.Reading (record reading { at = at.Check })))
+    → ((reading : Reading) → reading_turned (record reading { at = at.Unlock }) at.Unlock x ≡ Done (once.Done words) → P (part.Reading (record reading { at = at.Unlock }))) → P p
+ends_reading (part.Looking lookup count) x words is P checked given = absurd (looked_on count (lookup_turned lookup x) words is)
+ends_reading (part.Ordering call seen count load) x words is P checked given = absurd (ordering_on call seen count (load_turned load x) words is)
+ends_reading (part.Locking call seen count locked) x words is P checked given = absurd (locking_on call seen count locked x words is)
+ends_reading (part.Dating call seen count way) x words is P checked given = absurd (cc)
+ends_reading (part.Reading reading) x words is P checked given = go reading.at is
+  where
+    go : (k : ReadingAt) → reading_turned (record reading { at = k }) k x ≡ Done (once.Done words) → P (part.Reading (record reading { at = k }))
+    go at.Clock done = absurd (cc)
+    go at.Bitmap done = absurd (cc)
+    go (at.Load slot word) done = absurd (cc)
+    go (at.Store store) done = absurd (cc)
+    go at.Check done = checked reading done
+    go at.Unlock done = given reading done
 
 -- What a part knows that ends, and where it has the order from. It reads the node's words as they are.
 module _ (l : Layout) (g : ℕ) (f : Facts) (row : List ℕ) (caller index since : ℕ) (reading : Reading) (layout : reading.call.view.layout ≡ l) where
@@ -376,51 +386,30 @@ module _ (l : Layout) (g : ℕ) (f : Facts) (row : List ℕ) (caller index since
         order = held_order (record reading { at = at.Unlock }) sound.call.view.layout.slots.1 sound.here.made;
       }
 
-reading_tells : (l : Layout) (g : ℕ) (f : Facts) (row : List ℕ) (caller index since : ℕ) (reading : Reading) (at : ReadingAt) (x : ℕ) (words : PartWords) → reading.call.view.layout ≡ l → IsReading (record reading { at = at })
-    → HasNames (map_now f) → Sure l g f caller index since (part_stage (part.Reading (record reading { at = at }))) → Relies l f row (Parting (part.Reading (record reading { at = at })))
-    → IsToldVersion l f (part.Reading (record reading { at = at })) x
-    → reading_turned (record reading { at = at }) at x ≡ Done (once.Done words) → TellsPart l f reading words
-reading_tells l g f row caller index since reading at.Clock x words layout sound named knows relies gives is = absurd (cc)
-reading_tells l g f row caller index since reading at.Bitmap x words layout sound named knows relies gives is = absurd (cc)
-reading_tells l g f row caller index since reading (at.Load slot word) x words layout sound named knows relies gives is = absurd (cc)
-reading_tells l g f row caller index since reading (at.Store store) x words layout sound named knows relies gives is = absurd (cc)
-reading_tells l g f row caller index since reading at.Check x words layout sound named knows relies gives is =
-    let whole = record reading { at = at.Check } in
-    let done = done_words whole x words is in
-    let still : f.version reading.call.node ≡ reading.hold.locked = sym (gives (ap (λ (k : Layout). Load (version_address k reading.call.node)) layout)) ∙ done.0 in
-    let told = tells_part whole (but whole sound) f named (free_knows l g f row caller index since reading layout x sound knows relies still) in
-    let here : TellsPart reading.call.view.layout f reading (part_words whole) = record { now = told.now; then_was = told.then_was; compared = told.compared; fit = told.fit } in
-    subst (λ (q : Layout × PartWords). TellsPart q.0 f reading q.1) (λ k. (layout k, done.1 k)) here
-reading_tells l g f row caller index since reading at.Unlock x words layout sound named knows relies gives is =
-    let whole = record reading { at = at.Unlock } in
-    let done = given_words whole x words is in
-    let told = tells_part whole (but whole sound) f named (held_knows l g f row caller index since reading layout sound knows) in
-    let here : TellsPart reading.call.view.layout f reading (part_words whole) = record { now = told.now; then_was = told.then_was; compared = told.compared; fit = told.fit } in
-    subst (λ (q : Layout × PartWords). TellsPart q.0 f reading q.1) (λ k. (layout k, done k)) here
+-- what a reading tells is what its part does
+is_told : (l : Layout) (f : Facts) (reading : Reading) (words : PartWords) → reading.call.view.layout ≡ l → TellsPart reading.call.view.layout f reading (part_words reading) → part_words reading ≡ words
+    → IsPartTold l f (part.Reading reading) words
+is_told l f reading words layout told done =
+    let tells : TellsPart l f reading words = subst (λ (q : Layout × PartWords). TellsPart q.0 f reading q.1) (λ k. (layout k, done k)) told in
+    record { now = tells.now; then_was = tells.then_was; compared = tells.compared; fit = tells.fit }
 
 pub part_tells : PartTells
 part_tells l g f row caller index since p x words sound named knows relies gives is =
     ends_reading p x words is (λ (q : Part). (part_call q).view.layout ≡ l → IsPart q → Sure l g f caller index since (part_stage q) → Relies l f row (Parting q) → IsToldVersion l f q x → IsPartTold l f q words)
     (λ reading done layout ok sure rely told.
-    let is_told = reading_tells l g f row caller index since reading reading.at x words layout ok named sure rely told done in
-    record { now = is_told.now; then_was = is_told.then_was; compared = is_told.compared; fit = is_told.fit })
+    let whole = record reading { at = at.Check } in
+    let checked = done_words whole x words done in
+    let still : f.version reading.call.node ≡ reading.hold.locked = sym (told (ap (λ (k : Layout). Load (version_address k reading.call.node)) layout)) ∙ checked.0 in
+    is_told l f whole words layout (tells_part whole (but whole ok) f named (free_knows l g f row caller index since reading layout x ok sure rely still)) checked.1)
+    (λ reading done layout ok sure rely told.
+    let whole = record reading { at = at.Unlock } in
+    is_told l f whole words layout (tells_part whole (but whole ok) f named (held_knows l g f row caller index since reading layout ok sure)) (given_words whole x words done))
     sound.layout sound.here knows relies gives
 
-reading_hears : (reading : Reading) (at : ReadingAt) (x : ℕ) (words : PartWords) → reading_turned (record reading { at = at }) at x ≡ Done (once.Done words) → IsHeard (part.Reading (record reading { at = at })) x words
-reading_hears reading at.Clock x words is = absurd (cc)
-reading_hears reading at.Bitmap x words is = absurd (cc)
-reading_hears reading (at.Load slot word) x words is = absurd (cc)
-reading_hears reading (at.Store store) x words is = absurd (cc)
-reading_hears reading at.Check x words is =
-    let done = done_words (record reading { at = at.Check }) x words is in
-    subst (IsHeard (part.Reading (record reading { at = at.Check })) x) done.1 (record { node = refl; hops = refl; gives = inl (refl, done.0) })
-reading_hears reading at.Unlock x words is =
-    let done = given_words (record reading { at = at.Unlock }) x words is in
-    subst (IsHeard (part.Reading (record reading { at = at.Unlock })) x) done (record {
-      node = refl;
-      hops = refl;
-      gives = inr refl;
-    })
-
 pub parts_hear : PartsHear
-parts_hear p x words is = ends_reading p x words is (λ (q : Part). IsHeard q x words) (λ reading done. reading_hears reading reading.at x words done)
+parts_hear p x words is = ends_reading p x words is (λ (q : Part). IsHeard q x words)
+    (λ reading done.
+    let checked = done_words (record reading { at = at.Check }) x words done in
+    subst (IsHeard (part.Reading (record reading { at = at.Check })) x) checked.1 (record { node = refl; hops = refl; gives = inl (refl, checked.0) }))
+    (λ reading done.
+    subst (IsHeard (part.Reading (record reading { at = at.Unlock })) x) (given_words (record reading { at = at.Unlock }) x words done) (record { node = refl; hops = refl; gives = inr refl }))

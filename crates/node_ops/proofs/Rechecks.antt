@@ -39,7 +39,6 @@ use Rattle.node_ops.specs.declared.part.Part.{Part}
 use Rattle.node_ops.specs.declared.part.Part.TheVariants as part
 use Rattle.node_ops.specs.declared.part.PartWords.{PartWords}
 use Rattle.node_ops.specs.declared.part.Reading.{Reading}
-use Rattle.node_ops.specs.declared.part.ReadingAt.{ReadingAt}
 use Rattle.node_ops.specs.declared.part.ReadingAt.TheVariants as at
 use Rattle.node_ops.specs.declared.recheck.Recheck.TheVariants.{Dating, Checking}
 use Rattle.node_ops.specs.Calls.{IsCall, name_in}
@@ -190,26 +189,16 @@ held_known w i party reading x words lawful there stage sound is so =
       stands = subst (λ (q : PartWords). StandsSince l w.generation (with_version f n freed) (range_of l f q.node) q.node q.version q.place) done stands;
     })
 
-reading_known : (w : World) (i : ℕ) (party : Party) (reading : Reading) (at : ReadingAt) (x : ℕ) (words : PartWords) → Lawful w → HaveWords (facts w) → get_elem? w.parties i ≡ some party
-    → party.stage ≡ part_stage (part.Reading (record reading { at = at })) → Sound w.layout w.generation (Parting (part.Reading (record reading { at = at }))) → x ≡ got w.layout w.words (part_asks (part.Reading (record reading { at = at })))
-    → Relies w.layout (facts w) w.words (Parting (part.Reading (record reading { at = at }))) → reading_turned (record reading { at = at }) at x ≡ Done (once.Done words)
-    → IsKnown w.layout w.generation (facts (stepped w i party (part_asks (part.Reading (record reading { at = at }))) Idle)) (record { low = name_in reading.call; count = reading.count; words = words })
-reading_known w i party reading at.Clock x words lawful fits there stage sound told relies is = absurd (cc)
-reading_known w i party reading at.Bitmap x words lawful fits there stage sound told relies is = absurd (cc)
-reading_known w i party reading (at.Load slot word) x words lawful fits there stage sound told relies is = absurd (cc)
-reading_known w i party reading (at.Store store) x words lawful fits there stage sound told relies is = absurd (cc)
-reading_known w i party reading at.Check x words lawful fits there stage sound told relies is =
-    let so = answered w i party (record reading { at = at.Check }) x words lawful fits there stage sound told relies is in
-    free_known w i party reading x words lawful there stage sound told is (record { ends = so.ends; told = so.told; fit = so.fit })
-reading_known w i party reading at.Unlock x words lawful fits there stage sound told relies is =
-    let so = answered w i party (record reading { at = at.Unlock }) x words lawful fits there stage sound told relies is in
-    held_known w i party reading x words lawful there stage sound is (record { ends = so.ends; told = so.told; fit = so.fit })
-
 pub parts_are_known : PartsAreKnown
 parts_are_known w i party p x words lawful fits there stage sound told relies is =
     ends_reading p x words is (λ (q : Part). party.stage ≡ part_stage q → Sound w.layout w.generation (Parting q) → x ≡ got w.layout w.words (part_asks q) → Relies w.layout (facts w) w.words (Parting q)
     → IsKnown w.layout w.generation (facts (stepped w i party (part_asks q) Idle)) (record { low = name_in (part_call q); count = part_count q; words = words }))
-    (λ reading done at_stage ok loads rely. reading_known w i party reading reading.at x words lawful fits there at_stage ok loads rely done)
+    (λ reading done at_stage ok loads rely.
+    let so = answered w i party (record reading { at = at.Check }) x words lawful fits there at_stage ok loads rely done in
+    free_known w i party reading x words lawful there at_stage ok loads done (record { ends = so.ends; told = so.told; fit = so.fit }))
+    (λ reading done at_stage ok loads rely.
+    let so = answered w i party (record reading { at = at.Unlock }) x words lawful fits there at_stage ok loads rely done in
+    held_known w i party reading x words lawful there at_stage ok done (record { ends = so.ends; told = so.told; fit = so.fit }))
     stage sound told relies
 
 -- what it sorted
@@ -226,22 +215,19 @@ order_few reading (ways.Held words) =
     let size = length-first_slots (slice_index words) (live_count reading.call.view.layout.slots reading.bitmap) in let most = live_most reading.call.view.layout.slots reading.bitmap in omega arith
 order_few reading ways.Alone = live_order_few (comes_before reading.entries) reading.bitmap reading.call.view.layout.slots
 
-few_by : (reading : Reading) (at : ReadingAt) (x : ℕ) (words : PartWords) → reading_turned (record reading { at = at }) at x ≡ Done (once.Done words) → words.compared ≤ reading.call.view.layout.slots
-few_by reading at.Clock x words is = absurd (cc)
-few_by reading at.Bitmap x words is = absurd (cc)
-few_by reading (at.Load slot word) x words is = absurd (cc)
-few_by reading (at.Store store) x words is = absurd (cc)
-few_by reading at.Check x words is =
-    let done = done_words (record reading { at = at.Check }) x words is in
-    subst (λ (w : PartWords). w.compared ≤ reading.call.view.layout.slots) done.1 (compared_few reading.way _ _ (order_few reading reading.way))
-few_by reading at.Unlock x words is =
-    let done = given_words (record reading { at = at.Unlock }) x words is in
-    subst (λ (w : PartWords). w.compared ≤ reading.call.view.layout.slots) done (compared_few reading.way _ _ (order_few reading reading.way))
+few_by : (reading : Reading) (words : PartWords) → part_words reading ≡ words → words.compared ≤ reading.call.view.layout.slots
+few_by reading words done = subst (λ (w : PartWords). w.compared ≤ reading.call.view.layout.slots) done (compared_few reading.way _ _ (order_few reading reading.way))
 
 pub parts_are_few : PartsAreFew
 parts_are_few l g p x words sound is =
     ends_reading p x words is (λ (q : Part). (part_call q).view.layout ≡ l → words.compared ≤ l.slots)
-    (λ reading done layout. subst (λ (m : Layout). words.compared ≤ m.slots) layout (few_by reading reading.at x words done)) sound.layout
+    (λ reading done layout.
+    let whole = record reading { at = at.Check } in
+    subst (λ (m : Layout). words.compared ≤ m.slots) layout (few_by whole words (done_words whole x words done).1))
+    (λ reading done layout.
+    let whole = record reading { at = at.Unlock } in
+    subst (λ (m : Layout). words.compared ≤ m.slots) layout (few_by whole words (given_words whole x words done)))
+    sound.layout
 
 pub statuses_leave_known : StatusesLeaveKnown
 statuses_leave_known l g f f' k same is = subst (λ (φ : Facts). IsKnown l g φ k) (sym same) (record {
