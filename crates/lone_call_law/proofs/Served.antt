@@ -11,7 +11,6 @@ use Rattle.index_law.specs.Facts.{version_in, list_in}
 use Rattle.node_ops.specs.permutation_law.specs.Permuted.{made_at}
 use Rattle.node_ops.specs.declared.call.Call.{Call}
 use Rattle.node_ops.specs.declared.lookup.LookupAt.{LookupAt}
-use Rattle.node_ops.specs.declared.lookup.LookupAt.TheVariants as look
 use Rattle.node_ops.specs.declared.part.Part.{Part}
 use Rattle.node_ops.specs.declared.part.Part.TheVariants as part
 use Rattle.node_ops.specs.declared.part.PartWords.{PartWords}
@@ -25,21 +24,13 @@ use Rattle.node_ops.specs.Calls.{name_in, call_address}
 use Rattle.node_ops.specs.PartSteps.{IsFreely, IsPart, IsWalkingAt, compared_by, order_in, part_asks}
 use Rattle.node_ops.specs.PartSteps.{part_call, part_turned}
 use Rattle.node_ops.proofs.PartTelling.{ends_reading, done_words}
+use Rattle.node_ops.proofs.PartWalks.{walking_is}
 use Rattle.lone_call_law.specs.There.{IsAtNode, LookupStands}
 use Rattle.lone_call_law.specs.LoneCalls.{IsMadeNow, WayIsThere, PartIsThere, LonePartsAreServed}
 use Rattle.lone_call_law.proofs.LoneCalls.{of_name}
 
 walking_still : (l : Layout) (words0 words : List ℕ) (call : Call) (at : LookupAt) → IsWalkingAt at → LookupStands l words0 words call at → words ≡ words0
-walking_still l words0 words call (look.Floor floor) walks stands = stands.0
-walking_still l words0 words call (look.Walk walk) walks stands = stands.0
-walking_still l words0 words call (look.Read seen) walks stands = absurd walks
-walking_still l words0 words call (look.Lock seen locked) walks stands = absurd walks
-walking_still l words0 words call (look.Clock locked) walks stands = absurd walks
-walking_still l words0 words call (look.Spent hold) walks stands = absurd walks
-walking_still l words0 words call (look.Bitmap hold) walks stands = absurd walks
-walking_still l words0 words call (look.Prints hold bitmap prints k) walks stands = absurd walks
-walking_still l words0 words call (look.Name hold directory left slot k) walks stands = absurd walks
-walking_still l words0 words call (look.Value hold directory slot) walks stands = absurd walks
+walking_still l words0 words call = walking_is (λ (at : LookupAt). LookupStands l words0 words call at → words ≡ words0) (λ floor stands. stands.0) (λ walk stands. stands.0)
 
 module _ (l : Layout) (words0 words name : List ℕ) (fresh : made_at l words0 (target_from 0 (list_in l words0) (key_of name)) ≡ version_in l words0 (target_from 0 (list_in l words0) (key_of name))) where
   -- the permutation of the call's node is of its version word

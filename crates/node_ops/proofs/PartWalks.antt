@@ -39,7 +39,7 @@ steps_on call (Done (walked.Again why)) read = tt
 steps_on call (Done (walked.Target target)) read = subst (λ (o : Option ℕ). WalksOn (came_by o call target)) (sym read) tt
 
 -- what holds of a look-up that walks, by its two walks
-walking_is : (P : LookupAt → Type 0) → ((floor : Floor) → P (look.Floor floor)) → ((walk : Walk) → P (look.Walk walk))
+pub walking_is : (P : LookupAt → Type 0) → ((floor : Floor) → P (look.Floor floor)) → ((walk : Walk) → P (look.Walk walk))
     → (at : LookupAt) → IsWalkingAt at → P at
 walking_is P floors walks (look.Floor floor) walking = floors floor
 walking_is P floors walks (look.Walk walk) walking = walks walk
