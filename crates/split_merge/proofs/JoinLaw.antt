@@ -1,5 +1,5 @@
 -- Each turn of a merge is a step.
-use Rattle.std.proofs.Common.{◌≡◌, ◌≢◌, ℕ, zero, suc, ◌+◌, ◌-◌, ◌*◌, ◌/◌, ◌%◌, ◌^◌, ◌<◌, ◌≤◌, ◌==◌, ◌&&◌, true, false, cond, ltb, slice_index, List, [], ◌∷◌, Bool, Option, Some, None, inl, inr, ◌⊎◌, ⊎_elim, refl, sym, ◌∙◌, subst, ap, arith}
+use Rattle.std.proofs.Common.{◌≡◌, ◌≢◌, ℕ, zero, suc, ◌+◌, ◌-◌, ◌/◌, ◌%◌, ◌^◌, ◌<◌, ◌≤◌, ◌==◌, ◌&&◌, true, false, cond, ltb, slice_index, List, [], ◌∷◌, Bool, Option, Some, None, inl, inr, ◌⊎◌, ⊎_elim, refl, sym, ◌∙◌, subst, ap, arith}
 use Rattle.std.specs.Prelude.{IfSome}
 use Rattle.std.specs.List.{AllByRecursion}
 use Rattle.std.proofs.lemmas.Nat.Bits.{bit_at-zero}
@@ -8,12 +8,13 @@ use Rattle.split_merge.proofs.PlanWords.{anchor_same}
 use Rattle.cat_key.specs.Names.{AreNameWords}
 use Rattle.pm_words.specs.declared.layout.Layout.{Layout}
 use Rattle.pm_words.specs.declared.action.Action.{Action}
+use Rattle.pm_words.specs.declared.action.Action.TheVariants.{Load, Drain}
 use Rattle.pm_words.specs.declared.machine.Turn.{Turn}
-use Rattle.pm_words.specs.declared.machine.Turn.TheVariants.{Go, Done}
+use Rattle.pm_words.specs.declared.machine.Turn.TheVariants.{Done}
 use Rattle.pm_words.specs.declared.fence.Fence.{Fence}
 use Rattle.pm_words.specs.declared.fence.FenceAt.{FenceAt}
 use Rattle.pm_words.specs.declared.fence.FenceAt.TheVariants as fence_at
-use Rattle.pm_words.specs.Fences.{IsFence, IsFenceAt, fence_start, fence_asks, fence_at_asks, fence_next, fence_at_next}
+use Rattle.pm_words.specs.Fences.{IsFence, fence_start, fence_asks, fence_next, hand_of}
 use Rattle.pm_words.specs.Codes.{open_state}
 use Rattle.pm_words.specs.Offsets.{bitmap_offset, next_offset, anchor_offset, slot_offset}
 use Rattle.data_node.specs.Bits.{without_live}
@@ -24,21 +25,18 @@ use Rattle.data_node.proofs.SpotLemmas.{updated-same}
 use Rattle.data_node.proofs.StoreLemmas.{means_slot_store}
 use Rattle.call_stages.specs.declared.once.Once.{Once}
 use Rattle.call_stages.specs.declared.once.Placed.{Placed}
-use Rattle.call_stages.specs.Stages.{Tells, AreCopies, IsAmong, Held, Grip, Pace, Gathered, Joined, Gone, Stage, Idle, Holds, Splits, Meets, Joins, Filling, Linked, HoldsNode, counted, left_grip, merged_held}
+use Rattle.call_stages.specs.Stages.{Tells, AreCopies, IsAmong, Held, Grip, Pace, Gathered, Joined, Gone, Stage, Idle, Holds, Splits, Meets, Joins, Filling, Linked, HoldsNode, left_grip, merged_held}
 use Rattle.call_stages.specs.Kinds.{HasWordAt, Soils, Answers, writes, word_address, knows_right, copies, takes_up, puts_down, gathers, joins, glances_joined, drains_joined, retires, yields, Step, merges, unlocks}
-use Rattle.call_stages.specs.Lines.{HeldLine, Notes}
 use Rattle.call_stages.specs.Prevs.{IsSwitch, IsJoin as IsSwitchOver, IsRetire, Debt, no_debt, Deals, keeps, forgets, ends, joins as deals_join, pays, renews}
-use Rattle.call_stages.specs.Footings.{Footing, HasLine, IsOfMerge, Waits}
-use Rattle.permutation.specs.Sparing.{SparingStep, on_nodes, on_line, on_prev}
-use Rattle.smo_log.specs.declared.line.Entry.{Entry}
+use Rattle.call_stages.specs.Lines.{HeldLine}
+use Rattle.call_stages.specs.Footings.{Footing, HasLine, IsOfMerge, Minds}
+use Rattle.permutation.specs.Sparing.{SparingStep, on_nodes, on_prev}
 use Rattle.smo_log.specs.declared.open.Open.{Open}
 use Rattle.smo_log.specs.declared.state.Ready.{Ready}
-use Rattle.smo_log.specs.declared.state.ReadyAt.{ReadyAt}
 use Rattle.smo_log.specs.declared.state.ReadyAt.TheVariants as ready_at
-use Rattle.smo_log.specs.LogLines.{caller_of, index_of, fields, open_line, ready_line}
-use Rattle.smo_log.specs.Opens.{IsOpen, open_asks, open_turned, open_held, OpenNotes}
-use Rattle.smo_log.specs.States.{IsReady, ready_asks, ready_turned, ready_held, ReadyNotes, ready_at_held}
-use Rattle.smo_log.proofs.LineLaw.{opens_are_notes, readies_are_notes, caller_within, index_within}
+use Rattle.smo_log.specs.LogLines.{caller_of, fields, open_line, ready_line}
+use Rattle.smo_log.specs.Opens.{IsOpen, open_asks, open_turned}
+use Rattle.smo_log.specs.States.{IsReady, ready_asks, ready_turned}
 use Rattle.split_merge.specs.declared.uniting.Union.{Union}
 use Rattle.split_merge.specs.declared.joining.Join.{Join}
 use Rattle.split_merge.specs.declared.joining.JoinAt.{JoinAt}
@@ -46,9 +44,10 @@ use Rattle.split_merge.specs.declared.joining.JoinAt.TheVariants as at
 use Rattle.split_merge.specs.Unions.{head_word, from_in, half_of, own_prints, joined_end, joined_prints, behind_in, entry_in}
 use Rattle.split_merge.specs.Joins.{lowest, loads_from, copies_to, IsLeft, IsJoinAt, IsJoin, after_open, after_slot, after_copy, after_print, after_copies, after_bitmap, after_join, after_prev, join_at_asks, joins_on, opened, readied, join_at_turned}
 use Rattle.split_merge.specs.MoveStages.{words_onto}
-use Rattle.split_merge.specs.JoinStages.{near_seen, knowing, prints_now, own_seen, head_seen, slots_copied, copied_so, all_copied, right_of, slots_dirty, copy_dirty, meeting, stored_in, gathering, joining, past_seen, past_debt, join_at_stage, join_at_line, join_at_debt}
+use Rattle.split_merge.specs.JoinStages.{near_seen, knowing, prints_now, own_seen, head_seen, slots_copied, copied_so, all_copied, right_of, slots_dirty, copy_dirty, meeting, stored_in, gathering, joining, past_seen, past_debt, last_debt, join_at_stage, join_at_line, join_at_debt}
 use Rattle.split_merge.specs.MergeLaws.{Answered, JoinsSo, JoinsAreSteps}
-use Rattle.split_merge.proofs.MoveLaw.{shrinks, vanishes, open_caller, open_number, open_unready, no_ready, ready_waits, ready_caller, ready_number}
+use Rattle.split_merge.proofs.FenceTurns.{each_turn, each_turn_of, shrinks, vanishes}
+use Rattle.split_merge.proofs.LineSteps.{opens_lead, readies_lead}
 use Rattle.split_merge.proofs.CutLaw.{told_at, told_past}
 use Rattle.split_merge.proofs.PairLemmas.{gets_parts}
 use Rattle.split_merge.proofs.LeftLemmas.{IsFirst, first_left}
@@ -85,6 +84,12 @@ no_join h h' left left' right right' pace pace' never q = never (ap pace_of q.wa
 no_retire : (h h' : Held) (left left' right right' : Grip) (pace pace' : Pace) → (pace ≡ Joined → pace' ≡ Gone → ⊥) → IsRetire (Joins h left right pace) (Joins h' left' right' pace') → ⊥
 unfolding pace_of
 no_retire h h' left left' right right' pace pace' never q = never (ap pace_of q.was) (ap pace_of q.is)
+
+-- a step that keeps its pace asks nothing of the line
+minds_same : (h : Held) (left after right : Grip) (pace : Pace) (line : Option HeldLine) → Minds (Joins h left right pace) (Joins h after right pace) line
+minds_same h left after right Gathered line = tt
+minds_same h left after right Joined line = tt
+minds_same h left after right Gone line = tt
 
 -- words of a row, one by one
 all_past : (P : ℕ × ℕ → Type 0) (f : ℕ → ℕ) (first n : ℕ) (others : List (ℕ × ℕ)) → AllByRecursion P (words_onto f first n others) → AllByRecursion P others
@@ -123,16 +128,6 @@ module _ (join : Join) (sound : IsJoin join) (g : ℕ) (h : Held) (answer : Once
   on : (before : Footing) (action : Action) (x : ℕ) (at : JoinAt) → SparingStep l g c before action x (footing at) None → IsJoinAt union at → Leads_to before action x (joins_on join at)
   on before action x at step here = (step, record { union = sound.union; here = here }, refl)
 
-  -- a step on its line
-  line_step : {stage : Stage} {e : HeldLine} {after : Option HeldLine} {debt : Debt} {a : Action} {x : ℕ} → Waits stage (Some e) after → counted stage ≡ None → Notes l (Some e) a x after
-      → (e.caller ≡ c) × (e.number ≡ index_of union.line) → IfSome after (λ d. d.caller ≡ c)
-      → SparingStep l g c (record { stage = stage; line = Some e; debt = debt }) a x (record { stage = stage; line = after; debt = debt }) None
-  line_step {e = e} {after = after} {a = a} {x = x} waits none note own after_own =
-      let low = caller_within union.line l.callers sound.union.line in
-      let index = index_within union.line in
-      let here : (e.caller < l.callers) × (e.number < 8) = (let is = own.0 in omega arith, let is = own.1 in omega arith) in
-      on_line waits none here note after_own
-
   -- the line is open, and nothing is copied yet
   abbrev opened_footing : Footing
   opened_footing = record { stage = meeting h union 0 [] None (head_seen union) []; line = Some (open_line union.line (entry_in union)); debt = no_debt }
@@ -169,18 +164,9 @@ module _ (join : Join) (sound : IsJoin join) (g : ℕ) (h : Held) (answer : Once
 
   at_open : (machine : Open) (x : ℕ) → IsOpen machine → machine.layout ≡ l → machine.line ≡ union.line → machine.entry ≡ entry_in union → x < 2 ^ 64
       → Leads_to (footing (at.Open machine)) (open_asks machine) x (opened join (open_turned machine x))
-  at_open machine x is layout line entry fits = after (open_turned machine x) (opens_are_notes machine x is fits)
-    where
-      noted : (at : Option HeldLine) → Notes machine.layout (Some (open_held machine)) (open_asks machine) x at → Notes l (Some (open_held machine)) (open_asks machine) x at
-      noted at note = subst (λ k. Notes k (Some (open_held machine)) (open_asks machine) x at) layout note
-
-      after : (turn : Turn Open (Unit {0})) → OpenNotes machine.layout machine.line machine.entry (open_held machine) (open_asks machine) x turn → Leads_to (footing (at.Open machine)) (open_asks machine) x (opened join turn)
-      after (Go next) note = on (footing (at.Open machine)) (open_asks machine) x (at.Open next)
-          (line_step (λ unready ready. absurd (no_ready (open_unready next.line next.entry next.at) ready)) refl (noted (Some (open_held next)) note.0) (open_caller machine.line machine.entry machine.at ∙ ap caller_of line, open_number machine.line machine.entry machine.at ∙ ap index_of line) (open_caller next.line next.entry next.at ∙ ap caller_of (note.3 ∙ line)))
-          (note.1, note.2 ∙ layout, note.3 ∙ line, note.4 ∙ entry)
-      after (Done nothing) note = to_copies (footing (at.Open machine)) (open_asks machine) x
-          (line_step (λ unready ready. absurd (no_ready refl ready)) refl (subst (λ (p : ℕ × Entry). Notes l (Some (open_held machine)) (open_asks machine) x (Some (open_line p.0 p.1))) (λ k. (line k, entry k)) (noted (Some (open_line machine.line machine.entry)) note))
-          (open_caller machine.line machine.entry machine.at ∙ ap caller_of line, open_number machine.line machine.entry machine.at ∙ ap index_of line) refl)
+  at_open machine x is layout line entry fits =
+      opens_lead l g (meeting h union 0 [] None (head_seen union) []) no_debt union.line (entry_in union) refl (λ turn. Leads_to (footing (at.Open machine)) (open_asks machine) x (opened join turn)) machine x is layout line entry fits
+      (λ next step here. on (footing (at.Open machine)) (open_asks machine) x (at.Open next) step here) (λ step nothing. to_copies (footing (at.Open machine)) (open_asks machine) x step)
 
   at_load : (left word x : ℕ) → IsLeft union left → word < 4 → x < 2 ^ 64 → Leads_to (footing (at.Load left word)) (loads_from union left word) x (joins_on join (at.Copy left word x))
   at_load left word x is small fits =
@@ -340,51 +326,33 @@ module _ (join : Join) (sound : IsJoin join) (g : ℕ) (h : Held) (answer : Once
   -- the fences of the copies
   at_fence_copies : (first : ℕ) (fence : Fence) (x : ℕ) → first < joined_end union → 8 ≤ first → first % 8 ≡ 0 → IsFence fence → union.pairs.targets ≢ 0 → x < 2 ^ 64
       → Leads_to (footing (at.FenceCopies first fence)) (fence_asks (word_address l union.node (first + fence.word)) fence) x (joins_on join (after_copies union first (fence_next fence x)))
-  at_fence_copies first fence x inside high whole is some fits = leads fence.at is.value
+  at_fence_copies first fence x inside high whole is some fits =
+      each_turn_of (joined_end union) first (λ word. word_address l union.node (first + word)) (after_copies union first) (at.FenceCopies (first + 8) fence_start) at.Bitmap
+      (λ before action to. Leads_to (footing (at.FenceCopies first before)) action x (joins_on join to)) fence x is fits refl
+      (λ word small. on (before word fence_at.Load) (Load (word_address l union.node (first + word))) x (at.FenceCopies first (record { word = word; at = fence_at.Drain x }))
+      (on_nodes tt (inl refl) (merges (takes_up (within word small))) (far word None (join_at_stage h union (at.FenceCopies first (record { word = word; at = fence_at.Drain x })))))
+      (inside, high, whole, record { word = small; value = fits }, some))
+      (λ word y more value cleans. on (before word (fence_at.Drain y)) (Drain (word_address l union.node (first + word)) y) x (at.FenceCopies first (record { word = word + 1; at = fence_at.Load }))
+      (on_nodes tt (inl refl) (merges (puts_down (within word (omega arith)) value refl cleans)) (far word (Some (first + word, y)) (join_at_stage h union (at.FenceCopies first (record { word = word + 1; at = fence_at.Load })))))
+      (inside, high, whole, record { word = more; value = tt }, some))
+      (λ word y small value another cleans. on (before word (fence_at.Drain y)) (Drain (word_address l union.node (first + word)) y) x (at.FenceCopies (first + 8) fence_start)
+      (on_nodes tt (inl refl) (merges (puts_down (within word small) value refl cleans)) (far word (Some (first + word, y)) (join_at_stage h union (at.FenceCopies (first + 8) fence_start))))
+      (another, omega arith, omega arith, record { word = omega arith; value = tt }, some))
+      (λ word y small value cleans. on (before word (fence_at.Drain y)) (Drain (word_address l union.node (first + word)) y) x at.Bitmap
+      (on_nodes tt (inl refl) (subst (λ k. Step l g (before word (fence_at.Drain y)).stage (Drain (word_address l union.node (first + word)) y) x (Meets union.node union.locked (knowing (own_seen union k) [] None h) (right_of union (head_seen union) (all_copied union))) None) stored
+      (merges (puts_down (within word small) value refl cleans))) (far word (Some (first + word, y)) (join_at_stage h union at.Bitmap))) tt)
     where
-      within : first + fence.word < 16 + 4 * l.slots
-      within =
-          let word : fence.word < 8 = is.word in
-          let low = slots.0 in
-          let even = slots.2 in
-          omega arith
+      before : ℕ → FenceAt → Footing
+      before word k = footing (at.FenceCopies first (record { word = word; at = k }))
 
-      far : (k : FenceAt) (t : Stage) → Deals (join_at_stage h union (at.FenceCopies first (record fence { at = k }))) t no_debt no_debt
-      far fence_at.Load t = meets_far union.node union.locked (knowing (own_seen union (own_prints union)) ((first + fence.word, joined_end union - (first + fence.word)) ∷ []) None h) (right_of union (head_seen union) (all_copied union)) t
-      far (fence_at.Drain y) t =
-          meets_far union.node union.locked (knowing (own_seen union (own_prints union)) ((first + fence.word, joined_end union - (first + fence.word)) ∷ []) (Some (first + fence.word, y)) h) (right_of union (head_seen union) (all_copied union)) t
+      within : (word : ℕ) → word < 8 → HasWordAt l union.node (first + word)
+      within word small = let low = slots.0 in let even = slots.2 in (sound.union.node, omega arith)
+
+      far : (word : ℕ) (hand : Option (ℕ × ℕ)) (t : Stage) → Deals (meeting h union (own_prints union) ((first + word, joined_end union - (first + word)) ∷ []) hand (head_seen union) (all_copied union)) t no_debt no_debt
+      far word hand t = meets_far union.node union.locked (knowing (own_seen union (own_prints union)) ((first + word, joined_end union - (first + word)) ∷ []) hand h) (right_of union (head_seen union) (all_copied union)) t
 
       stored : own_prints union ≡ stored_in union
       stored = ap (λ b. cond b 0 (own_prints union)) (sym (ne_eqb union.pairs.targets 0 some))
-
-      leads : (k : FenceAt) → IsFenceAt k → Leads_to (footing (at.FenceCopies first (record fence { at = k }))) (fence_at_asks (word_address l union.node (first + fence.word)) k) x (joins_on join (after_copies union first (fence_at_next fence k x)))
-      leads fence_at.Load value = on (footing (at.FenceCopies first (record fence { at = fence_at.Load }))) (fence_at_asks (word_address l union.node (first + fence.word)) fence_at.Load) x
-          (at.FenceCopies first (record fence { at = fence_at.Drain x }))
-          (on_nodes tt (inl refl) (merges (takes_up (sound.union.node, within))) (far fence_at.Load (join_at_stage h union (at.FenceCopies first (record fence { at = fence_at.Drain x })))))
-          (inside, high, whole, record { word = is.word; value = fits }, some)
-      leads (fence_at.Drain y) value =
-          let before = footing (at.FenceCopies first (record fence { at = fence_at.Drain y })) in
-          let action = fence_at_asks (word_address l union.node (first + fence.word)) (fence_at.Drain y) in
-          elim (ltb (fence.word + 1) 8) as (λ b. ltb (fence.word + 1) 8 ≡ b → Leads_to before action x
-          (joins_on join (after_copies union first (cond b (Some (record { word = fence.word + 1; at = fence_at.Load })) None)))) [
-            | true ↦ λ more. on before action x (at.FenceCopies first (record { word = fence.word + 1; at = fence_at.Load }))
-                (on_nodes tt (inl refl) (merges (puts_down (sound.union.node, within) value refl (shrinks (joined_end union) (first + fence.word) (first + (fence.word + 1)) (omega arith))))
-                (far (fence_at.Drain y) (join_at_stage h union (at.FenceCopies first (record { word = fence.word + 1; at = fence_at.Load })))))
-                (inside, high, whole, record { word = ltb-true _ _ more; value = tt }, some)
-            | false ↦ λ last.
-                let end : fence.word ≡ 7 = (let low : fence.word < 8 = is.word in let high : 8 ≤ fence.word + 1 = ltb-false _ _ last in omega arith) in
-                elim (ltb (first + 8) (joined_end union)) as (λ b. ltb (first + 8) (joined_end union) ≡ b → Leads_to before action x (joins_on join (cond b (at.FenceCopies (first + 8) fence_start) at.Bitmap))) [
-                  | true ↦ λ another. on before action x (at.FenceCopies (first + 8) fence_start)
-                      (on_nodes tt (inl refl) (merges (puts_down (sound.union.node, within) value refl (shrinks (joined_end union) (first + fence.word) (first + 8 + 0) (omega arith))))
-                      (far (fence_at.Drain y) (join_at_stage h union (at.FenceCopies (first + 8) fence_start))))
-                      (ltb-true _ _ another, omega arith, omega arith, record { word = omega arith; value = tt }, some)
-                  | false ↦ λ all. on before action x at.Bitmap
-                      (on_nodes tt (inl refl) (subst (λ k. Step l g before.stage action x (Meets union.node union.locked (knowing (own_seen union k) [] None h) (right_of union (head_seen union) (all_copied union))) None) stored
-                      (merges (puts_down (sound.union.node, within) value refl (vanishes (joined_end union) (first + fence.word) (let past : joined_end union ≤ first + 8 = ltb-false _ _ all in omega arith)))))
-                      (far (fence_at.Drain y) (join_at_stage h union at.Bitmap)))
-                      tt
-                ] refl
-          ] refl
 
   -- what is known of both nodes as the bitmap is stored
   are_gathered : (s t : Spot) → Tells (own_seen union (stored_in union)) s → Tells (head_seen union) t → AreCopies (all_copied union) s t → AreGathered union s t
@@ -436,29 +404,34 @@ module _ (join : Join) (sound : IsJoin join) (g : ℕ) (h : Held) (answer : Once
   has_left : (word : ℕ) → word < 8 → HasWordAt l union.node word
   has_left word small = (sound.union.node, omega arith)
 
+  -- the fences of the left node's first line
+  abbrev joined_on : List (ℕ × ℕ) → List (ℕ × ℕ) → Option (ℕ × ℕ) → Pace → Debt → Footing
+  joined_on seen dirty hand pace d = record { stage = joining h union seen dirty hand pace; line = Some (open_line union.line (entry_in union)); debt = d }
+
+  at_fence_left : (to : Option Fence → JoinAt) (seen : List (ℕ × ℕ)) (pace : Pace) (d : Debt) (fence : Fence) (x : ℕ) → IsFence fence → x < 2 ^ 64
+      → IfSome d.known (λ k. HoldsNode (joining h union seen [] None pace) k.0) → IfSome d.owes (HoldsNode (joining h union seen [] None pace))
+      → ((f : Fence) → footing (to (Some f)) ≡ joined_on seen ((f.word, 8 - f.word) ∷ []) (hand_of f.word f.at) pace d) → footing (to None) ≡ joined_on seen [] None pace d
+      → ((f : Fence) → IsFence f → IsJoinAt union (to (Some f))) → IsJoinAt union (to None)
+      → Leads_to (footing (to (Some fence))) (fence_asks (word_address l union.node fence.word) fence) x (joins_on join (to (fence_next fence x)))
+  at_fence_left to seen pace d fence x is fits knows owes same is_end here past =
+      each_turn (word_address l union.node) (λ before action next. Leads_to (footing (to (Some before))) action x (joins_on join (to next))) fence x is fits
+      (λ word small. goes (record { word = word; at = fence_at.Load }) (Load (word_address l union.node word)) (to (Some (record { word = word; at = fence_at.Drain x }))) ((word, 8 - word) ∷ []) (Some (word, x)) (same (record { word = word; at = fence_at.Drain x }))
+      (merges (glances_joined (has_left word small) (λ s told e. told))) (here (record { word = word; at = fence_at.Drain x }) (record { word = small; value = fits })))
+      (λ word y more value. goes (record { word = word; at = fence_at.Drain y }) (Drain (word_address l union.node word) y) (to (Some (record { word = word + 1; at = fence_at.Load }))) ((word + 1, 8 - (word + 1)) ∷ []) None (same (record { word = word + 1; at = fence_at.Load }))
+      (merges (drains_joined (has_left word (omega arith)) value refl (shrinks 8 word (word + 1) refl))) (here (record { word = word + 1; at = fence_at.Load }) (record { word = more; value = tt })))
+      (λ word y end value. goes (record { word = word; at = fence_at.Drain y }) (Drain (word_address l union.node word) y) (to None) [] None is_end (merges (drains_joined (has_left word (omega arith)) value refl (vanishes 8 word (omega arith)))) past)
+    where
+      goes : (before : Fence) (action : Action) (next : JoinAt) (dirty : List (ℕ × ℕ)) (hand : Option (ℕ × ℕ)) → footing next ≡ joined_on seen dirty hand pace d
+          → Step l g (joining h union seen ((before.word, 8 - before.word) ∷ []) (hand_of before.word before.at) pace) action x (joining h union seen dirty hand pace) None → IsJoinAt union next
+          → Leads_to (footing (to (Some before))) action x (joins_on join next)
+      goes before action next dirty hand is step there = on (footing (to (Some before))) action x next
+          (subst (λ (p : Footing × Footing). SparingStep l g c p.0 action x p.1 None) (λ i. (sym (same before) i, sym is i))
+          (on_nodes (minds_same (gathering h union) (grip seen ((before.word, 8 - before.word) ∷ []) (hand_of before.word before.at)) (grip seen dirty hand) beside pace (Some (open_line union.line (entry_in union)))) (inl refl) step
+          (deals_on seen ((before.word, 8 - before.word) ∷ []) dirty (hand_of before.word before.at) hand pace d knows owes))) there
+
   at_fence_bitmap : (fence : Fence) (x : ℕ) → IsFence fence → x < 2 ^ 64
       → Leads_to (footing (at.FenceBitmap fence)) (fence_asks (word_address l union.node fence.word) fence) x (joins_on join (after_bitmap (fence_next fence x)))
-  at_fence_bitmap fence x is fits = leads fence.at is.value
-    where
-      leads : (k : FenceAt) → IsFenceAt k → Leads_to (footing (at.FenceBitmap (record fence { at = k }))) (fence_at_asks (word_address l union.node fence.word) k) x (joins_on join (after_bitmap (fence_at_next fence k x)))
-      leads fence_at.Load value = on (footing (at.FenceBitmap (record fence { at = fence_at.Load }))) (fence_at_asks (word_address l union.node fence.word) fence_at.Load) x
-          (at.FenceBitmap (record fence { at = fence_at.Drain x }))
-          (on_nodes tt (inl refl) (merges (glances_joined (has_left fence.word is.word) (λ s told e. told)))
-          (deals_on [] ((fence.word, 8 - fence.word) ∷ []) ((fence.word, 8 - fence.word) ∷ []) None (Some (fence.word, x)) Gathered no_debt tt tt))
-          (record { word = is.word; value = fits })
-      leads (fence_at.Drain y) value =
-          let before = footing (at.FenceBitmap (record fence { at = fence_at.Drain y })) in
-          let action = fence_at_asks (word_address l union.node fence.word) (fence_at.Drain y) in
-          elim (ltb (fence.word + 1) 8) as (λ b. ltb (fence.word + 1) 8 ≡ b → Leads_to before action x
-          (joins_on join (after_bitmap (cond b (Some (record { word = fence.word + 1; at = fence_at.Load })) None)))) [
-            | true ↦ λ more. on before action x (at.FenceBitmap (record { word = fence.word + 1; at = fence_at.Load }))
-                (on_nodes tt (inl refl) (merges (drains_joined (has_left fence.word is.word) value refl (shrinks 8 fence.word (fence.word + 1) refl)))
-                (deals_on [] ((fence.word, 8 - fence.word) ∷ []) ((fence.word + 1, 8 - (fence.word + 1)) ∷ []) (Some (fence.word, y)) None Gathered no_debt tt tt))
-                (record { word = ltb-true _ _ more; value = tt })
-            | false ↦ λ last. on before action x at.Switch
-                (on_nodes tt (inl refl) (merges (drains_joined (has_left fence.word is.word) value refl (vanishes 8 fence.word (ltb-false _ _ last))))
-                (deals_on [] ((fence.word, 8 - fence.word) ∷ []) [] (Some (fence.word, y)) None Gathered no_debt tt tt)) tt
-          ] refl
+  at_fence_bitmap fence x is fits = at_fence_left after_bitmap [] Gathered no_debt fence x is fits tt tt (λ f. refl) refl (λ f here. here) tt
 
   -- the line is of the merge that leaves the right node out, and has its anchor
   line_anchored : (s t : Spot) → Tells (fields (entry_in union) 7) s → Tells (head_seen union) t → AreNameWords (t anchor_offset ∷ t (anchor_offset + 1) ∷ t (anchor_offset + 2) ∷ []) → anchor_in s ≡ anchor_in t
@@ -483,27 +456,7 @@ module _ (join : Join) (sound : IsJoin join) (g : ℕ) (h : Held) (answer : Once
 
   at_fence_switch : (fence : Fence) (x : ℕ) → IsFence fence → x < 2 ^ 64
       → Leads_to (footing (at.FenceSwitch fence)) (fence_asks (word_address l union.node fence.word) fence) x (joins_on join (after_join (fence_next fence x)))
-  at_fence_switch fence x is fits = leads fence.at is.value
-    where
-      leads : (k : FenceAt) → IsFenceAt k → Leads_to (footing (at.FenceSwitch (record fence { at = k }))) (fence_at_asks (word_address l union.node fence.word) k) x (joins_on join (after_join (fence_at_next fence k x)))
-      leads fence_at.Load value = on (footing (at.FenceSwitch (record fence { at = fence_at.Load }))) (fence_at_asks (word_address l union.node fence.word) fence_at.Load) x
-          (at.FenceSwitch (record fence { at = fence_at.Drain x }))
-          (on_nodes tt (inl refl) (merges (glances_joined (has_left fence.word is.word) (λ s told e. told)))
-          (deals_on (past_seen union) ((fence.word, 8 - fence.word) ∷ []) ((fence.word, 8 - fence.word) ∷ []) None (Some (fence.word, x)) Joined (past_debt union) (inr refl) (inl refl)))
-          (record { word = is.word; value = fits })
-      leads (fence_at.Drain y) value =
-          let before = footing (at.FenceSwitch (record fence { at = fence_at.Drain y })) in
-          let action = fence_at_asks (word_address l union.node fence.word) (fence_at.Drain y) in
-          elim (ltb (fence.word + 1) 8) as (λ b. ltb (fence.word + 1) 8 ≡ b → Leads_to before action x
-          (joins_on join (after_join (cond b (Some (record { word = fence.word + 1; at = fence_at.Load })) None)))) [
-            | true ↦ λ more. on before action x (at.FenceSwitch (record { word = fence.word + 1; at = fence_at.Load }))
-                (on_nodes tt (inl refl) (merges (drains_joined (has_left fence.word is.word) value refl (shrinks 8 fence.word (fence.word + 1) refl)))
-                (deals_on (past_seen union) ((fence.word, 8 - fence.word) ∷ []) ((fence.word + 1, 8 - (fence.word + 1)) ∷ []) (Some (fence.word, y)) None Joined (past_debt union) (inr refl) (inl refl)))
-                (record { word = ltb-true _ _ more; value = tt })
-            | false ↦ λ last. on before action x at.Retire
-                (on_nodes tt (inl refl) (merges (drains_joined (has_left fence.word is.word) value refl (vanishes 8 fence.word (ltb-false _ _ last))))
-                (deals_on (past_seen union) ((fence.word, 8 - fence.word) ∷ []) [] (Some (fence.word, y)) None Joined (past_debt union) (inr refl) (inl refl))) tt
-          ] refl
+  at_fence_switch fence x is fits = at_fence_left after_join (past_seen union) Joined (past_debt union) fence x is fits (inr refl) (inl refl) (λ f. refl) refl (λ f here. here) tt
 
   at_retire : (x : ℕ) → Leads_to (footing at.Retire) (join_at_asks union at.Retire) x (joins_on join at.Prev)
   unfolding left_in right_in
@@ -545,24 +498,10 @@ module _ (join : Join) (sound : IsJoin join) (g : ℕ) (h : Held) (answer : Once
 
   at_ready : (ready : Ready) (x : ℕ) → IsReady ready → ready.layout ≡ l → ready.line ≡ union.line → x < 2 ^ 64
       → Leads_to (footing (at.Ready ready)) (ready_asks ready) x (readied join (ready_turned ready x))
-  at_ready ready x is layout line fits = after (ready_turned ready x) (readies_are_notes ready (entry_in union) x is fits)
-    where
-      noted : (at : Option HeldLine) → Notes ready.layout (Some (ready_held (entry_in union) ready)) (ready_asks ready) x at → Notes l (Some (ready_held (entry_in union) ready)) (ready_asks ready) x at
-      noted at note = subst (λ k. Notes k (Some (ready_held (entry_in union) ready)) (ready_asks ready) x at) layout note
-
-      waits : (number : ℕ) → number ≡ union.line → (next : HeldLine) (k : ReadyAt) → Waits (join_at_stage h union (at.Ready ready)) (Some (ready_at_held number (entry_in union) k)) (Some next)
-      waits number same next k = ready_waits (join_at_stage h union (at.Ready ready)) number (entry_in union) k next (λ n none. none, inr (subst (λ n. IsOfMerge (open_line n (entry_in union)) (right_of union (head_seen union) (all_copied union))) (sym same) of_merge))
-
-      after : (turn : Turn Ready (Unit {0})) → ReadyNotes ready.layout ready.line (entry_in union) (ready_held (entry_in union) ready) (ready_asks ready) x turn → Leads_to (footing (at.Ready ready)) (ready_asks ready) x (readied join turn)
-      after (Go next) note = on (footing (at.Ready ready)) (ready_asks ready) x (at.Ready next)
-          (line_step (waits ready.line line (ready_held (entry_in union) next) ready.at) refl (noted (Some (ready_held (entry_in union) next)) note.0) (ready_caller ready.line (entry_in union) ready.at ∙ ap caller_of line, ready_number ready.line (entry_in union) ready.at ∙ ap index_of line)
-          (ready_caller next.line (entry_in union) next.at ∙ ap caller_of (note.3 ∙ line)))
-          (note.1, note.2 ∙ layout, note.3 ∙ line)
-      after (Done nothing) note =
-          on (footing (at.Ready ready)) (ready_asks ready) x at.UnlockRight
-          (line_step (waits ready.line line (ready_line union.line (entry_in union)) ready.at) refl
-          (subst (λ k. Notes l (Some (ready_held (entry_in union) ready)) (ready_asks ready) x (Some (ready_line k (entry_in union)))) line (noted (Some (ready_line ready.line (entry_in union))) note))
-          (ready_caller ready.line (entry_in union) ready.at ∙ ap caller_of line, ready_number ready.line (entry_in union) ready.at ∙ ap index_of line) refl) tt
+  at_ready ready x is layout line fits =
+      readies_lead l g (join_at_stage h union (at.Ready ready)) (last_debt union) union.line (entry_in union) refl (λ n none. none, inr of_merge)
+      (λ turn. Leads_to (footing (at.Ready ready)) (ready_asks ready) x (readied join turn)) ready x is layout line fits
+      (λ next step here. on (footing (at.Ready ready)) (ready_asks ready) x (at.Ready next) step here) (λ step nothing. on (footing (at.Ready ready)) (ready_asks ready) x at.UnlockRight step tt)
 
   -- the line is READY and says what is merged
   last_minds : HasLine (Some (ready_line union.line (entry_in union))) (λ e. (e.ready ≡ true) × IsOfMerge e (right_of union (head_seen union) (all_copied union)))

@@ -1,6 +1,5 @@
 -- Each turn of a merge leaves fewer actions to come.
 use Rattle.std.proofs.Common.{◌≡◌, ℕ, ◌+◌, ◌-◌, ◌*◌, ◌<◌, ◌≤◌, ◌==◌, true, false, cond, ltb, Option, refl, arith}
-use Rattle.std.proofs.lemmas.Bool.{ltb-true}
 use Rattle.pm_words.specs.Turns.{GoesBelow}
 use Rattle.pm_words.specs.declared.fence.Fence.{Fence}
 use Rattle.pm_words.specs.Fences.{IsFence, fence_start, fence_next, fence_left, fence_at_left}
@@ -11,7 +10,7 @@ use Rattle.split_merge.specs.declared.joining.JoinAt.TheVariants as at
 use Rattle.split_merge.specs.Unions.{IsUnion, joined_end, own_prints}
 use Rattle.split_merge.specs.Joins.{IsLeft, lowest, after_open, after_slot, after_copy, after_copies, joins_on, join_left}
 use Rattle.split_merge.proofs.LeftLemmas.{first_left}
-use Rattle.split_merge.proofs.FenceTurns.{fence_goes}
+use Rattle.split_merge.proofs.FenceTurns.{fence_goes, line_ends}
 
 pub open_fewer : (join : Join) → GoesBelow {A = Unit {0}} join_left 2000 (joins_on join (after_open join.union))
 open_fewer join =
@@ -41,12 +40,7 @@ copy_fewer join left word sound is within =
 
 pub copies_fewer : (join : Join) (first : ℕ) (fence : Fence) (x : ℕ) → first < joined_end join.union → joined_end join.union ≤ 272 → IsFence fence
     → GoesBelow {A = Unit {0}} join_left (3 * (272 - first) + fence_at_left fence.word fence.at + 160) (joins_on join (after_copies join.union first (fence_next fence x)))
-copies_fewer join first fence x inside most is =
-    fence_goes (λ (next : Option Fence). GoesBelow {A = Unit {0}} join_left (3 * (272 - first) + fence_left fence + 160) (joins_on join (after_copies join.union first next)))
-    fence x is (λ next fewer fits. omega (arith, fewer))
-    (λ some.
-    elim (ltb (first + 8) (joined_end join.union)) as (λ b. ltb (first + 8) (joined_end join.union) ≡ b → GoesBelow {A = Unit {0}} join_left (3 * (272 - first) + fence_left fence + 160)
-    (joins_on join (cond b (at.FenceCopies (first + 8) fence_start) at.Bitmap))) [
-      | true ↦ λ another. let below = ltb-true _ _ another in omega (arith, some, below, most)
-      | false ↦ λ all. omega arith
-    ] refl)
+copies_fewer join first fence x inside most is = fence_goes (λ (next : Option Fence). GoesBelow {A = Unit {0}} join_left (3 * (272 - first) + fence_left fence + 160) (joins_on join (after_copies join.union first next))) fence x is
+    (λ next fewer fits. omega (arith, fewer))
+    (λ some. line_ends (joined_end join.union) first (at.FenceCopies (first + 8) fence_start) at.Bitmap (λ to. GoesBelow {A = Unit {0}} join_left (3 * (272 - first) + fence_left fence + 160) (joins_on join to))
+    (λ below. omega (arith, some, below, most)) (λ past. omega arith))

@@ -1,4 +1,5 @@
 pub mod FenceTurns
+pub mod LineSteps
 pub mod MoveLaw
 pub mod Staying
 pub mod OfSplits

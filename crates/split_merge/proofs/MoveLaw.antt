@@ -1,20 +1,20 @@
 -- Each turn of a move is a step.
-use Rattle.std.proofs.Common.{◌≡◌, ◌≢◌, ℕ, zero, suc, ◌+◌, ◌-◌, ◌*◌, ◌%◌, ◌^◌, ◌<◌, ◌≤◌, ◌==◌, true, false, cond, ltb, List, [], ◌∷◌, Option, Some, None, inl, inr, ⊎_elim, refl, sym, ◌∙◌, subst, ap, arith, Bool, ◌⊎◌}
+use Rattle.std.proofs.Common.{◌≡◌, ◌≢◌, ℕ, zero, suc, ◌+◌, ◌-◌, ◌*◌, ◌%◌, ◌^◌, ◌<◌, ◌≤◌, ◌==◌, true, false, cond, ltb, List, [], ◌∷◌, Option, Some, None, inl, inr, ⊎_elim, refl, sym, ◌∙◌, subst, ap, arith, ◌⊎◌}
 use Rattle.std.specs.Prelude.{IfSome}
 use Rattle.std.specs.List.{AllByRecursion}
-use Rattle.std.proofs.lemmas.Bool.{cases_eq, eqb-true, eqb-false, ltb-true, ltb-false}
+use Rattle.std.proofs.lemmas.Bool.{eqb-true, eqb-false, ltb-true, ltb-false}
 use Rattle.cat_key.specs.Names.{AreNameWords}
 use Rattle.pm_words.specs.declared.layout.Layout.{Layout}
 use Rattle.pm_words.specs.declared.action.Action.{Action}
+use Rattle.pm_words.specs.declared.action.Action.TheVariants.{Load, Drain}
 use Rattle.pm_words.specs.declared.machine.Turn.{Turn}
-use Rattle.pm_words.specs.declared.machine.Turn.TheVariants.{Go, Done}
+use Rattle.pm_words.specs.declared.machine.Turn.TheVariants.{Done}
 use Rattle.data_node.specs.Spots.{Spot, updated}
 use Rattle.data_node.specs.Lists.{three_words, anchor_in, anchor_words}
 use Rattle.data_node.proofs.SpotLemmas.{updated-same, updated-other}
 use Rattle.call_stages.specs.Stages.{Tells, Grip, Phase, Filling, Linked, Parted, Stage, Idle, Splits, Leaves, Joins, Gathered, Joined, Gone}
-use Rattle.call_stages.specs.Kinds.{HasWordAt, Soils, Cleans, word_address, Step, splits, publishes, leaves, fills as fills_word, lights, switches, glances_left, glances_fresh, drains_left, drains_fresh, trims}
-use Rattle.call_stages.specs.Lines.{HeldLine, Notes}
-use Rattle.call_stages.specs.Stages.{HoldsNode, IsSwitched, counted}
+use Rattle.call_stages.specs.Kinds.{HasWordAt, Soils, word_address, Step, splits, publishes, leaves, fills as fills_word, lights, switches, glances_left, glances_fresh, drains_left, drains_fresh, trims}
+use Rattle.call_stages.specs.Stages.{HoldsNode}
 use Rattle.call_stages.specs.Prevs.{IsSwitch, IsJoin}
 use Rattle.call_stages.specs.Prevs.{Debt, no_debt, IsRetire, Deals, keeps, ends, switches as deals_switch, names, pays}
 use Rattle.index_law.proofs.Stays.{means_beside}
@@ -23,28 +23,27 @@ use Rattle.pm_words.specs.declared.fence.FenceAt.{FenceAt}
 use Rattle.pm_words.specs.declared.fence.FenceAt.TheVariants as fence_at
 use Rattle.smo_log.specs.declared.open.Open.{Open}
 use Rattle.smo_log.specs.declared.open.OpenAt.TheVariants as open_at
-use Rattle.smo_log.specs.declared.open.OpenAt.{OpenAt}
-use Rattle.smo_log.specs.declared.state.ReadyAt.{ReadyAt}
 use Rattle.smo_log.specs.declared.state.ReadyAt.TheVariants as ready_at
-use Rattle.smo_log.specs.declared.line.Entry.{Entry}
 use Rattle.smo_log.specs.declared.state.Ready.{Ready}
-use Rattle.pm_words.specs.Fences.{IsFence, IsFenceAt, fence_start, fence_asks, fence_at_asks, fence_next, fence_at_next}
-use Rattle.pm_words.specs.Codes.{open_state, split_kind, merge_kind}
+use Rattle.pm_words.specs.Fences.{IsFence, fence_start, fence_asks, fence_next, hand_of}
+use Rattle.pm_words.specs.Codes.{open_state, split_kind}
 use Rattle.pm_words.specs.Offsets.{bitmap_offset, next_offset, anchor_offset, state_offset, kind_offset}
-use Rattle.smo_log.specs.LogLines.{caller_of, index_of, fields, open_line, ready_line}
-use Rattle.smo_log.specs.Opens.{IsOpen, open_asks, open_turned, open_at_held, open_held, OpenNotes}
-use Rattle.smo_log.specs.States.{IsReady, ready_asks, ready_turned, ready_at_held, ready_held, ReadyNotes}
-use Rattle.smo_log.proofs.LineLaw.{opens_are_notes, readies_are_notes, caller_within, index_within}
+use Rattle.smo_log.specs.LogLines.{caller_of, fields, open_line}
+use Rattle.smo_log.specs.Opens.{IsOpen, open_asks, open_turned}
+use Rattle.smo_log.specs.States.{IsReady, ready_asks, ready_turned}
 use Rattle.split_merge.specs.declared.planning.Plan.{Plan}
 use Rattle.split_merge.specs.declared.moving.Move.{Move}
 use Rattle.split_merge.specs.declared.moving.MoveAt.{MoveAt}
 use Rattle.split_merge.specs.declared.moving.MoveAt.TheVariants as at
 use Rattle.split_merge.specs.Plans.{plan_word, next_in, entry_in, moved_in}
 use Rattle.split_merge.specs.Moves.{slot_count, print_count, filled_end, fills, after_slot, after_print, after_anchor, after_fence, after_switch, after_trim, move_at_asks, move_at_turned, moves_on, opened, readied, IsMoveAt, IsMove}
-use Rattle.call_stages.specs.Footings.{Footing, IsRetired, Waits}
-use Rattle.permutation.specs.Sparing.{SparingStep, on_nodes, on_line, on_prev}
-use Rattle.split_merge.specs.MoveStages.{Known, words_onto, slots_seen, prints_seen, anchor_seen, fresh_seen, fresh_of, left_of, full_left, slot_dirty, filling, move_at_stage, move_at_line, move_at_debt, knows_prev, owes_prev, cut_key, linked}
+use Rattle.call_stages.specs.Lines.{HeldLine}
+use Rattle.call_stages.specs.Footings.{Footing, Minds}
+use Rattle.permutation.specs.Sparing.{SparingStep, on_nodes, on_prev}
+use Rattle.split_merge.specs.MoveStages.{Known, words_onto, slots_seen, prints_seen, anchor_seen, fresh_seen, fresh_of, left_of, full_left, slot_dirty, filling, filled, move_at_stage, move_at_line, move_at_debt, knows_prev, owes_prev, cut_key, linked}
 use Rattle.split_merge.specs.Laws.{Cuts, Moves, MovesAreSteps}
+use Rattle.split_merge.proofs.FenceTurns.{each_turn, each_turn_of, shrinks, vanishes}
+use Rattle.split_merge.proofs.LineSteps.{opens_lead, readies_lead}
 
 -- words at other offsets than this one
 abbrev pub Apart : ℕ → List (ℕ × ℕ) → Type 0
@@ -72,67 +71,18 @@ no_join left fresh phase t q = let e : Splits left fresh phase ≡ Joins q.held 
 no_retire : (left fresh : Grip) (phase : Phase) (t : Stage) → IsRetire (Splits left fresh phase) t → ⊥
 no_retire left fresh phase t q = let e : Splits left fresh phase ≡ Joins q.held q.left q.right Joined = q.was in cc
 
+-- a step that stays in its phase asks nothing of the line
+minds_same : (left after fresh : Grip) (phase : Phase) (line : Option HeldLine) → Minds (Splits left fresh phase) (Splits after fresh phase) line
+minds_same left after fresh (Filling true) line = tt
+minds_same left after fresh (Filling false) line = tt
+minds_same left after fresh Linked line = tt
+minds_same left after fresh Parted line = tt
+
 -- a step that keeps what is known and owed of prevs
 deals_on : (left fresh left' fresh' : Grip) (phase phase' : Phase) (d : Debt) → (phase ≡ Filling true → phase' ≡ Linked → ⊥)
     → IfSome d.known (λ k. HoldsNode (Splits left' fresh' phase') k.0) → IfSome d.owes (HoldsNode (Splits left' fresh' phase')) → Deals (Splits left fresh phase) (Splits left' fresh' phase') d d
 deals_on left fresh left' fresh' phase phase' d never known owes =
     keeps (no_switch left fresh left' fresh' phase phase' never) (no_join left fresh phase (Splits left' fresh' phase')) (λ q. absurd (no_retire left fresh phase (Splits left' fresh' phase') q)) known owes
-
--- with the word in hand durable one word fewer isn't
-pub shrinks : (most from to : ℕ) → to ≡ from + 1 → Cleans ((from, most - from) ∷ []) from ((to, most - to) ∷ [])
-shrinks most from to is offset (inr none) = absurd none
-shrinks most from to is offset (inl within) =
-    let low : from ≤ offset = within.0 in
-    let high : offset < from + (most - from) = within.1 in
-    elim (cases_eq offset from) [
-      | inl same ↦ inl same
-      | inr other ↦ inr (inl (omega arith, omega arith))
-    ]
-
-pub vanishes : (most from : ℕ) → most ≤ from + 1 → Cleans ((from, most - from) ∷ []) from []
-vanishes most from last offset (inr none) = absurd none
-vanishes most from last offset (inl within) =
-    let low : from ≤ offset = within.0 in
-    let high : offset < from + (most - from) = within.1 in
-    inl (omega arith)
-
--- a line that is being opened is of its caller, and isn't READY
-opened_is : (line : ℕ) (entry : Entry) (at : OpenAt)
-    → ((open_at_held line entry at).caller ≡ caller_of line) × ((open_at_held line entry at).number ≡ index_of line)
-    × ((open_at_held line entry at).ready ≡ false)
-opened_is line entry (open_at.Field zero) = (refl, refl, refl)
-opened_is line entry (open_at.Field (suc n)) = (refl, refl, refl)
-opened_is line entry (open_at.FenceFields fence) = (refl, refl, refl)
-opened_is line entry open_at.State = (refl, refl, refl)
-opened_is line entry (open_at.FenceState fence) = (refl, refl, refl)
-
-pub open_caller : (line : ℕ) (entry : Entry) (at : OpenAt) → (open_at_held line entry at).caller ≡ caller_of line
-open_caller line entry at = (opened_is line entry at).0
-
-pub open_number : (line : ℕ) (entry : Entry) (at : OpenAt) → (open_at_held line entry at).number ≡ index_of line
-open_number line entry at = (opened_is line entry at).1
-
-pub open_unready : (line : ℕ) (entry : Entry) (at : OpenAt) → (open_at_held line entry at).ready ≡ false
-open_unready line entry at = (opened_is line entry at).2
-
--- one that is made READY is of its number
-pub ready_number : (line : ℕ) (entry : Entry) (at : ReadyAt) → (ready_at_held line entry at).number ≡ index_of line
-ready_number line entry ready_at.State = refl
-ready_number line entry (ready_at.Fence fence) = refl
-
-pub no_ready : {b : Bool} → b ≡ false → b ≡ true → ⊥
-no_ready unready ready = let no : false ≡ true = sym unready ∙ ready in cc
-
--- by the store of READY the stage asks what it asks of the OPEN line
-pub ready_waits : (stage : Stage) (line : ℕ) (entry : Entry) (at : ReadyAt) (after : HeldLine)
-    → ((n : ℕ) → IsSwitched stage n → ⊥) × (((s : Spot) → Tells (open_line line entry).seen s → s kind_offset ≢ merge_kind) ⊎ IsRetired stage (open_line line entry))
-    → Waits stage (Some (ready_at_held line entry at)) (Some after)
-ready_waits stage line entry ready_at.State after what = λ unready ready. what
-ready_waits stage line entry (ready_at.Fence fence) after what = λ unready ready. absurd (no_ready unready refl)
-
-pub ready_caller : (line : ℕ) (entry : Entry) (at : ReadyAt) → (ready_at_held line entry at).caller ≡ caller_of line
-ready_caller line entry ready_at.State = refl
-ready_caller line entry (ready_at.Fence fence) = refl
 
 module _ (move : Move) (sound : IsMove move) (g : ℕ) (known : Known) (cuts : Cuts move.plan known) where
   abbrev plan : Plan
@@ -141,27 +91,14 @@ module _ (move : Move) (sound : IsMove move) (g : ℕ) (known : Known) (cuts : C
   abbrev l : Layout
   l = plan.layout
 
-  abbrev c : ℕ
-  c = caller_of plan.line
-
   abbrev Leads_to : Footing → Action → ℕ → Turn Move (Unit {0}) → Type 0
   Leads_to = Moves g plan known
 
   abbrev footing : MoveAt → Footing
   footing at = record { stage = move_at_stage plan known at; line = move_at_line plan at; debt = move_at_debt plan at }
 
-  on : (before : Footing) (action : Action) (x : ℕ) (at : MoveAt) → SparingStep l g c before action x (footing at) None → IsMoveAt plan at → Leads_to before action x (moves_on move at)
+  on : (before : Footing) (action : Action) (x : ℕ) (at : MoveAt) → SparingStep l g (caller_of plan.line) before action x (footing at) None → IsMoveAt plan at → Leads_to before action x (moves_on move at)
   on before action x at step here = (step, record { plan = sound.plan; here = here }, refl)
-
-  -- a step on its line
-  line_step : {stage : Stage} {e : HeldLine} {after : Option HeldLine} {debt : Debt} {a : Action} {x : ℕ} → Waits stage (Some e) after → counted stage ≡ None → Notes l (Some e) a x after
-      → (e.caller ≡ c) × (e.number ≡ index_of plan.line) → IfSome after (λ d. d.caller ≡ c)
-      → SparingStep l g c (record { stage = stage; line = Some e; debt = debt }) a x (record { stage = stage; line = after; debt = debt }) None
-  line_step {e = e} {after = after} {a = a} {x = x} waits none note own after_own =
-      let low = caller_within plan.line l.callers sound.plan.line in
-      let index = index_within plan.line in
-      let here : (e.caller < l.callers) × (e.number < 8) = (let is = own.0 in omega arith, let is = own.1 in omega arith) in
-      on_line waits none here note after_own
 
   sizes : (2 ≤ moved_in plan) × (moved_in plan ≤ 32) × (filled_end plan ≤ 16 + 4 * l.slots) × (print_count plan ≤ 8)
   sizes = let low : 4 ≤ l.slots = sound.plan.layout.slots.0 in let high : l.slots ≤ 64 = sound.plan.layout.slots.1 in
@@ -299,61 +236,37 @@ module _ (move : Move) (sound : IsMove move) (g : ℕ) (known : Known) (cuts : C
 
   at_fence_fresh : (first : ℕ) (fence : Fence) (x : ℕ) → first < filled_end plan → first % 8 ≡ 0 → IsFence fence → x < 2 ^ 64
       → Leads_to (footing (at.FenceFresh first fence)) (fence_asks (word_address l plan.fresh (first + fence.word)) fence) x (moves_on move (after_fence plan first (fence_next fence x)))
-  at_fence_fresh first fence x inside whole is fits = leads fence.at is.value
+  at_fence_fresh first fence x inside whole is fits =
+      each_turn_of (filled_end plan) first (λ word. word_address l plan.fresh (first + word)) (after_fence plan first) (at.FenceFresh (first + 8) fence_start) (at.Open (record { layout = plan.layout; line = plan.line; entry = entry_in plan; at = open_at.Field kind_offset }))
+      (λ before action to. Leads_to (footing (at.FenceFresh first before)) action x (moves_on move to)) fence x is fits refl
+      (λ word small. on (before word fence_at.Load) (Load (word_address l plan.fresh (first + word))) x (at.FenceFresh first (record { word = word; at = fence_at.Drain x }))
+      (on_nodes tt (inl refl) (splits (glances_fresh (within word small))) (deals_fencing (rest word) (rest word) None (Some (first + word, x)))) (inside, whole, record { word = small; value = fits }))
+      (λ word y more value cleans. on (before word (fence_at.Drain y)) (Drain (word_address l plan.fresh (first + word)) y) x (at.FenceFresh first (record { word = word + 1; at = fence_at.Load }))
+      (on_nodes tt (inl refl) (splits (drains_fresh (within word (omega arith)) value refl cleans)) (deals_fencing (rest word) (rest (word + 1)) (Some (first + word, y)) None)) (inside, whole, record { word = more; value = tt }))
+      (λ word y small value another cleans. on (before word (fence_at.Drain y)) (Drain (word_address l plan.fresh (first + word)) y) x (at.FenceFresh (first + 8) fence_start)
+      (on_nodes tt (inl refl) (splits (drains_fresh (within word small) value refl cleans)) (deals_fencing (rest word) ((first + 8 + 0, filled_end plan - (first + 8 + 0)) ∷ []) (Some (first + word, y)) None))
+      (another, omega arith, record { word = omega arith; value = tt }))
+      (λ word y small value cleans. on (before word (fence_at.Drain y)) (Drain (word_address l plan.fresh (first + word)) y) x (at.Open (record { layout = plan.layout; line = plan.line; entry = entry_in plan; at = open_at.Field kind_offset }))
+      (on_nodes tt (inl refl) (splits (drains_fresh (within word small) value refl cleans)) (deals_fencing (rest word) [] (Some (first + word, y)) None)) (open_is, refl, refl, refl))
     where
-      from : ℕ
-      from = first + fence.word
+      before : ℕ → FenceAt → Footing
+      before word k = footing (at.FenceFresh first (record { word = word; at = k }))
 
-      within : first + fence.word < 16 + 4 * l.slots
-      within =
-          let word : fence.word < 8 = is.word in
+      -- the words that may not be durable yet
+      rest : ℕ → List (ℕ × ℕ)
+      rest word = (first + word, filled_end plan - (first + word)) ∷ []
+
+      within : (word : ℕ) → word < 8 → HasWordAt l plan.fresh (first + word)
+      within word small =
           let even : l.slots % 2 ≡ 0 = sound.plan.layout.slots.2 in
           let low : 4 ≤ l.slots = sound.plan.layout.slots.0 in
-          omega arith
-
-      leads : (k : FenceAt) → IsFenceAt k → Leads_to (footing (at.FenceFresh first (record fence { at = k }))) (fence_at_asks (word_address l plan.fresh (first + fence.word)) k) x (moves_on move (after_fence plan first (fence_at_next fence k x)))
-      leads fence_at.Load value = on (footing (at.FenceFresh first (record fence { at = fence_at.Load }))) (fence_at_asks (word_address l plan.fresh (first + fence.word)) fence_at.Load) x
-          (at.FenceFresh first (record fence { at = fence_at.Drain x }))
-          (on_nodes tt (inl refl) (splits (glances_fresh (sound.plan.fresh, within)))
-          (deals_fencing ((first + fence.word, filled_end plan - (first + fence.word)) ∷ []) ((first + fence.word, filled_end plan - (first + fence.word)) ∷ []) None (Some (first + fence.word, x))))
-          (inside, whole, record { word = is.word; value = fits })
-      leads (fence_at.Drain y) value =
-          let before = footing (at.FenceFresh first (record fence { at = fence_at.Drain y })) in
-          let action = fence_at_asks (word_address l plan.fresh (first + fence.word)) (fence_at.Drain y) in
-          elim (ltb (fence.word + 1) 8) as (λ b. ltb (fence.word + 1) 8 ≡ b → Leads_to before action x
-          (moves_on move (after_fence plan first (cond b (Some (record { word = fence.word + 1; at = fence_at.Load })) None)))) [
-            | true ↦ λ more. on before action x (at.FenceFresh first (record { word = fence.word + 1; at = fence_at.Load }))
-                (on_nodes tt (inl refl) (splits (drains_fresh (sound.plan.fresh, within) value refl (shrinks (filled_end plan) (first + fence.word) (first + (fence.word + 1)) (omega arith))))
-                (deals_fencing ((first + fence.word, filled_end plan - (first + fence.word)) ∷ []) ((first + (fence.word + 1), filled_end plan - (first + (fence.word + 1))) ∷ []) (Some (first + fence.word, y)) None))
-                (inside, whole, record { word = ltb-true _ _ more; value = tt })
-            | false ↦ λ last.
-                let end : fence.word ≡ 7 = (let low : fence.word < 8 = is.word in let high : 8 ≤ fence.word + 1 = ltb-false _ _ last in omega arith) in
-                elim (ltb (first + 8) (filled_end plan)) as (λ b. ltb (first + 8) (filled_end plan) ≡ b → Leads_to before action x
-                (moves_on move (cond b (at.FenceFresh (first + 8) fence_start) (at.Open (record { layout = plan.layout; line = plan.line; entry = entry_in plan; at = open_at.Field kind_offset }))))) [
-                  | true ↦ λ another. on before action x (at.FenceFresh (first + 8) fence_start)
-                      (on_nodes tt (inl refl) (splits (drains_fresh (sound.plan.fresh, within) value refl (shrinks (filled_end plan) (first + fence.word) (first + 8 + 0) (omega arith))))
-                      (deals_fencing ((first + fence.word, filled_end plan - (first + fence.word)) ∷ []) ((first + 8 + 0, filled_end plan - (first + 8 + 0)) ∷ []) (Some (first + fence.word, y)) None))
-                      (ltb-true _ _ another, omega arith, record { word = omega arith; value = tt })
-                  | false ↦ λ all. on before action x (at.Open (record { layout = plan.layout; line = plan.line; entry = entry_in plan; at = open_at.Field kind_offset }))
-                      (on_nodes tt (inl refl) (splits (drains_fresh (sound.plan.fresh, within) value refl (vanishes (filled_end plan) (first + fence.word) (let past : filled_end plan ≤ first + 8 = ltb-false _ _ all in omega arith))))
-                      (deals_fencing ((first + fence.word, filled_end plan - (first + fence.word)) ∷ []) [] (Some (first + fence.word, y)) None))
-                      (open_is, refl, refl, refl)
-                ] refl
-          ] refl
+          (sound.plan.fresh, omega arith)
 
   at_open : (machine : Open) (x : ℕ) → IsOpen machine → machine.layout ≡ l → machine.line ≡ plan.line → machine.entry ≡ entry_in plan → x < 2 ^ 64
       → Leads_to (footing (at.Open machine)) (open_asks machine) x (opened move (open_turned machine x))
-  at_open machine x is layout line entry fits = after (open_turned machine x) (opens_are_notes machine x is fits)
-    where
-      noted : (at : Option HeldLine) → Notes machine.layout (Some (open_held machine)) (open_asks machine) x at → Notes l (Some (open_held machine)) (open_asks machine) x at
-      noted at note = subst (λ k. Notes k (Some (open_held machine)) (open_asks machine) x at) layout note
-
-      after : (turn : Turn Open (Unit {0})) → OpenNotes machine.layout machine.line machine.entry (open_held machine) (open_asks machine) x turn → Leads_to (footing (at.Open machine)) (open_asks machine) x (opened move turn)
-      after (Go next) note = on (footing (at.Open machine)) (open_asks machine) x (at.Open next)
-          (line_step (λ unready ready. absurd (no_ready (open_unready next.line next.entry next.at) ready)) refl (noted (Some (open_held next)) note.0) (open_caller machine.line machine.entry machine.at ∙ ap caller_of line, open_number machine.line machine.entry machine.at ∙ ap index_of line) (open_caller next.line next.entry next.at ∙ ap caller_of (note.3 ∙ line)))
-          (note.1, note.2 ∙ layout, note.3 ∙ line, note.4 ∙ entry)
-      after (Done answer) note = on (footing (at.Open machine)) (open_asks machine) x at.Prev
-          (line_step (λ unready ready. absurd (no_ready refl ready)) refl (subst (λ (p : ℕ × Entry). Notes l (Some (open_held machine)) (open_asks machine) x (Some (open_line p.0 p.1))) (λ k. (line k, entry k)) (noted (Some (open_line machine.line machine.entry)) note)) (open_caller machine.line machine.entry machine.at ∙ ap caller_of line, open_number machine.line machine.entry machine.at ∙ ap index_of line) refl) tt
+  at_open machine x is layout line entry fits =
+      opens_lead l g (filled plan known false) no_debt plan.line (entry_in plan) refl (λ turn. Leads_to (footing (at.Open machine)) (open_asks machine) x (opened move turn)) machine x is layout line entry fits
+      (λ next step here. on (footing (at.Open machine)) (open_asks machine) x (at.Open next) step here) (λ step nothing. on (footing (at.Open machine)) (open_asks machine) x at.Prev step tt)
 
   at_prev : (x : ℕ) → Leads_to (footing at.Prev) (move_at_asks plan at.Prev) x (moves_on move at.Light)
   at_prev x = on (footing at.Prev) (move_at_asks plan at.Prev) x at.Light (on_prev refl sound.plan.fresh (let low = sound.plan.node in let most : l.nodes ≤ 4096 = sound.plan.layout.nodes.1 in omega arith) names) tt
@@ -416,88 +329,68 @@ module _ (move : Move) (sound : IsMove move) (g : ℕ) (known : Known) (cuts : C
   has_left : (word : ℕ) → word < 8 → HasWordAt l plan.node word
   has_left word small = (sound.plan.node, omega arith)
 
+  abbrev linked_on : List (ℕ × ℕ) → List (ℕ × ℕ) → Option (ℕ × ℕ) → Phase → Debt → Footing
+  linked_on seen dirty hand phase d = record { stage = linked plan known seen dirty hand phase; line = Some (open_line plan.line (entry_in plan)); debt = d }
+
+  at_fence_left : (to : Option Fence → MoveAt) (seen : List (ℕ × ℕ)) (phase : Phase) (d : Debt) (fence : Fence) (x : ℕ) → IsFence fence → x < 2 ^ 64 → (phase ≡ Filling true → phase ≡ Linked → ⊥)
+      → IfSome d.known (λ k. HoldsNode (Splits (grip seen [] None) fresh_grip phase) k.0) → IfSome d.owes (HoldsNode (Splits (grip seen [] None) fresh_grip phase))
+      → ((f : Fence) → footing (to (Some f)) ≡ linked_on seen ((f.word, 8 - f.word) ∷ []) (hand_of f.word f.at) phase d) → ((f : Fence) → IsFence f → IsMoveAt plan (to (Some f)))
+      → ((word y : ℕ) → word + 1 ≡ 8 → y < 2 ^ 64 → Leads_to (linked_on seen ((word, 8 - word) ∷ []) (Some (word, y)) phase d) (Drain (word_address l plan.node word) y) x (moves_on move (to None)))
+      → Leads_to (footing (to (Some fence))) (fence_asks (word_address l plan.node fence.word) fence) x (moves_on move (to (fence_next fence x)))
+  at_fence_left to seen phase d fence x is fits never knows owes same here last =
+      each_turn (word_address l plan.node) (λ before action next. Leads_to (footing (to (Some before))) action x (moves_on move (to next))) fence x is fits
+      (λ word small. goes (record { word = word; at = fence_at.Load }) (record { word = word; at = fence_at.Drain x }) (Load (word_address l plan.node word))
+      (splits (glances_left (has_left word small) (λ s told e. told))) (record { word = small; value = fits }))
+      (λ word y more value. goes (record { word = word; at = fence_at.Drain y }) (record { word = word + 1; at = fence_at.Load }) (Drain (word_address l plan.node word) y)
+      (splits (drains_left (has_left word (omega arith)) value refl (shrinks 8 word (word + 1) refl))) (record { word = more; value = tt }))
+      (λ word y end value. subst (λ before. Leads_to before (Drain (word_address l plan.node word) y) x (moves_on move (to None))) (sym (same (record { word = word; at = fence_at.Drain y }))) (last word y end value))
+    where
+      goes : (before after : Fence) (action : Action)
+          → Step l g (linked plan known seen ((before.word, 8 - before.word) ∷ []) (hand_of before.word before.at) phase) action x (linked plan known seen ((after.word, 8 - after.word) ∷ []) (hand_of after.word after.at) phase) None
+          → IsFence after → Leads_to (footing (to (Some before))) action x (moves_on move (to (Some after)))
+      goes before after action step there = on (footing (to (Some before))) action x (to (Some after))
+          (subst (λ (p : Footing × Footing). SparingStep l g (caller_of plan.line) p.0 action x p.1 None) (λ i. (sym (same before) i, sym (same after) i))
+          (on_nodes (minds_same (grip seen ((before.word, 8 - before.word) ∷ []) (hand_of before.word before.at)) (grip seen ((after.word, 8 - after.word) ∷ []) (hand_of after.word after.at)) fresh_grip phase (Some (open_line plan.line (entry_in plan)))) (inl refl) step
+          (deals_left seen ((before.word, 8 - before.word) ∷ []) ((after.word, 8 - after.word) ∷ []) (hand_of before.word before.at) (hand_of after.word after.at) phase d never knows owes))) (here after there)
+
   at_fence_switch : (fence : Fence) (x : ℕ) → IsFence fence → x < 2 ^ 64
       → Leads_to (footing (at.FenceSwitch fence)) (fence_asks (word_address l plan.node fence.word) fence) x (moves_on move (after_switch plan (fence_next fence x)))
-  at_fence_switch fence x is fits = leads fence.at is.value
-    where
-      leads : (k : FenceAt) → IsFenceAt k → Leads_to (footing (at.FenceSwitch (record fence { at = k }))) (fence_at_asks (word_address l plan.node fence.word) k) x (moves_on move (after_switch plan (fence_at_next fence k x)))
-      leads fence_at.Load value = on (footing (at.FenceSwitch (record fence { at = fence_at.Load }))) (fence_at_asks (word_address l plan.node fence.word) fence_at.Load) x
-          (at.FenceSwitch (record fence { at = fence_at.Drain x }))
-          (on_nodes tt (inl refl) (splits (glances_left (has_left fence.word is.word) (λ s told e. told)))
-          (deals_left known.linked ((fence.word, 8 - fence.word) ∷ []) ((fence.word, 8 - fence.word) ∷ []) None (Some (fence.word, x)) Linked (owes_prev plan) (λ e e'. cc) tt (inr refl)))
-          (record { word = is.word; value = fits })
-      leads (fence_at.Drain y) value =
-          let before = footing (at.FenceSwitch (record fence { at = fence_at.Drain y })) in
-          let action = fence_at_asks (word_address l plan.node fence.word) (fence_at.Drain y) in
-          elim (ltb (fence.word + 1) 8) as (λ b. ltb (fence.word + 1) 8 ≡ b → Leads_to before action x
-          (moves_on move (after_switch plan (cond b (Some (record { word = fence.word + 1; at = fence_at.Load })) None)))) [
-            | true ↦ λ more. on before action x (at.FenceSwitch (record { word = fence.word + 1; at = fence_at.Load }))
-                (on_nodes tt (inl refl) (splits (drains_left (has_left fence.word is.word) value refl (shrinks 8 fence.word (fence.word + 1) refl)))
-                (deals_left known.linked ((fence.word, 8 - fence.word) ∷ []) ((fence.word + 1, 8 - (fence.word + 1)) ∷ []) (Some (fence.word, y)) None Linked (owes_prev plan) (λ e e'. cc) tt (inr refl)))
-                (record { word = ltb-true _ _ more; value = tt })
-            | false ↦ λ last.
-                let gone = vanishes 8 fence.word (ltb-false _ _ last) in
-                elim (next_in plan == 0) as (λ b. (next_in plan == 0) ≡ b → Leads_to before action x (moves_on move (cond b at.Trim at.NextPrev))) [
-                  | true ↦ λ none. on before action x at.Trim
-                      (on_nodes tt (inl refl) (splits (drains_left (has_left fence.word is.word) value refl gone))
-                      (ends {n = plan.fresh}
-                      (no_switch (grip known.linked ((fence.word, 8 - fence.word) ∷ []) (Some (fence.word, y))) fresh_grip (grip known.linked [] None) fresh_grip Linked Linked (λ e e'. cc))
-                      (no_join (grip known.linked ((fence.word, 8 - fence.word) ∷ []) (Some (fence.word, y))) fresh_grip Linked (Splits (grip known.linked [] None) fresh_grip Linked))
-                      (no_retire (grip known.linked ((fence.word, 8 - fence.word) ∷ []) (Some (fence.word, y))) fresh_grip Linked (Splits (grip known.linked [] None) fresh_grip Linked))
-                      refl (refl, λ s told. told.0 ∙ eqb-true (next_in plan) 0 none))) tt
-                  | false ↦ λ some. on before action x at.NextPrev
-                      (on_nodes tt (inl refl) (splits (drains_left (has_left fence.word is.word) value refl gone))
-                      (deals_left known.linked ((fence.word, 8 - fence.word) ∷ []) [] (Some (fence.word, y)) None Linked (owes_prev plan) (λ e e'. cc) tt (inr refl)))
-                      (eqb-false (next_in plan) 0 some)
-                ] refl
-          ] refl
+  at_fence_switch fence x is fits =
+      at_fence_left (after_switch plan) known.linked Linked (owes_prev plan) fence x is fits (λ e e'. cc) tt (inr refl) (λ f. refl) (λ f here. here)
+      (λ word y end value.
+      let gone = vanishes 8 word (omega arith) in
+      let before = linked_on known.linked ((word, 8 - word) ∷ []) (Some (word, y)) Linked (owes_prev plan) in
+      let action = Drain (word_address l plan.node word) y in
+      elim (next_in plan == 0) as (λ b. (next_in plan == 0) ≡ b → Leads_to before action x (moves_on move (cond b at.Trim at.NextPrev))) [
+        | true ↦ λ none. on before action x at.Trim
+            (on_nodes tt (inl refl) (splits (drains_left (has_left word (omega arith)) value refl gone))
+            (ends {n = plan.fresh}
+            (no_switch (grip known.linked ((word, 8 - word) ∷ []) (Some (word, y))) fresh_grip (grip known.linked [] None) fresh_grip Linked Linked (λ e e'. cc))
+            (no_join (grip known.linked ((word, 8 - word) ∷ []) (Some (word, y))) fresh_grip Linked (Splits (grip known.linked [] None) fresh_grip Linked))
+            (no_retire (grip known.linked ((word, 8 - word) ∷ []) (Some (word, y))) fresh_grip Linked (Splits (grip known.linked [] None) fresh_grip Linked))
+            refl (refl, λ s told. told.0 ∙ eqb-true (next_in plan) 0 none))) tt
+        | false ↦ λ some. on before action x at.NextPrev
+            (on_nodes tt (inl refl) (splits (drains_left (has_left word (omega arith)) value refl gone))
+            (deals_left known.linked ((word, 8 - word) ∷ []) [] (Some (word, y)) None Linked (owes_prev plan) (λ e e'. cc) tt (inr refl)))
+            (eqb-false (next_in plan) 0 some)
+      ] refl)
 
   at_fence_trim : (fence : Fence) (x : ℕ) → IsFence fence → x < 2 ^ 64
       → Leads_to (footing (at.FenceTrim fence)) (fence_asks (word_address l plan.node fence.word) fence) x (moves_on move (after_trim plan (fence_next fence x)))
-  at_fence_trim fence x is fits = leads fence.at is.value
-    where
-      leads : (k : FenceAt) → IsFenceAt k → Leads_to (footing (at.FenceTrim (record fence { at = k }))) (fence_at_asks (word_address l plan.node fence.word) k) x (moves_on move (after_trim plan (fence_at_next fence k x)))
-      leads fence_at.Load value = on (footing (at.FenceTrim (record fence { at = fence_at.Load }))) (fence_at_asks (word_address l plan.node fence.word) fence_at.Load) x
-          (at.FenceTrim (record fence { at = fence_at.Drain x }))
-          (on_nodes tt (inl refl) (splits (glances_left (has_left fence.word is.word) (λ s told e. told)))
-          (deals_left [] ((fence.word, 8 - fence.word) ∷ []) ((fence.word, 8 - fence.word) ∷ []) None (Some (fence.word, x)) Parted no_debt (λ e e'. cc) tt tt))
-          (record { word = is.word; value = fits })
-      leads (fence_at.Drain y) value =
-          let before = footing (at.FenceTrim (record fence { at = fence_at.Drain y })) in
-          let action = fence_at_asks (word_address l plan.node fence.word) (fence_at.Drain y) in
-          elim (ltb (fence.word + 1) 8) as (λ b. ltb (fence.word + 1) 8 ≡ b → Leads_to before action x
-          (moves_on move (after_trim plan (cond b (Some (record { word = fence.word + 1; at = fence_at.Load })) None)))) [
-            | true ↦ λ more. on before action x (at.FenceTrim (record { word = fence.word + 1; at = fence_at.Load }))
-                (on_nodes tt (inl refl) (splits (drains_left (has_left fence.word is.word) value refl (shrinks 8 fence.word (fence.word + 1) refl)))
-                (deals_left [] ((fence.word, 8 - fence.word) ∷ []) ((fence.word + 1, 8 - (fence.word + 1)) ∷ []) (Some (fence.word, y)) None Parted no_debt (λ e e'. cc) tt tt))
-                (record { word = ltb-true _ _ more; value = tt })
-            | false ↦ λ last. on before action x (at.Ready (record { layout = plan.layout; line = plan.line; at = ready_at.State }))
-                (on_nodes tt (inl refl) (splits (drains_left (has_left fence.word is.word) value refl (vanishes 8 fence.word (ltb-false _ _ last))))
-                (deals_left [] ((fence.word, 8 - fence.word) ∷ []) [] (Some (fence.word, y)) None Parted no_debt (λ e e'. cc) tt tt))
-                (record { layout = sound.plan.layout; line = sound.plan.line; here = tt }, refl, refl)
-          ] refl
+  at_fence_trim fence x is fits =
+      at_fence_left (after_trim plan) [] Parted no_debt fence x is fits (λ e e'. cc) tt tt (λ f. refl) (λ f here. here)
+      (λ word y end value. on (linked_on [] ((word, 8 - word) ∷ []) (Some (word, y)) Parted no_debt) (Drain (word_address l plan.node word) y) x (at.Ready (record { layout = plan.layout; line = plan.line; at = ready_at.State }))
+      (on_nodes tt (inl refl) (splits (drains_left (has_left word (omega arith)) value refl (vanishes 8 word (omega arith)))) (deals_left [] ((word, 8 - word) ∷ []) [] (Some (word, y)) None Parted no_debt (λ e e'. cc) tt tt))
+      (record { layout = sound.plan.layout; line = sound.plan.line; here = tt }, refl, refl))
 
+  -- the switch is durable, and it is the line of a split
   at_ready : (ready : Ready) (x : ℕ) → IsReady ready → ready.layout ≡ l → ready.line ≡ plan.line → x < 2 ^ 64
       → Leads_to (footing (at.Ready ready)) (ready_asks ready) x (readied move (ready_turned ready x))
-  at_ready ready x is layout line fits = after (ready_turned ready x) (readies_are_notes ready (entry_in plan) x is fits)
-    where
-      noted : (at : Option HeldLine) → Notes ready.layout (Some (ready_held (entry_in plan) ready)) (ready_asks ready) x at → Notes l (Some (ready_held (entry_in plan) ready)) (ready_asks ready) x at
-      noted at note = subst (λ k. Notes k (Some (ready_held (entry_in plan) ready)) (ready_asks ready) x at) layout note
-
-      -- the switch is durable, and it is the line of a split
-      waits : (next : HeldLine) → Waits (linked plan known [] [] None Parted) (Some (ready_held (entry_in plan) ready)) (Some next)
-      waits next = ready_waits (linked plan known [] [] None Parted) ready.line (entry_in plan) ready.at next
-          (λ n none. none, inl (λ s told two. let one : s kind_offset ≡ split_kind = told.1.1.1.1.1.1.1.0 in omega arith))
-
-      after : (turn : Turn Ready (Unit {0})) → ReadyNotes ready.layout ready.line (entry_in plan) (ready_held (entry_in plan) ready) (ready_asks ready) x turn → Leads_to (footing (at.Ready ready)) (ready_asks ready) x (readied move turn)
-      after (Go next) note = on (footing (at.Ready ready)) (ready_asks ready) x (at.Ready next)
-          (line_step (waits (ready_held (entry_in plan) next)) refl (noted (Some (ready_held (entry_in plan) next)) note.0) (ready_caller ready.line (entry_in plan) ready.at ∙ ap caller_of line, ready_number ready.line (entry_in plan) ready.at ∙ ap index_of line) (ready_caller next.line (entry_in plan) next.at ∙ ap caller_of (note.3 ∙ line)))
-          (note.1, note.2 ∙ layout, note.3 ∙ line)
-      after (Done answer) note =
-          on (footing (at.Ready ready)) (ready_asks ready) x at.UnlockFresh
-          (line_step (waits (ready_line plan.line (entry_in plan))) refl
-          (subst (λ k. Notes l (Some (ready_held (entry_in plan) ready)) (ready_asks ready) x (Some (ready_line k (entry_in plan)))) line (noted (Some (ready_line ready.line (entry_in plan))) note))
-          (ready_caller ready.line (entry_in plan) ready.at ∙ ap caller_of line, ready_number ready.line (entry_in plan) ready.at ∙ ap index_of line) refl) tt
+  at_ready ready x is layout line fits =
+      readies_lead l g (linked plan known [] [] None Parted) no_debt plan.line (entry_in plan) refl
+      (λ n none. none, inl (λ s told two. let one : s kind_offset ≡ split_kind = told.1.1.1.1.1.1.1.0 in omega arith))
+      (λ turn. Leads_to (footing (at.Ready ready)) (ready_asks ready) x (readied move turn)) ready x is layout line fits
+      (λ next step here. on (footing (at.Ready ready)) (ready_asks ready) x (at.Ready next) step here) (λ step nothing. on (footing (at.Ready ready)) (ready_asks ready) x at.UnlockFresh step tt)
 
   move_leads : (at : MoveAt) (x : ℕ) → IsMoveAt plan at → x < 2 ^ 64 → Leads_to (footing at) (move_at_asks plan at) x (move_at_turned move at x)
   move_leads (at.Slot word) x here fits = at_slot word x here

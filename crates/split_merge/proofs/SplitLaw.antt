@@ -55,7 +55,8 @@ use Rattle.split_merge.specs.SplitStages.{bitmap_in, led, read_seen, read_grip, 
 use Rattle.split_merge.specs.Laws.{Moves}
 use Rattle.split_merge.specs.SplitLaws.{PlansCut, MayBegin, SplitsSo, SplitStays, SplitsAreSteps}
 use Rattle.split_merge.proofs.CutLaw.{told_at, told_past, tells_row, full_told, plan_cuts}
-use Rattle.split_merge.proofs.MoveLaw.{no_ready, moves_are_steps}
+use Rattle.split_merge.proofs.LineSteps.{no_ready}
+use Rattle.split_merge.proofs.MoveLaw.{moves_are_steps}
 use Rattle.split_merge.proofs.SplitStaying.{first_next, plan_is, plan_of_is, splits_stay}
 
 -- a stage from which no list is switched

@@ -20,7 +20,7 @@ use Rattle.split_merge.specs.declared.moving.MoveAt.{MoveAt}
 use Rattle.split_merge.specs.declared.moving.MoveAt.TheVariants as at
 use Rattle.split_merge.specs.Plans.{next_in, entry_in}
 use Rattle.split_merge.specs.Moves.{slot_count, print_count, filled_end, after_slot, after_print, after_anchor, after_fence, after_switch, after_trim, moves_on, opened, readied, move_at_turned, move_turned, IsMove, IsMoveAt}
-use Rattle.split_merge.proofs.FenceTurns.{fence_goes}
+use Rattle.split_merge.proofs.FenceTurns.{fence_goes, line_ends}
 
 module _ (move : Move) (sound : IsMove move) where
   abbrev plan : Plan
@@ -64,12 +64,9 @@ module _ (move : Move) (sound : IsMove move) where
   at_fence_fresh first fence x inside whole is fits =
       fence_goes (λ (next : Option Fence). Stays (moves_on move (after_fence plan first next))) fence x is
       (λ next fewer holds. on (at.FenceFresh first next) (inside, whole, holds fits))
-      (λ some.
-      elim (ltb (first + 8) (filled_end plan)) as (λ b. ltb (first + 8) (filled_end plan) ≡ b → Stays
-      (moves_on move (cond b (at.FenceFresh (first + 8) fence_start) (at.Open (record { layout = plan.layout; line = plan.line; entry = entry_in plan; at = open_at.Field kind_offset }))))) [
-        | true ↦ λ another. on (at.FenceFresh (first + 8) fence_start) (ltb-true _ _ another, omega arith, starts)
-        | false ↦ λ all. on (at.Open (record { layout = plan.layout; line = plan.line; entry = entry_in plan; at = open_at.Field kind_offset })) (open_is, refl, refl, refl)
-      ] refl)
+      (λ some. line_ends (filled_end plan) first (at.FenceFresh (first + 8) fence_start) (at.Open (record { layout = plan.layout; line = plan.line; entry = entry_in plan; at = open_at.Field kind_offset })) (λ to. Stays (moves_on move to))
+      (λ another. on (at.FenceFresh (first + 8) fence_start) (another, omega arith, starts))
+      (λ past. on (at.Open (record { layout = plan.layout; line = plan.line; entry = entry_in plan; at = open_at.Field kind_offset })) (open_is, refl, refl, refl)))
 
   at_open : (machine : Open) (x : ℕ) → IsOpen machine → machine.layout ≡ plan.layout → machine.line ≡ plan.line → machine.entry ≡ entry_in plan → x < 2 ^ 64
       → Stays (opened move (open_turned machine x))
