@@ -20,7 +20,7 @@ use Rattle.tree_change.specs.Others.{slot_count, slot_offset, entry_value, slot_
 use Rattle.tree_change.specs.Counts.{count_goes, count_turn, CountIsExact}
 use Rattle.tree_floor.specs.Telling.{answer_in}
 use Rattle.tree_change.proofs.CountStays.{others_end}
-use Rattle.tree_floor.proofs.Telling.{GoesOn, answers_right, made, answers_as}
+use Rattle.tree_floor.proofs.Telling.{GoesOn, answers_right, answers_as}
 
 -- what slots have of other children
 record Slots (count : ℕ) (value child told : ℕ → ℕ) (byte : ℕ) : Type 0 where
@@ -289,12 +289,8 @@ module _ (l : Layout) (cell byte : ℕ) (w : LayerWords) where
   abbrev make : Others → Count
   make s = record { layout = l; cell = cell; byte = byte; others = s }
 
-  as_made : (s : Others) (turn : Turn Others Counted) → count_goes (make s) turn ≡ made (count_turn w) scan_turn make turn
-  as_made s (Go next) = refl
-  as_made s (Done counted) = refl
-
   counts_as : (times : ℕ) → answer_in times (count_turn w) (make others_starts) ≡ answer_in times scan_turn others_starts
-  counts_as times = answers_as (count_turn w) scan_turn make (λ s. as_made s (scan_turn s)) times others_starts
+  counts_as times = answers_as (count_turn w) scan_turn make (λ s next is. ap (count_goes (make s)) is) (λ s counted is. ap (count_goes (make s)) is) times others_starts
 
 pub count_is_exact : CountIsExact
 count_is_exact l cell byte w times enough is small form =

@@ -21,7 +21,7 @@ use Rattle.tree_change.specs.declared.find_room.FindRoom.{FindRoom}
 use Rattle.tree_floor.specs.Telling.{answer_in}
 use Rattle.tree_change.specs.Rooms.{has_byte, places_start, places_offset, places_turned, places_left, IsPlaces, PlacesAfter, RoomsEnd, IsRoom, places_turn, RoomsAreExact}
 use Rattle.tree_change.specs.FindRooms.{find_room_goes, find_room_turned, find_room_takes, find_room_left, FindRoomAfter, FindRoomStays, find_room_turn, FindRoomIsExact}
-use Rattle.tree_floor.proofs.Telling.{GoesOn, answers_right, made, answers_as}
+use Rattle.tree_floor.proofs.Telling.{GoesOn, answers_right, answers_as}
 
 pub rooms_end : RoomsEnd
 rooms_end kind (places.Entry entry) got is =
@@ -139,12 +139,8 @@ module _ (l : Layout) (cell byte : ℕ) (w : LayerWords) where
   abbrev make : Places → FindRoom
   make s = record { layout = l; cell = cell; byte = byte; places = s }
 
-  as_made : (s : Places) (turn : Turn Places Room) → find_room_goes (make s) turn ≡ made (find_room_turn w) scan_turn make turn
-  as_made s (Go next) = refl
-  as_made s (Done room) = refl
-
   finds_as : (times : ℕ) (s : Places) → answer_in times (find_room_turn w) (make s) ≡ answer_in times scan_turn s
-  finds_as times s = answers_as (find_room_turn w) scan_turn make (λ p. as_made p (scan_turn p)) times s
+  finds_as times s = answers_as (find_room_turn w) scan_turn make (λ p next is. ap (find_room_goes (make p)) is) (λ p room is. ap (find_room_goes (make p)) is) times s
 
 pub find_room_is_exact : FindRoomIsExact
 find_room_is_exact l cell byte w times enough is most small form none =

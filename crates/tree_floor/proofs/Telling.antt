@@ -22,7 +22,7 @@ module _ {M A : Type 0} (turn : M → Turn M A) (Knows : M → Type 0) (left : M
 
 -- A machine that hands on the turns of its scan answers what that answers.
 module _ {M S A : Type 0} (turn : M → Turn M A) (scan : S → Turn S A) (make : S → M) where
-  abbrev pub made : Turn S A → Turn M A
+  abbrev made : Turn S A → Turn M A
   made (Go next) = Go (make next)
   made (Done answer) = Done answer
 
@@ -30,6 +30,11 @@ module _ {M S A : Type 0} (turn : M → Turn M A) (scan : S → Turn S A) (make 
   goes_as times inner (Go next) = inner next
   goes_as times inner (Done answer) = refl
 
-  pub answers_as : ((s : S) → turn (make s) ≡ made (scan s)) → (times : ℕ) (s : S) → answer_in times turn (make s) ≡ answer_in times scan s
-  answers_as same zero s = refl
-  answers_as same (suc times) s = ap (λ t. turn_answer t (answer_in times turn)) (same s) ∙ goes_as times (λ next. answers_as same times next) (scan s)
+  pub answers_as : ((s next : S) → scan s ≡ Go next → turn (make s) ≡ Go (make next)) → ((s : S) (answer : A) → scan s ≡ Done answer → turn (make s) ≡ Done answer) → (times : ℕ) (s : S)
+      → answer_in times turn (make s) ≡ answer_in times scan s
+  answers_as goes ends zero s = refl
+  answers_as goes ends (suc times) s = ap (λ t. turn_answer t (answer_in times turn)) (same (scan s) refl) ∙ goes_as times (λ next. answers_as goes ends times next) (scan s)
+    where
+      same : (t : Turn S A) → scan s ≡ t → turn (make s) ≡ made t
+      same (Go next) is = goes s next is
+      same (Done answer) is = ends s answer is
