@@ -25,16 +25,11 @@ enters-requires g c =
     (floor_is c.args.memory.now c.args.self.now at.Root
     (at_may c.args.memory.now c.args.self.now c.in-Root.is c.requires)).layout
 
-pub leaf_word-requires-clause-layout : goal.leaf_word-requires-clause-layout
-leaf_word-requires-clause-layout g c =
-    (floor_is c.args.memory.now c.args.self.now (at.Key c.in-Key-default-default-eq0.leaf c.in-Key-default-default-eq0.words 0)
-    (at_may c.args.memory.now c.args.self.now (at_key c.in-Key-default-default-eq0.is c.in-Key-default-default-eq0.word-is c.in-Key-default-default-eq0.word-test) c.requires)).layout
-
-pub leaf_word-requires-clause-range : goal.leaf_word-requires-clause-range
-leaf_word-requires-clause-range g c =
-    first_loads c.args.self.now (at.Key c.in-Key-default-default-eq0.leaf c.in-Key-default-default-eq0.words 0)
-    (floor_is c.args.memory.now c.args.self.now (at.Key c.in-Key-default-default-eq0.leaf c.in-Key-default-default-eq0.words 0)
-    (at_may c.args.memory.now c.args.self.now (at_key c.in-Key-default-default-eq0.is c.in-Key-default-default-eq0.word-is c.in-Key-default-default-eq0.word-test) c.requires))
+pub leaf_word-requires : goal.leaf_word-requires
+leaf_word-requires g c =
+    let is = floor_is c.args.memory.now c.args.self.now (at.Key c.in-Key-default-default-eq0.leaf c.in-Key-default-default-eq0.words 0)
+    (at_may c.args.memory.now c.args.self.now (at_key c.in-Key-default-default-eq0.is c.in-Key-default-default-eq0.word-is c.in-Key-default-default-eq0.word-test) c.requires) in
+    record { layout = is.layout; range = first_loads c.args.self.now (at.Key c.in-Key-default-default-eq0.leaf c.in-Key-default-default-eq0.words 0) is }
 
 pub loads_key-key-requires-clause-layout : goal.loads_key-key-requires-clause-layout
 loads_key-key-requires-clause-layout g c =
@@ -52,16 +47,10 @@ has_key-requires g c =
     (floor_is c.args.memory.now c.args.self.now (at.Key c.in-Key-default-default-eq0.leaf c.in-Key-default-default-eq0.words 0)
     (at_may c.args.memory.now c.args.self.now (at_key c.in-Key-default-default-eq0.is c.in-Key-default-default-eq0.word-is c.in-Key-default-default-eq0.word-test) c.requires)).layout
 
-pub leaf_word-word-requires-clause-layout : goal.leaf_word-word-requires-clause-layout
-leaf_word-word-requires-clause-layout g c =
-    (floor_is c.args.memory.now c.args.self.now (at.Node c.in-Node.leaf)
-    (at_may c.args.memory.now c.args.self.now c.in-Node.is c.requires)).layout
-
-pub leaf_word-word-requires-clause-range : goal.leaf_word-word-requires-clause-range
-leaf_word-word-requires-clause-range g c =
-    first_loads c.args.self.now (at.Node c.in-Node.leaf)
-    (floor_is c.args.memory.now c.args.self.now (at.Node c.in-Node.leaf)
-    (at_may c.args.memory.now c.args.self.now c.in-Node.is c.requires))
+pub leaf_word-word-requires : goal.leaf_word-word-requires
+leaf_word-word-requires g c =
+    let is = floor_is c.args.memory.now c.args.self.now (at.Node c.in-Node.leaf) (at_may c.args.memory.now c.args.self.now c.in-Node.is c.requires) in
+    record { layout = is.layout; range = first_loads c.args.self.now (at.Node c.in-Node.leaf) is }
 
 pub cached-requires-in-Node-clause-layout : goal.cached-requires-in-Node-clause-layout
 cached-requires-in-Node-clause-layout g c =

@@ -11,21 +11,10 @@ use Rattle.tree_floor.proofs.FloorReading.{floor_is, floor_can, load_bursts, at_
 use Rattle.tree_floor.proofs.FloorReading.{prefix_within, prefix_bursts}
 use Rattle.tree_floor.proofs.floor.Floor.reads_cell.Goals as goal
 
-pub word_of-word-requires-clause-layout : goal.word_of-word-requires-clause-layout
-word_of-word-requires-clause-layout g c =
-    (floor_is c.args.memory.now c.args.self.now (at.Depth c.in-Depth.cell)
-    (at_may c.args.memory.now c.args.self.now c.in-Depth.is c.requires)).layout
-
-pub word_of-word-requires-clause-cell : goal.word_of-word-requires-clause-cell
-word_of-word-requires-clause-cell g c =
-    (floor_is c.args.memory.now c.args.self.now (at.Depth c.in-Depth.cell)
-    (at_may c.args.memory.now c.args.self.now c.in-Depth.is c.requires)).here
-
-pub word_of-word-requires-clause-offset : goal.word_of-word-requires-clause-offset
-word_of-word-requires-clause-offset g c =
-    (first_loads c.args.self.now (at.Depth c.in-Depth.cell)
-    (floor_is c.args.memory.now c.args.self.now (at.Depth c.in-Depth.cell)
-    (at_may c.args.memory.now c.args.self.now c.in-Depth.is c.requires))).3
+pub word_of-word-requires : goal.word_of-word-requires
+word_of-word-requires g c =
+    let is = floor_is c.args.memory.now c.args.self.now (at.Depth c.in-Depth.cell) (at_may c.args.memory.now c.args.self.now c.in-Depth.is c.requires) in
+    record { layout = is.layout; cell = is.here; offset = (first_loads c.args.self.now (at.Depth c.in-Depth.cell) is).3 }
 
 pub cached-requires-clause-layout : goal.cached-requires-clause-layout
 cached-requires-clause-layout g c =
@@ -43,21 +32,11 @@ has_depth-requires g c =
     (floor_is c.args.memory.now c.args.self.now (at.Depth c.in-Depth.cell)
     (at_may c.args.memory.now c.args.self.now c.in-Depth.is c.requires)).here
 
-pub word_of-requires-clause-layout : goal.word_of-requires-clause-layout
-word_of-requires-clause-layout g c =
-    (floor_is c.args.memory.now c.args.self.now (at.Prefix c.in-Prefix-default-default-default-eq0.cell c.in-Prefix-default-default-default-eq0.depth c.in-Prefix-default-default-default-eq0.words 0)
-    (at_may c.args.memory.now c.args.self.now (at_prefix c.in-Prefix-default-default-default-eq0.is c.in-Prefix-default-default-default-eq0.word-is c.in-Prefix-default-default-default-eq0.word-test) c.requires)).layout
-
-pub word_of-requires-clause-cell : goal.word_of-requires-clause-cell
-word_of-requires-clause-cell g c =
-    (floor_is c.args.memory.now c.args.self.now (at.Prefix c.in-Prefix-default-default-default-eq0.cell c.in-Prefix-default-default-default-eq0.depth c.in-Prefix-default-default-default-eq0.words 0)
-    (at_may c.args.memory.now c.args.self.now (at_prefix c.in-Prefix-default-default-default-eq0.is c.in-Prefix-default-default-default-eq0.word-is c.in-Prefix-default-default-default-eq0.word-test) c.requires)).here.0
-
-pub word_of-requires-clause-offset : goal.word_of-requires-clause-offset
-word_of-requires-clause-offset g c =
-    (first_loads c.args.self.now (at.Prefix c.in-Prefix-default-default-default-eq0.cell c.in-Prefix-default-default-default-eq0.depth c.in-Prefix-default-default-default-eq0.words 0)
-    (floor_is c.args.memory.now c.args.self.now (at.Prefix c.in-Prefix-default-default-default-eq0.cell c.in-Prefix-default-default-default-eq0.depth c.in-Prefix-default-default-default-eq0.words 0)
-    (at_may c.args.memory.now c.args.self.now (at_prefix c.in-Prefix-default-default-default-eq0.is c.in-Prefix-default-default-default-eq0.word-is c.in-Prefix-default-default-default-eq0.word-test) c.requires))).3
+pub word_of-requires : goal.word_of-requires
+word_of-requires g c =
+    let is = floor_is c.args.memory.now c.args.self.now (at.Prefix c.in-Prefix-default-default-default-eq0.cell c.in-Prefix-default-default-default-eq0.depth c.in-Prefix-default-default-default-eq0.words 0)
+    (at_may c.args.memory.now c.args.self.now (at_prefix c.in-Prefix-default-default-default-eq0.is c.in-Prefix-default-default-default-eq0.word-is c.in-Prefix-default-default-default-eq0.word-test) c.requires) in
+    record { layout = is.layout; cell = is.here.0; offset = (first_loads c.args.self.now (at.Prefix c.in-Prefix-default-default-default-eq0.cell c.in-Prefix-default-default-default-eq0.depth c.in-Prefix-default-default-default-eq0.words 0) is).3 }
 
 pub loads_key-prefix-requires-clause-layout : goal.loads_key-prefix-requires-clause-layout
 loads_key-prefix-requires-clause-layout g c =
@@ -70,34 +49,21 @@ loads_key-prefix-requires-clause-within g c =
     c.word_of.result c.word_of.ensures.word
     (at_may c.args.memory.now c.args.self.now (at_prefix c.in-Prefix-default-default-default-eq0.is c.in-Prefix-default-default-default-eq0.word-is c.in-Prefix-default-default-default-eq0.word-test) c.requires)
 
-pub has_prefix-requires-clause-layout : goal.has_prefix-requires-clause-layout
-has_prefix-requires-clause-layout g c =
-    (floor_is c.args.memory.now c.args.self.now (at.Prefix c.in-Prefix-default-default-default-eq0.cell c.in-Prefix-default-default-default-eq0.depth c.in-Prefix-default-default-default-eq0.words 0)
-    (at_may c.args.memory.now c.args.self.now (at_prefix c.in-Prefix-default-default-default-eq0.is c.in-Prefix-default-default-default-eq0.word-is c.in-Prefix-default-default-default-eq0.word-test) c.requires)).layout
-
-pub has_prefix-requires-clause-cell : goal.has_prefix-requires-clause-cell
-has_prefix-requires-clause-cell g c =
-    (floor_is c.args.memory.now c.args.self.now (at.Prefix c.in-Prefix-default-default-default-eq0.cell c.in-Prefix-default-default-default-eq0.depth c.in-Prefix-default-default-default-eq0.words 0)
-    (at_may c.args.memory.now c.args.self.now (at_prefix c.in-Prefix-default-default-default-eq0.is c.in-Prefix-default-default-default-eq0.word-is c.in-Prefix-default-default-default-eq0.word-test) c.requires)).here.0
-
-pub has_prefix-requires-clause-depth : goal.has_prefix-requires-clause-depth
-has_prefix-requires-clause-depth g c =
-    ((floor_is c.args.memory.now c.args.self.now (at.Prefix c.in-Prefix-default-default-default-eq0.cell c.in-Prefix-default-default-default-eq0.depth c.in-Prefix-default-default-default-eq0.words 0)
-    (at_may c.args.memory.now c.args.self.now (at_prefix c.in-Prefix-default-default-default-eq0.is c.in-Prefix-default-default-default-eq0.word-is c.in-Prefix-default-default-default-eq0.word-test) c.requires)).here.1).1
+pub has_prefix-requires : goal.has_prefix-requires
+has_prefix-requires g c =
+    let is = floor_is c.args.memory.now c.args.self.now (at.Prefix c.in-Prefix-default-default-default-eq0.cell c.in-Prefix-default-default-default-eq0.depth c.in-Prefix-default-default-default-eq0.words 0)
+    (at_may c.args.memory.now c.args.self.now (at_prefix c.in-Prefix-default-default-default-eq0.is c.in-Prefix-default-default-default-eq0.word-is c.in-Prefix-default-default-default-eq0.word-test) c.requires) in
+    record { layout = is.layout; cell = is.here.0; depth = is.here.1.1 }
 
 pub seeks-scanned-requires : goal.seeks-scanned-requires
 seeks-scanned-requires g c =
     (c.in-Scanning.depth, at_may c.args.memory.now c.args.self.now c.in-Scanning.is c.requires)
 
-pub has_scanned-requires-clause-layout : goal.has_scanned-requires-clause-layout
-has_scanned-requires-clause-layout g c =
-    (floor_is c.args.memory.now c.args.self.now (at.Scanning c.in-Scanning.cell c.in-Scanning.depth c.in-Scanning.byte c.in-Scanning.scan)
-    (at_may c.args.memory.now c.args.self.now c.in-Scanning.is c.requires)).layout
-
-pub has_scanned-requires-clause-depth : goal.has_scanned-requires-clause-depth
-has_scanned-requires-clause-depth g c =
-    ((floor_is c.args.memory.now c.args.self.now (at.Scanning c.in-Scanning.cell c.in-Scanning.depth c.in-Scanning.byte c.in-Scanning.scan)
-    (at_may c.args.memory.now c.args.self.now c.in-Scanning.is c.requires)).here.1).1
+pub has_scanned-requires : goal.has_scanned-requires
+has_scanned-requires g c =
+    let is = floor_is c.args.memory.now c.args.self.now (at.Scanning c.in-Scanning.cell c.in-Scanning.depth c.in-Scanning.byte c.in-Scanning.scan)
+    (at_may c.args.memory.now c.args.self.now c.in-Scanning.is c.requires) in
+    record { layout = is.layout; depth = is.here.1.1 }
 
 pub action-requires : goal.action-requires
 action-requires g c =

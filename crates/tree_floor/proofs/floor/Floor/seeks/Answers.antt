@@ -9,35 +9,18 @@ use Rattle.tree_floor.proofs.FloorLoads.{scan_within}
 use Rattle.tree_floor.proofs.FloorReading.{floor_is, floor_can, load_bursts, cell_address}
 use Rattle.tree_floor.proofs.floor.Floor.seeks.Goals as goal
 
-pub offset-requires-clause-scan : goal.offset-requires-clause-scan
-offset-requires-clause-scan g c =
-    (floor_is c.skims-scan.new.memory c.args.self.now
-    (at.Scanning c.args.cell c.requires.0 c.args.byte c.skims-scan.result)
-    (run_may floor_takes c.requires.1 (c.skims-scan.ensures c.requires.0 c.requires.1))).here.3
+pub offset-requires : goal.offset-requires
+offset-requires g c =
+    let is = floor_is c.skims-scan.new.memory c.args.self.now (at.Scanning c.args.cell c.requires.0 c.args.byte c.skims-scan.result)
+    (run_may floor_takes c.requires.1 (c.skims-scan.ensures c.requires.0 c.requires.1)) in
+    record { scan = is.here.3; byte = is.here.2 }
 
-pub offset-requires-clause-byte : goal.offset-requires-clause-byte
-offset-requires-clause-byte g c =
-    (floor_is c.args.memory.now c.args.self.now (at.Scanning c.args.cell c.requires.0 c.args.byte c.args.scan)
-    c.requires.1).here.2
-
-pub word_of-word-requires-clause-layout : goal.word_of-word-requires-clause-layout
-word_of-word-requires-clause-layout g c =
-    (floor_is c.args.memory.now c.args.self.now (at.Scanning c.args.cell c.requires.0 c.args.byte c.args.scan)
-    c.requires.1).layout
-
-pub word_of-word-requires-clause-cell : goal.word_of-word-requires-clause-cell
-word_of-word-requires-clause-cell g c =
-    (floor_is c.args.memory.now c.args.self.now (at.Scanning c.args.cell c.requires.0 c.args.byte c.args.scan)
-    c.requires.1).here.0
-
-pub word_of-word-requires-clause-offset : goal.word_of-word-requires-clause-offset
-word_of-word-requires-clause-offset g c =
-    let here =
-    (floor_is c.skims-scan.new.memory c.args.self.now
-    (at.Scanning c.args.cell c.requires.0 c.args.byte c.skims-scan.result)
-    (run_may floor_takes c.requires.1 (c.skims-scan.ensures c.requires.0 c.requires.1))).here in
-    let within = scan_within (kind_of c.args.cell) c.args.byte c.skims-scan.result here.2 here.3 in
-    omega (arith, within, c.offset.ensures)
+pub word_of-word-requires : goal.word_of-word-requires
+word_of-word-requires g c =
+    let is = floor_is c.skims-scan.new.memory c.args.self.now (at.Scanning c.args.cell c.requires.0 c.args.byte c.skims-scan.result)
+    (run_may floor_takes c.requires.1 (c.skims-scan.ensures c.requires.0 c.requires.1)) in
+    let within = scan_within (kind_of c.args.cell) c.args.byte c.skims-scan.result is.here.2 is.here.3 in
+    record { layout = is.layout; cell = is.here.0; offset = omega (arith, within, c.offset.ensures) }
 
 pub cached-requires-clause-layout : goal.cached-requires-clause-layout
 cached-requires-clause-layout g c =
@@ -52,16 +35,11 @@ act-got-requires g c =
     (cell_address c.args.self.now.layout c.args.cell _ c.offset.result c.word_of-word.result c.cached.result c.offset.ensures
     c.word_of-word.ensures.word c.cached.ensures.address)
 
-pub told-requires-clause-scan : goal.told-requires-clause-scan
-told-requires-clause-scan g c =
-    (floor_is c.skims-scan.new.memory c.args.self.now
-    (at.Scanning c.args.cell c.requires.0 c.args.byte c.skims-scan.result)
-    (run_may floor_takes c.requires.1 (c.skims-scan.ensures c.requires.0 c.requires.1))).here.3
-
-pub told-requires-clause-byte : goal.told-requires-clause-byte
-told-requires-clause-byte g c =
-    (floor_is c.args.memory.now c.args.self.now (at.Scanning c.args.cell c.requires.0 c.args.byte c.args.scan)
-    c.requires.1).here.2
+pub told-requires : goal.told-requires
+told-requires g c =
+    let is = floor_is c.skims-scan.new.memory c.args.self.now (at.Scanning c.args.cell c.requires.0 c.args.byte c.skims-scan.result)
+    (run_may floor_takes c.requires.1 (c.skims-scan.ensures c.requires.0 c.requires.1)) in
+    record { scan = is.here.3; byte = is.here.2 }
 
 pub returns : goal.returns
 returns g c depth may =

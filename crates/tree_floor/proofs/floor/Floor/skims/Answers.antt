@@ -20,25 +20,13 @@ returns-in_default g c depth may =
       at = at.Scanning c.args.cell depth c.args.byte c.args.scan;
     }) c.args.steps.now
 
-pub word_of-first-requires-clause-layout : goal.word_of-first-requires-clause-layout
-word_of-first-requires-clause-layout g c =
-    (floor_is c.args.memory.now c.args.self.now (at.Scanning c.args.cell c.requires.0 c.args.byte c.args.scan)
-    c.requires.1).layout
-
-pub word_of-first-requires-clause-cell : goal.word_of-first-requires-clause-cell
-word_of-first-requires-clause-cell g c =
-    (floor_is c.args.memory.now c.args.self.now (at.Scanning c.args.cell c.requires.0 c.args.byte c.args.scan)
-    c.requires.1).here.0
-
-pub word_of-first-requires-clause-offset : goal.word_of-first-requires-clause-offset
-word_of-first-requires-clause-offset g c =
-    let here =
-    (floor_is c.args.memory.now c.args.self.now (at.Scanning c.args.cell c.requires.0 c.args.byte c.args.scan)
-    c.requires.1).here in
+pub word_of-first-requires : goal.word_of-first-requires
+word_of-first-requires g c =
+    let is = floor_is c.args.memory.now c.args.self.now (at.Scanning c.args.cell c.requires.0 c.args.byte c.args.scan) c.requires.1 in
     let within =
     scan_within (kind_of c.args.cell) c.args.byte (scan.Entry c.in-Entry.entry c.in-Entry.child c.in-Entry.below)
-    here.2 (subst (IsScan (kind_of c.args.cell) c.args.byte) c.in-Entry.is here.3) in
-    omega (arith, within, c.first_entry.ensures)
+    is.here.2 (subst (IsScan (kind_of c.args.cell) c.args.byte) c.in-Entry.is is.here.3) in
+    record { layout = is.layout; cell = is.here.0; offset = omega (arith, within, c.first_entry.ensures) }
 
 pub entries-init : goal.entries-init
 entries-init g c depth may =
