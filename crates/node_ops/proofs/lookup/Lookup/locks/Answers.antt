@@ -22,23 +22,16 @@ returns-then-found-version g c seen is may =
     c.address-address.ensures c.act-found.ensures.row c.act-found.ensures.got c.act-found.ensures.tick
     c.if-found-version.true)
 
-pub freed_of-requires-clause-locked : goal.freed_of-requires-clause-locked
-freed_of-requires-clause-locked g c =
-    (spent_locked c.args.self.now.call (record { locked = c.args.locked; clock = c.act-clock.result })
+pub freed_of-requires : goal.freed_of-requires
+freed_of-requires g c =
+    let spent =
+    spent_locked c.args.self.now.call (record { locked = c.args.locked; clock = c.act-clock.result })
     (clock_leads c.args.self.now.call (record c.requires.may.0 { version = c.args.version }) c.args.locked
     (lock_from c.args.self.now.call c.args.locked c.requires.may.0 c.requires.may.1 c.requires.may.2)
     c.address-address.ensures c.act-found.ensures.row c.act-found.ensures.got c.act-found.ensures.tick
     c.if-found-version.false c.requires.limit true (le-leb _ _ c.if-clock-limit.true) c.act-clock.ensures.row
-    c.act-clock.ensures.got c.act-clock.ensures.tick)).locked
-
-pub freed_of-requires-clause-unworn : goal.freed_of-requires-clause-unworn
-freed_of-requires-clause-unworn g c =
-    (spent_locked c.args.self.now.call (record { locked = c.args.locked; clock = c.act-clock.result })
-    (clock_leads c.args.self.now.call (record c.requires.may.0 { version = c.args.version }) c.args.locked
-    (lock_from c.args.self.now.call c.args.locked c.requires.may.0 c.requires.may.1 c.requires.may.2)
-    c.address-address.ensures c.act-found.ensures.row c.act-found.ensures.got c.act-found.ensures.tick
-    c.if-found-version.false c.requires.limit true (le-leb _ _ c.if-clock-limit.true) c.act-clock.ensures.row
-    c.act-clock.ensures.got c.act-clock.ensures.tick)).unworn
+    c.act-clock.ensures.got c.act-clock.ensures.tick) in
+    record { locked = spent.locked; unworn = spent.unworn }
 
 pub act-requires : goal.act-requires
 act-requires g c =
