@@ -31,7 +31,7 @@ use Rattle.cat_history.specs.declared.op.NameOp.TheVariants as op
 use Rattle.call_stages.specs.declared.once.Once.{Once}
 use Rattle.call_stages.specs.declared.once.Once.TheVariants as once
 use Rattle.call_stages.specs.declared.once.Placed.{Placed}
-use Rattle.call_stages.specs.Stages.{Held, Sight, Stage, Idle, Saw, Wears, Reads, Holds, Eyes, Splits, Leaves, Meets}
+use Rattle.call_stages.specs.Stages.{Held, Grip, Pace, Sight, Stage, Idle, Saw, Wears, Reads, Holds, Eyes, Splits, Leaves, Meets}
 use Rattle.call_stages.specs.Stages.{Joins, IsLoose, counted, placed_in}
 use Rattle.call_stages.specs.Kinds.{Told, LeadsWithin}
 use Rattle.call_stages.specs.AnySteps.{AnyStep}
@@ -255,18 +255,22 @@ split_is_for h name own (Leaves left) named lacked is = tt
 split_is_for h name own (Meets n w k right) named lacked is = absurd is
 split_is_for h name own (Joins k left right pace) named lacked is = absurd is
 
--- and merges nothing
+-- what holds of each stage of a merge holds of one with both nodes
+both_held : (P : Stage → Type 0) → ((n w : ℕ) (h : Held) (right : Grip) → P (Meets n w h right)) → ((h : Held) (left right : Grip) (pace : Pace) → P (Joins h left right pace)) → (s : Stage) → HoldsBoth s → P s
+both_held P meets joins (Meets n w h right) two = meets n w h right
+both_held P meets joins (Joins h left right pace) two = joins h left right pace
+both_held P meets joins Idle two = absurd two
+both_held P meets joins (Saw n v w k) two = absurd two
+both_held P meets joins (Wears n v) two = absurd two
+both_held P meets joins (Reads n v sight told) two = absurd two
+both_held P meets joins (Holds n w h) two = absurd two
+both_held P meets joins (Eyes n w h m v u free) two = absurd two
+both_held P meets joins (Splits left fresh phase) two = absurd two
+both_held P meets joins (Leaves left) two = absurd two
+
+-- so what splits merges nothing
 split_parts : (h : Held) (s : Stage) → IsOfSplit h s → HoldsBoth s → ⊥
-split_parts h (Meets n w k right) is two = is
-split_parts h (Joins k left right pace) is two = is
-split_parts h Idle is two = two
-split_parts h (Saw n v w k) is two = two
-split_parts h (Wears n v) is two = two
-split_parts h (Reads n v sight told) is two = two
-split_parts h (Holds n w k) is two = two
-split_parts h (Eyes n w k m v u free) is two = two
-split_parts h (Splits left fresh phase) is two = two
-split_parts h (Leaves left) is two = two
+split_parts h s is two = both_held (λ s. IsOfSplit h s → ⊥) (λ n w k right is. is) (λ k left right pace is. is) s two is
 
 -- the stage of a call that doesn't split
 abbrev HasOne : Running → Type 0
@@ -274,16 +278,7 @@ HasOne (Putting (put.Splitting call hold bitmap value split)) = ⊥
 HasOne _ = Unit {0}
 
 few_parts : (s : Stage) → HoldsFew s → HoldsBoth s → ⊥
-few_parts (Meets n w h right) one two = one
-few_parts (Joins h left right pace) one two = one
-few_parts Idle one two = two
-few_parts (Saw n v w k) one two = two
-few_parts (Wears n v) one two = two
-few_parts (Reads n v sight told) one two = two
-few_parts (Holds n w h) one two = two
-few_parts (Eyes n w h m v u free) one two = two
-few_parts (Splits left fresh phase) one two = two
-few_parts (Leaves left) one two = two
+few_parts s one two = both_held (λ s. HoldsFew s → ⊥) (λ n w h right one. one) (λ h left right pace one. one) s two one
 
 -- a call that holds both nodes of no merge parts with none
 abbrev pub leaves_after : Turn Running (Once Placed) → Bool
