@@ -6,7 +6,7 @@ use Rattle.std.specs.Int.{bit_at}
 use Rattle.pm_words.specs.Fences.{hand_of}
 use Rattle.pm_words.specs.Offsets.{bitmap_offset, next_offset, slot_offset}
 use Rattle.call_stages.specs.Stages.{Held, Grip, Pace, Gathered, Joined, Gone, Stage, Holds, Meets, Joins, left_grip}
-use Rattle.call_stages.specs.Stages.{merged_held}
+use Rattle.call_stages.specs.Stages.{fresh_grip, merged_held}
 use Rattle.call_stages.specs.Lines.{HeldLine}
 use Rattle.call_stages.specs.Prevs.{Debt, no_debt}
 use Rattle.call_stages.specs.Footings.{Footing}
@@ -68,16 +68,7 @@ abbrev pub all_copied : Union → List (ℕ × ℕ)
 all_copied union = slots_copied union 0 (half_of union)
 
 abbrev pub right_of : Union → List (ℕ × ℕ) → List (ℕ × ℕ) → Grip
-right_of union seen copied = record {
-  name = [];
-  old = None;
-  node = union.right;
-  lock = union.right_locked;
-  seen = seen;
-  dirty = [];
-  hand = None;
-  copied = copied;
-}
+right_of union seen copied = record (fresh_grip union.right union.right_locked) { seen = seen; copied = copied }
 
 -- the words of the slots that get names
 abbrev pub slots_dirty : Union → List (ℕ × ℕ)

@@ -1,7 +1,7 @@
 -- What a party relies on that merges the right neighbour of its node into that.
 use Rattle.std.specs.Prelude.{ℕ, ◌-◌, false, List, [], ◌∷◌, slice_index, Some, None}
 use Rattle.pm_words.specs.Offsets.{bitmap_offset}
-use Rattle.call_stages.specs.Stages.{Held, Grip, Stage, Holds, Eyes, Meets}
+use Rattle.call_stages.specs.Stages.{Held, Grip, Stage, Holds, Eyes, Meets, fresh_grip}
 use Rattle.call_stages.specs.Prevs.{no_debt}
 use Rattle.call_stages.specs.Footings.{Footing}
 use Rattle.smo_log.specs.LogLines.{empty_line}
@@ -18,16 +18,7 @@ knows_near near h = knowing (near_seen near.own near.right) [] None h
 
 -- the neighbour, of which it knows words
 abbrev pub neighbour : Near → ℕ → List (ℕ × ℕ) → Grip
-neighbour near locked seen = record {
-  name = [];
-  old = None;
-  node = near.right;
-  lock = locked;
-  seen = seen;
-  dirty = [];
-  hand = None;
-  copied = [];
-}
+neighbour near locked seen = record (fresh_grip near.right locked) { seen = seen }
 
 -- its words before this offset, from the bitmap on
 abbrev pub head_before : List ℕ → ℕ → List (ℕ × ℕ)

@@ -2,7 +2,7 @@
 use Rattle.std.specs.Prelude.{ℕ, zero, suc, ◌+◌, ◌-◌, Bool, true, false, List, [], ◌∷◌}
 use Rattle.std.specs.Prelude.{Option, Some, None}
 use Rattle.data_node.specs.Lists.{number_of, anchor_words}
-use Rattle.call_stages.specs.Stages.{Grip, Phase, Filling, Linked, Parted, Stage, Splits, Leaves}
+use Rattle.call_stages.specs.Stages.{Grip, Phase, Filling, Linked, Parted, Stage, Splits, Leaves, fresh_grip}
 use Rattle.call_stages.specs.Lines.{HeldLine}
 use Rattle.call_stages.specs.Prevs.{Debt, no_debt}
 use Rattle.pm_words.specs.Fences.{hand_of}
@@ -48,29 +48,17 @@ abbrev pub fresh_seen : Plan → List (ℕ × ℕ)
 fresh_seen plan = (next_offset, plan_word plan next_offset) ∷ anchor_seen plan 3
 
 abbrev pub fresh_of : Plan → List (ℕ × ℕ) → List (ℕ × ℕ) → Option (ℕ × ℕ) → Grip
-fresh_of plan seen dirty hand = record {
-  name = [];
-  old = None;
-  node = plan.fresh;
-  lock = plan.fresh_locked;
-  seen =
-      seen;
-  dirty = dirty;
-  hand = hand;
-  copied = [];
-}
+fresh_of plan seen dirty hand =
+    record (fresh_grip plan.fresh plan.fresh_locked) { seen = seen; dirty = dirty; hand = hand }
 
 abbrev pub left_of : Plan → Known → List (ℕ × ℕ) → List (ℕ × ℕ) → Option (ℕ × ℕ) → Grip
 left_of plan known seen dirty hand =
-    record {
+    record (fresh_grip plan.node plan.locked) {
       name = known.name;
       old = known.old;
-      node = plan.node;
-      lock = plan.locked;
       seen = seen;
       dirty = dirty;
       hand = hand;
-      copied = [];
     }
 
 abbrev pub full_left : Plan → Known → Grip

@@ -1,7 +1,7 @@
 -- What a party relies on that splits a full node.
 use Rattle.std.specs.Prelude.{ℕ, zero, suc, ◌+◌, ◌*◌, ◌==◌, false, if◌then◌else◌, List, [], ◌∷◌, Option, Some, None}
 use Rattle.pm_words.specs.Offsets.{bitmap_offset, next_offset}
-use Rattle.call_stages.specs.Stages.{Held, Grip, Idle, Holds, Splits, Filling, fresh_grip}
+use Rattle.call_stages.specs.Stages.{Held, Grip, Idle, Holds, Splits, Filling, full_grip, fresh_grip}
 use Rattle.call_stages.specs.Prevs.{no_debt}
 use Rattle.pm_alloc.specs.ClaimStages.{claim_stage}
 use Rattle.smo_log.specs.LogLines.{empty_line}
@@ -32,17 +32,8 @@ last_read full zero = None
 last_read full (suc n) = Some (8 + n, spot_of full (8 + n))
 
 abbrev pub read_grip : Split → Held → List ℕ → ℕ → Grip
-read_grip split h full count = record {
-  name = h.name;
-  old = h.old;
-  node = split.node;
-  lock = split.word;
-  seen = read_seen full count h;
-  dirty = [];
-  hand =
-      last_read full count;
-  copied = [];
-}
+read_grip split h full count =
+    record (full_grip split.node split.word h) { seen = read_seen full count h; hand = last_read full count }
 
 -- all that it knows of the full node by which a plan is made, before the switch and after it
 abbrev pub known_by : Held → Plan → Known
