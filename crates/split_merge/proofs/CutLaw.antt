@@ -1,5 +1,5 @@
 -- A plan that is made of the words of a full node cuts it.
-use Rattle.std.proofs.Common.{◌≡◌, ◌≢◌, ℕ, zero, suc, ◌+◌, ◌-◌, ◌*◌, ◌/◌, ◌%◌, ◌^◌, ◌<◌, ◌≤◌, ◌==◌, Bool, true, false, cond, List, [], ◌∷◌, length, take, slice_index, Option, Some, None, inl, inr, refl, sym, subst, ap, ◌∙◌, arith}
+use Rattle.std.proofs.Common.{◌≡◌, ◌≢◌, ℕ, zero, suc, ◌+◌, ◌-◌, ◌*◌, ◌/◌, ◌%◌, ◌^◌, ◌<◌, ◌≤◌, ◌==◌, Bool, true, false, cond, List, [], ◌∷◌, length, take, slice_index, Option, Some, None, inl, inr, ◌⊎◌, ⊎_elim, refl, sym, subst, ap, ◌∙◌, arith}
 use Rattle.std.specs.Prelude.{nat_lt, IsSome}
 use Rattle.std.specs.Int.{bit_at}
 use Rattle.std.specs.List.{AllByRecursion}
@@ -155,38 +155,31 @@ module _ (plan : Plan) (sound : IsPlan plan) (is : IsHalf plan) (words : AreWord
             | inr other ↦ omega arith
           ]
 
-      -- a slot stands in the upper half exactly if its name is no less than the least that moves
-      upper : (slot : ℕ) → slot < slots → slot_key s least ≤ slot_key s slot → (i : ℕ) × (i < half) × (slice_index order (half + i) ≡ slot)
-      upper slot within high =
+      -- a slot stands in the lower half, with a name below the least that moves, or in the upper one
+      halves : (slot : ℕ) → slot < slots → ((i : ℕ) × (i < half) × (slice_index order i ≡ slot) × (slot_key s slot < slot_key s least))
+          ⊎ ((i : ℕ) × (i < half) × (slice_index order (half + i) ≡ slot) × (slot_key s least ≤ slot_key s slot))
+      halves slot within =
           let at = in_has plan.full slots few slot within in
           let inside = at.1 in
           let t = twice in
           let w = two in
+          let here : slot_key s (slice_index order at.0) ≡ slot_key s slot = ap (slot_key s) at.2 in
           elim (cases_lt at.0 half) [
-            | inl below ↦
-                let less = strictly at.0 half below (omega arith) in
-                let here : slot_key s (slice_index order at.0) ≡ slot_key s slot = ap (slot_key s) at.2 in
-                absurd (omega arith)
+            | inl below ↦ let less = strictly at.0 half below (omega arith) in inl (at.0, below, at.2, omega arith)
             | inr above ↦
                 let place : half + (at.0 - half) ≡ at.0 = omega arith in
-                (at.0 - half, omega arith, ap (slice_index order) place ∙ at.2)
+                let high : slot_key s least ≤ slot_key s slot = elim (cases_eq at.0 half) [
+                  | inl first ↦ let same : slot_key s (slice_index order at.0) ≡ slot_key s least = ap (λ j. slot_key s (slice_index order j)) first in omega arith
+                  | inr later ↦ let less = strictly half at.0 (omega arith) inside in omega arith
+                ] in
+                inr (at.0 - half, omega arith, ap (slice_index order) place ∙ at.2, high)
           ]
 
+      upper : (slot : ℕ) → slot < slots → slot_key s least ≤ slot_key s slot → (i : ℕ) × (i < half) × (slice_index order (half + i) ≡ slot)
+      upper slot within high = ⊎_elim (λ low. let below = low.3 in absurd (omega arith)) (λ up. (up.0, up.1, up.2)) (halves slot within)
+
       lower : (slot : ℕ) → slot < slots → slot_key s slot < slot_key s least → (i : ℕ) × (i < half) × (slice_index order i ≡ slot)
-      lower slot within below =
-          let at = in_has plan.full slots few slot within in
-          let inside = at.1 in
-          let t = twice in
-          let w = two in
-          elim (cases_lt at.0 half) [
-            | inl small ↦ (at.0, small, at.2)
-            | inr above ↦
-                let here : slot_key s (slice_index order at.0) ≡ slot_key s slot = ap (slot_key s) at.2 in
-                elim (cases_eq at.0 half) [
-                  | inl first ↦ let same : slot_key s (slice_index order at.0) ≡ slot_key s least = ap (λ j. slot_key s (slice_index order j)) first in absurd (omega arith)
-                  | inr later ↦ let less = strictly half at.0 (omega arith) inside in absurd (omega arith)
-                ]
-          ]
+      lower slot within below = ⊎_elim (λ low. (low.0, low.1, low.2)) (λ up. let high = up.3 in absurd (omega arith)) (halves slot within)
 
       in_least : least < slots
       in_least = let t = twice in let w = two in in_within plan.full slots few half (omega arith)
