@@ -7,14 +7,10 @@ pub returns-in-Some : goal.returns-in-Some
 unfolding anchor_of
 returns-in-Some c =
     let words : List ℕ = c.args.first ∷ c.args.second ∷ c.args.third ∷ [] in
-    let e = c.of_words.ensures in
-    let kept = one_name words c.of_words.result (record { some = e.some; named = e.name; whole = e.words }) in
-    ap (λ found. some_words found words) (sym c.in-Some.is ∙ kept)
+    ap (λ found. some_words found words) (sym c.in-Some.is ∙ one_name words c.of_words.result (record { some = c.of_words.ensures.some; named = c.of_words.ensures.name; whole = c.of_words.ensures.words }))
 
 pub returns-in-None : goal.returns-in-None
 unfolding anchor_of
 returns-in-None c =
     let words : List ℕ = c.args.first ∷ c.args.second ∷ c.args.third ∷ [] in
-    let e = c.of_words.ensures in
-    let kept = one_name words c.of_words.result (record { some = e.some; named = e.name; whole = e.words }) in
-    ap (λ found. some_words found words) (sym c.in-None.is ∙ kept)
+    ap (λ found. some_words found words) (sym c.in-None.is ∙ one_name words c.of_words.result (record { some = c.of_words.ensures.some; named = c.of_words.ensures.name; whole = c.of_words.ensures.words }))
