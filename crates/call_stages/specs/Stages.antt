@@ -131,19 +131,7 @@ IsLoose (Wears n v) = Unit {0}
 IsLoose (Reads n v k h) = Unit {0}
 IsLoose _ = ⊥
 
--- What a split begins with: the full node, of which the call knows words, and a fresh one.
-abbrev pub full_grip : ℕ → ℕ → Held → Grip
-full_grip n w h = record {
-  name = h.name;
-  old = h.old;
-  node = n;
-  lock = w;
-  seen = h.known.seen;
-  dirty = [];
-  hand = None;
-  copied = [];
-}
-
+-- What a split begins with: a fresh node, and the full one, of which the call knows words.
 abbrev pub fresh_grip : ℕ → ℕ → Grip
 fresh_grip n w = record {
   name = [];
@@ -155,6 +143,9 @@ fresh_grip n w = record {
   hand = None;
   copied = [];
 }
+
+abbrev pub full_grip : ℕ → ℕ → Held → Grip
+full_grip n w h = record (fresh_grip n w) { name = h.name; old = h.old; seen = h.known.seen }
 
 -- As the lock is taken: nothing is known of the node yet.
 abbrev pub just_held : List ℕ → Held
@@ -175,33 +166,11 @@ just_held name =
 
 -- What a merge begins with that has the copies: the left node, of which the call knows words.
 abbrev pub left_grip : ℕ → ℕ → List (ℕ × ℕ) → List (ℕ × ℕ) → Grip
-left_grip n w seen dirty = record {
-  name = [];
-  old = None;
-  node = n;
-  lock = w;
-  seen = seen;
-  dirty = dirty;
-  hand = None;
-  copied = [];
-}
+left_grip n w seen dirty = record (fresh_grip n w) { seen = seen; dirty = dirty }
 
 -- A call after its merge, which knows nothing of its node any more.
 abbrev pub merged_held : Held → Held
-merged_held h =
-    record {
-      name = h.name;
-      limit = h.limit;
-      known = record { seen = []; left = None };
-      dirty = [];
-      hand = None;
-      time = None;
-      old = h.old;
-      pending = None;
-      ready = false;
-      placed = h.placed;
-      merged = true;
-    }
+merged_held h = record (just_held h.name) { limit = h.limit; old = h.old; placed = h.placed; merged = true }
 
 -- The map with a pending change.
 abbrev pub pended : Option Change → Map → Map
@@ -210,42 +179,21 @@ pended (Some c) m = changed m c
 
 -- The change that the party's call has pending.
 abbrev pub pending_in : Stage → Option Change
-pending_in Idle = None
-pending_in (Saw n v w k) = None
 pending_in (Holds n w h) = h.pending
-pending_in (Splits left fresh phase) = None
-pending_in (Eyes n w h m v u free) = None
-pending_in (Leaves left) = None
-pending_in (Meets n w h right) = None
-pending_in (Joins h left right pace) = None
-pending_in (Wears n v) = None
-pending_in (Reads n v k h) = None
+pending_in _ = None
 
 -- The place that its change was given.
 abbrev pub placed_in : Stage → Option ℕ
-placed_in Idle = None
-placed_in (Saw n v w k) = None
 placed_in (Holds n w h) = h.placed
-placed_in (Splits left fresh phase) = None
 placed_in (Eyes n w h m v u free) = h.placed
-placed_in (Leaves left) = None
 placed_in (Meets n w h right) = h.placed
 placed_in (Joins h left right pace) = h.placed
-placed_in (Wears n v) = None
-placed_in (Reads n v k h) = None
+placed_in _ = None
 
 -- The change that the party's next step counts.
 abbrev pub counted : Stage → Option Change
-counted Idle = None
-counted (Saw n v w k) = None
 counted (Holds n w h) = elim h.ready [ true ↦ h.pending | false ↦ None ]
-counted (Splits left fresh phase) = None
-counted (Eyes n w h m v u free) = None
-counted (Leaves left) = None
-counted (Meets n w h right) = None
-counted (Joins h left right pace) = None
-counted (Wears n v) = None
-counted (Reads n v k h) = None
+counted _ = None
 
 -- The party holds the node.
 abbrev pub HoldsNode : Stage → ℕ → Type 0
