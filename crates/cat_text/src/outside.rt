@@ -1,12 +1,12 @@
 //! Where bytes come from and where they go, as traits, so that a contract can name the bytes and a
 //! test can let any call fail.
 
+pub mod counted;
 pub mod fault_count;
-pub mod file_shelf;
+pub mod files;
 pub mod memory;
 pub mod memory_shelf;
 pub mod plan;
 pub mod shelf;
 pub mod sink;
 pub mod source;
-pub mod streams;

@@ -1,7 +1,7 @@
 //! `catalog`: its words, its streams and its exit code.
 #![tactic(auto)]
 
-use cat_text::{FileShelf, ReadSource, WriteSink};
+use cat_text::Counted;
 use catalog_cli::{Status, catalog};
 use pac_index::Gate;
 use std::process::ExitCode;
@@ -41,9 +41,9 @@ fn main(rt: HostRuntime) -> ExitCode {
             Some("--help") => shown(println!(rt; "{}\n{FORMS}", Status::Usage)),
             Some("--version") => shown(println!(rt; "{VERSION}")),
             _ => {
-                let mut script = ReadSource::new(rt.stdin());
-                let mut out = WriteSink::new(rt.stdout());
-                let mut shelf = FileShelf::new(&rt);
+                let mut script = Counted::new(rt.stdin());
+                let mut out = Counted::new(rt.stdout());
+                let mut shelf = Counted::new(&rt);
                 catalog(
                     &rt,
                     rt.alloc(),

@@ -7,7 +7,7 @@ mod sound;
 mod time;
 
 use anyhow::{Result, anyhow, bail};
-use cat_text::{FileShelf, ReadSource};
+use cat_text::Counted;
 use save::save_input;
 use sound::time_sound;
 use std::env;
@@ -30,8 +30,8 @@ fn main(rt: HostRuntime) -> Result<()> {
 
 /// Saves what stands on standard input.
 fn save_standard_input(rt: HostRuntime, file: &str) -> Result<()> {
-    let mut source = ReadSource::new(rt.stdin());
-    let mut shelf = FileShelf::new(rt);
+    let mut source = Counted::new(rt.stdin());
+    let mut shelf = Counted::new(rt);
     match save_input(rt.alloc(), &mut source, &mut shelf, file) {
         Ok(count) => println!(rt; "saved {count} bytes")?,
         Err(fault) => return Err(anyhow!("{fault:?}")),

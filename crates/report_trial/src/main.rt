@@ -3,7 +3,7 @@
 #![tactic(auto)]
 
 use anyhow::{Result, anyhow, bail};
-use cat_text::{ReadSource, print_rounds, read_whole};
+use cat_text::{Counted, print_rounds, read_whole};
 use report_reader::read_report;
 use std::alloc::AllocGlobal;
 use std::env;
@@ -23,7 +23,7 @@ fn main(rt: HostRuntime) -> Result<()> {
     for word in env::args(&rt)?.skip(1) {
         words.push(word)?;
     }
-    let mut source = ReadSource::new(rt.stdin());
+    let mut source = Counted::new(rt.stdin());
     let bytes = read_whole(rt.alloc(), &mut source, MOST_BYTES).map_err(|fault| anyhow!(
         "{fault:?}"
     ))?;

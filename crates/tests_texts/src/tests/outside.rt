@@ -1,7 +1,7 @@
 //! Reading whole and writing whole, over sources and sinks whose calls move few bytes, and fail.
 
 use cat_text::{
-    FaultPlan, MemorySink, MemorySource, ReadFault, ReadSource, WriteFault, WriteSink, read_whole,
+    Counted, FaultPlan, MemorySink, MemorySource, ReadFault, WriteFault, read_whole,
     write_whole,
 };
 use std::alloc::Global;
@@ -97,9 +97,9 @@ impl Read for Broken {
 
 #[test]
 fn a_reader_that_ends_and_one_that_breaks(rt: HostRuntime) -> Result<(), Fail> {
-    let mut whole = ReadSource::new(BYTES);
+    let mut whole = Counted::new(BYTES);
     assert!(rt; read_whole(rt.alloc(), &mut whole, 8)?.as_slice() == BYTES);
-    let mut broken = ReadSource::new(BYTES.chain(Broken));
+    let mut broken = Counted::new(BYTES.chain(Broken));
     let fault = read_whole(rt.alloc(), &mut broken, 100).err();
     assert_eq!(rt; fault, Some(ReadFault::Failed));
     Ok(())
@@ -108,10 +108,10 @@ fn a_reader_that_ends_and_one_that_breaks(rt: HostRuntime) -> Result<(), Fail> {
 #[test]
 fn a_writer_with_room_and_one_without(rt: HostRuntime) -> Result<(), Fail> {
     let mut roomy = [b'.'; 10];
-    let written = write_whole(&mut WriteSink::new(roomy.as_mut_slice()), BYTES);
+    let written = write_whole(&mut Counted::new(roomy.as_mut_slice()), BYTES);
     assert_eq!(rt; (written, &roomy), (Ok(()), b"abcdefgh.."));
     let mut short = [b'.'; 4];
-    let failed = write_whole(&mut WriteSink::new(short.as_mut_slice()), BYTES);
+    let failed = write_whole(&mut Counted::new(short.as_mut_slice()), BYTES);
     assert_eq!(rt; (failed, &short), (Err(WriteFault::Failed), b"abcd"));
     Ok(())
 }

@@ -1,6 +1,6 @@
 //! A save on the file system, each of whose steps fails in turn.
 
-use cat_text::{FileShelf, Shelf};
+use cat_text::{Counted, Shelf};
 use std::alloc::{Alloc, Allocator, Global};
 use std::cell::Cell;
 use std::fs::{Metadata, OpenOptions};
@@ -116,7 +116,7 @@ fn save_of(
         calls: Cell::new(0),
         fails,
     };
-    let is_saved = FileShelf::new(files).save(file.as_str(), b"new").is_ok();
+    let is_saved = Counted::new(files).save(file.as_str(), b"new").is_ok();
     let bytes = fs::read(rt, file)?;
     let (is_new, is_old) = (
         bytes.as_slice() == b"new".as_slice(),

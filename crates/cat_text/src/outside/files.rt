@@ -1,72 +1,20 @@
-//! The file system as a shelf. It tells no bytes: what the system keeps is its word.
-ghost use Rattle.std.specs.Prelude.{◌≡◌, ℕ, None};
+//! Files of the system, loaded whole and replaced in one step.
 
-use super::fault_count::FaultCount;
-use super::shelf::{LoadFault, SaveFault, Shelf};
+use super::shelf::SaveFault;
 use std::alloc::AllocGlobal;
 use std::fs::{File, OpenFile, OpenOptions, Permissions};
 use std::io::{ErrorKind, Write};
-use std::marker::Model;
 use std::os::unix::fs::{OpenOptionsExt, PermissionsExt};
 use std::path::{Path, PathBuf};
 use std::rt::Files;
 use std::{fs, io};
 
-/// Files by their paths, seen with the number of the calls that failed.
-///
-/// A save writes a new file beside the old one, flushes it, and gives it the name in one step, so that a process that
-/// is killed leaves the old bytes or the new ones under the name. The mode bits stay. A symbolic link is followed: the
-/// file that it leads to is loaded or replaced, and the link stays; a save under a link that leads nowhere fails. Only
-/// regular files are loaded and replaced.
-#[derive(Drop)]
-pub struct FileShelf<R> {
-    rt: R,
-    faults: FaultCount,
-}
-
-impl<R> Model for FileShelf<R> {
-    ghost Value = { R × ℕ };
-
-    ghost view = { λ s. (s.rt, s.faults.count) };
-}
-
-impl<R> FileShelf<R> {
-    /// The files of a runtime, before the first call.
-    pub fn new(rt: R) -> FileShelf<R>
-        ensures { result ≡ (rt, 0) }
-    {
-        let faults = FaultCount::new();
-        FileShelf { rt, faults }
-    }
-}
-
-impl<R: Files + AllocGlobal> Shelf for FileShelf<R> {
-    ghost files = { λ _. None };
-
-    ghost faults = { λ s. s.1 };
-
-    fn load(&mut self, name: &str) -> Result<Option<Vec<u8>>, LoadFault> {
-        match read_file(&self.rt, name) {
-            Ok(found) => Ok(found),
-            Err(error) if error.kind() == ErrorKind::OutOfMemory => Err(LoadFault::NoMemory),
-            Err(_) => {
-                self.faults.rise();
-                Err(LoadFault::Failed)
-            }
-        }
-    }
-
-    fn save(&mut self, name: &str, bytes: &[u8]) -> Result<(), SaveFault> {
-        let saved = save_file(&self.rt, name, bytes);
-        if saved == Err(SaveFault::Failed) {
-            self.faults.rise();
-        }
-        saved
-    }
-}
-
 /// Saves a file. Memory is wanted only before the file is another.
-fn save_file<R: Files + AllocGlobal>(rt: &R, path: &str, bytes: &[u8]) -> Result<(), SaveFault> {
+pub(super) fn save_file<R: Files + AllocGlobal>(
+    rt: &R,
+    path: &str,
+    bytes: &[u8],
+) -> Result<(), SaveFault> {
     match replace_file(rt, path, bytes) {
         Ok(folder) if sync_folder(rt, folder.as_path()).is_ok() => Ok(()),
         Err(error) if error.kind() == ErrorKind::OutOfMemory => Err(SaveFault::NoMemory),
@@ -75,7 +23,10 @@ fn save_file<R: Files + AllocGlobal>(rt: &R, path: &str, bytes: &[u8]) -> Result
 }
 
 /// The bytes of a regular file; None where there is none.
-fn read_file<R: Files + AllocGlobal>(rt: &R, path: &str) -> io::Result<Option<Vec<u8>>> {
+pub(super) fn read_file<R: Files + AllocGlobal>(
+    rt: &R,
+    path: &str,
+) -> io::Result<Option<Vec<u8>>> {
     match permissions_of(rt, path)? {
         Some(_) => Ok(Some(fs::read(rt, path)?)),
         None => Ok(None),
