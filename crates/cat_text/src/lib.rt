@@ -10,11 +10,12 @@ mod summary;
 mod word_line;
 
 pub use outside::counted::Counted;
+pub use outside::fault::OutsideFault;
 pub use outside::memory::{MemorySink, MemorySource};
 pub use outside::memory_shelf::MemoryShelf;
 pub use outside::plan::FaultPlan;
-pub use outside::shelf::{LoadFault, SaveFault, Shelf};
-pub use outside::sink::{Sink, WriteFault, write_whole};
+pub use outside::shelf::Shelf;
+pub use outside::sink::{Sink, write_whole};
 pub use outside::source::{Failed, ReadFault, Source, read_whole};
 pub use print::{print_report, print_rounds};
 pub use report::{Report, RoundReport};

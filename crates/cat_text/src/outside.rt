@@ -2,6 +2,7 @@
 //! test can let any call fail.
 
 pub mod counted;
+pub mod fault;
 pub mod fault_count;
 pub mod files;
 pub mod memory;

@@ -5,10 +5,8 @@ use Rattle.cat_script.specs.declared.fault.ScriptFault.{ScriptFault}
 use Rattle.cat_script.specs.declared.fault.ScriptFault.TheVariants as script
 use Rattle.cat_text.specs.declared.outside.source.ReadFault.{ReadFault}
 use Rattle.cat_text.specs.declared.outside.source.ReadFault.TheVariants as read
-use Rattle.cat_text.specs.declared.outside.shelf.LoadFault.{LoadFault}
-use Rattle.cat_text.specs.declared.outside.shelf.LoadFault.TheVariants as load
-use Rattle.cat_text.specs.declared.outside.shelf.SaveFault.{SaveFault}
-use Rattle.cat_text.specs.declared.outside.shelf.SaveFault.TheVariants as save
+use Rattle.cat_text.specs.declared.outside.fault.OutsideFault.{OutsideFault}
+use Rattle.cat_text.specs.declared.outside.fault.OutsideFault.TheVariants as outside
 use Rattle.pm_words.specs.declared.bytes.ImageFault.{ImageFault}
 use Rattle.pm_words.specs.declared.bytes.ImageFault.TheVariants as fault
 use Rattle.pm_words.specs.declared.layout.Field.TheVariants as field
@@ -81,13 +79,9 @@ status_of_script (script.Line line reason) = Script (script.Line line reason)
 status_of_script script.NoMemory = NoMemory
 
 -- What a shelf comes to that gave no answer on a file, or didn't save it.
-abbrev pub status_of_load : LoadFault → Status
-status_of_load load.Failed = Shelf
-status_of_load load.NoMemory = NoMemory
-
-abbrev pub status_of_save : SaveFault → Status
-status_of_save save.Failed = Shelf
-status_of_save save.NoMemory = NoMemory
+abbrev pub status_of_shelf : OutsideFault → Status
+status_of_shelf outside.Failed = Shelf
+status_of_shelf outside.NoMemory = NoMemory
 
 -- What an image comes to that isn't opened.
 abbrev pub status_of_open : OpenFault → Status

@@ -22,7 +22,7 @@ use crate::run_file::run_file;
 use crate::status::Status;
 use cat_command::{Command, read_command};
 use cat_script::MOST_BYTES;
-use cat_text::{Shelf, Sink, Source, WriteFault, print_report, write_whole};
+use cat_text::{OutsideFault, Shelf, Sink, Source, print_report, write_whole};
 use crowd_rounds::pac_index::Gate;
 use pm_words::Layout;
 use std::alloc::Global;
@@ -119,8 +119,8 @@ fn run_command<R: Threads + Wait + Sync, S: Source, K: Sink, H: Shelf, G: Gate>(
         Err(status) => status,
         Ok(text) => match write_whole(out, &text) {
             Ok(()) => Status::Done,
-            Err(WriteFault::Failed) => Status::Write,
-            Err(WriteFault::NoMemory) => Status::NoMemory,
+            Err(OutsideFault::Failed) => Status::Write,
+            Err(OutsideFault::NoMemory) => Status::NoMemory,
         },
     }
 }

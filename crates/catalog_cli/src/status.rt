@@ -5,7 +5,7 @@ ghost use Rattle.catalog_cli.specs.Statuses.{code_of, refusal_text, status_text}
 
 use cat_history::NoMemory;
 use cat_script::ScriptFault;
-use cat_text::{LoadFault, ReadFault, SaveFault};
+use cat_text::{OutsideFault, ReadFault};
 use crowd_rounds::recovery::OpenFault;
 use pm_words::{Field, ImageFault};
 use std::fmt;
@@ -123,30 +123,16 @@ impl From<ScriptFault> for Status {
     }
 }
 
-impl From<LoadFault> for Status {
+impl From<OutsideFault> for Status {
     ghost use Rattle.std.specs.Prelude.{◌≡◌};
-    ghost use Rattle.catalog_cli.specs.Statuses.{status_of_load};
+    ghost use Rattle.catalog_cli.specs.Statuses.{status_of_shelf};
 
-    ghost from_gives = { λ fault status. status ≡ status_of_load fault };
+    ghost from_gives = { λ fault status. status ≡ status_of_shelf fault };
 
-    fn from(fault: LoadFault) -> Status {
+    fn from(fault: OutsideFault) -> Status {
         match fault {
-            LoadFault::Failed => Status::Shelf,
-            LoadFault::NoMemory => Status::NoMemory,
-        }
-    }
-}
-
-impl From<SaveFault> for Status {
-    ghost use Rattle.std.specs.Prelude.{◌≡◌};
-    ghost use Rattle.catalog_cli.specs.Statuses.{status_of_save};
-
-    ghost from_gives = { λ fault status. status ≡ status_of_save fault };
-
-    fn from(fault: SaveFault) -> Status {
-        match fault {
-            SaveFault::Failed => Status::Shelf,
-            SaveFault::NoMemory => Status::NoMemory,
+            OutsideFault::Failed => Status::Shelf,
+            OutsideFault::NoMemory => Status::NoMemory,
         }
     }
 }

@@ -3,7 +3,7 @@ ghost use Rattle.std.specs.Prelude.{◌≡◌, length, IfOk, IfSome, OnOk, IsErr
 ghost use Rattle.cat_text.specs.Shelves.{KeepsFiles, SavesFile};
 ghost use Rattle.cat_text.specs.declared.outside.source.ReadFault.{ReadFault as SourceFault};
 
-use cat_text::{ReadFault, SaveFault, Shelf, Source, read_whole};
+use cat_text::{OutsideFault, ReadFault, Shelf, Source, read_whole};
 use std::alloc::Global;
 
 /// The most bytes that are saved.
@@ -13,7 +13,7 @@ const MOST_BYTES: usize = 67_108_864;
 #[derive(Clone, Copy, Debug, PartialEq, Eq)]
 pub enum TrialFault {
     Read(ReadFault),
-    Save(SaveFault),
+    Save(OutsideFault),
 }
 
 /// Saves all that a source has left as the file of this name, and answers how many bytes that are. Where the source

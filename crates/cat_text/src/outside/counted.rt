@@ -3,17 +3,24 @@
 //! bytes: what these give and take is the system's word.
 ghost use Rattle.std.specs.Prelude.{◌≡◌, ℕ, None};
 
+use super::fault::OutsideFault;
 use super::fault_count::FaultCount;
 use super::files::{read_file, save_file};
-use super::shelf::{LoadFault, SaveFault, Shelf};
-use super::sink::{Sink, WriteFault};
+use super::shelf::Shelf;
+use super::sink::Sink;
 use super::source::{Failed, Source};
 use std::alloc::AllocGlobal;
 use std::io::{ErrorKind, Read, Write};
 use std::marker::Model;
 use std::rt::Files;
 
-/// A reader, a writer, or a runtime with files, seen with the number of its calls that failed.
+/// A reader, a writer, or a runtime with files by their paths, seen with the number of its calls that failed. Each
+/// write of a writer is passed on at once.
+///
+/// A save of a file writes a new one beside the old one, flushes it, and gives it the name in one step, so that a
+/// process that is killed leaves the old bytes or the new ones under the name. The mode bits stay. A symbolic link is
+/// followed: the file that it leads to is loaded or replaced, and the link stays; a save under a link that leads
+/// nowhere fails. Only regular files are loaded and replaced.
 #[derive(Drop)]
 pub struct Counted<T> {
     inner: T,
@@ -52,49 +59,42 @@ impl<R: Read> Source for Counted<R> {
     }
 }
 
-/// Each write is passed on at once.
 impl<W: Write> Sink for Counted<W> {
     ghost written = { λ s. W.contents s.0 };
 
     ghost faults = { λ s. s.1 };
 
-    fn write(&mut self, piece: &[u8]) -> Result<usize, WriteFault> {
+    fn write(&mut self, piece: &[u8]) -> Result<usize, OutsideFault> {
         match self.inner.write(piece) {
             Ok(taken) if taken > 0 || piece.is_empty() => Ok(taken),
             // A write that takes nothing of a piece would be tried for ever.
             _ => {
                 self.faults.rise();
-                Err(WriteFault::Failed)
+                Err(OutsideFault::Failed)
             }
         }
     }
 }
 
-/// Files by their paths.
-///
-/// A save writes a new file beside the old one, flushes it, and gives it the name in one step, so that a process that
-/// is killed leaves the old bytes or the new ones under the name. The mode bits stay. A symbolic link is followed: the
-/// file that it leads to is loaded or replaced, and the link stays; a save under a link that leads nowhere fails. Only
-/// regular files are loaded and replaced.
 impl<R: Files + AllocGlobal> Shelf for Counted<R> {
     ghost files = { λ _. None };
 
     ghost faults = { λ s. s.1 };
 
-    fn load(&mut self, name: &str) -> Result<Option<Vec<u8>>, LoadFault> {
+    fn load(&mut self, name: &str) -> Result<Option<Vec<u8>>, OutsideFault> {
         match read_file(&self.inner, name) {
             Ok(found) => Ok(found),
-            Err(error) if error.kind() == ErrorKind::OutOfMemory => Err(LoadFault::NoMemory),
+            Err(error) if error.kind() == ErrorKind::OutOfMemory => Err(OutsideFault::NoMemory),
             Err(_) => {
                 self.faults.rise();
-                Err(LoadFault::Failed)
+                Err(OutsideFault::Failed)
             }
         }
     }
 
-    fn save(&mut self, name: &str, bytes: &[u8]) -> Result<(), SaveFault> {
+    fn save(&mut self, name: &str, bytes: &[u8]) -> Result<(), OutsideFault> {
         let saved = save_file(&self.inner, name, bytes);
-        if saved == Err(SaveFault::Failed) {
+        if saved == Err(OutsideFault::Failed) {
             self.faults.rise();
         }
         saved

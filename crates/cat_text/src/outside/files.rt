@@ -1,6 +1,6 @@
 //! Files of the system, loaded whole and replaced in one step.
 
-use super::shelf::SaveFault;
+use super::fault::OutsideFault;
 use std::alloc::AllocGlobal;
 use std::fs::{File, OpenFile, OpenOptions, Permissions};
 use std::io::{ErrorKind, Write};
@@ -14,19 +14,16 @@ pub(super) fn save_file<R: Files + AllocGlobal>(
     rt: &R,
     path: &str,
     bytes: &[u8],
-) -> Result<(), SaveFault> {
+) -> Result<(), OutsideFault> {
     match replace_file(rt, path, bytes) {
         Ok(folder) if sync_folder(rt, folder.as_path()).is_ok() => Ok(()),
-        Err(error) if error.kind() == ErrorKind::OutOfMemory => Err(SaveFault::NoMemory),
-        _ => Err(SaveFault::Failed),
+        Err(error) if error.kind() == ErrorKind::OutOfMemory => Err(OutsideFault::NoMemory),
+        _ => Err(OutsideFault::Failed),
     }
 }
 
 /// The bytes of a regular file; None where there is none.
-pub(super) fn read_file<R: Files + AllocGlobal>(
-    rt: &R,
-    path: &str,
-) -> io::Result<Option<Vec<u8>>> {
+pub(super) fn read_file<R: Files + AllocGlobal>(rt: &R, path: &str) -> io::Result<Option<Vec<u8>>> {
     match permissions_of(rt, path)? {
         Some(_) => Ok(Some(fs::read(rt, path)?)),
         None => Ok(None),

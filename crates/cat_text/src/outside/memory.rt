@@ -3,8 +3,9 @@ ghost use Rattle.std.specs.Prelude.{◌≡◌, ◌≢◌, ◌+◌, ◌<◌, ◌�
 ghost use Rattle.std.specs.Prelude.{IfOk, IsErr, OnOk, OnErr};
 ghost use Rattle.cat_text.specs.OutsideMemory.{Feed, Store, IsNextToFail, after_call, after_fault};
 
+use super::fault::OutsideFault;
 use super::plan::FaultPlan;
-use super::sink::{Sink, WriteFault};
+use super::sink::Sink;
 use super::source::{Failed, Source};
 use std::alloc::Global;
 use std::marker::Model;
@@ -136,8 +137,8 @@ impl Sink for MemorySink {
 
     ghost faults = { λ s. s.plan.faults };
 
-    fn write(&mut self, piece: &[u8]) -> Result<usize, WriteFault>
-        ensures fails { (result ≡ Err WriteFault.Failed) ↔ IsNextToFail self.old.plan }
+    fn write(&mut self, piece: &[u8]) -> Result<usize, OutsideFault>
+        ensures fails { (result ≡ Err OutsideFault.Failed) ↔ IsNextToFail self.old.plan }
         ensures count { IfOk result (λ taken. taken ≡ min (length piece.now) self.old.largest) }
         ensures takes { IfOk result (λ taken. 0 < length piece.now → 0 < taken) }
         ensures appends { IfOk result (λ taken. self.new.written ≡ self.old.written ++ take taken piece.now) }
@@ -146,11 +147,11 @@ impl Sink for MemorySink {
         ensures keeps { OnErr result (self.new.written ≡ self.old.written) }
         ensures largest { self.new.largest ≡ self.old.largest }
 
-        ensures call_counted { result ≢ Err WriteFault.Failed → self.new.plan ≡ after_call self.old.plan }
-        ensures fault_counted { result ≡ Err WriteFault.Failed → self.new.plan ≡ after_fault self.old.plan }
+        ensures call_counted { result ≢ Err OutsideFault.Failed → self.new.plan ≡ after_call self.old.plan }
+        ensures fault_counted { result ≡ Err OutsideFault.Failed → self.new.plan ≡ after_fault self.old.plan }
     {
         if self.plan.next_fails() {
-            return Err(WriteFault::Failed);
+            return Err(OutsideFault::Failed);
         }
         let taken = piece.len().min(self.largest);
         self.bytes.extend_from_slice(&piece[..taken])?;

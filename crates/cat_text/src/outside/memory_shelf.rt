@@ -4,8 +4,9 @@ ghost use Rattle.std.specs.FinMap.{empty, get, insert};
 ghost use Rattle.cat_text.specs.OutsideMemory.{IsNextToFail, after_call, after_fault};
 ghost use Rattle.cat_text.specs.Shelves.{content};
 
+use super::fault::OutsideFault;
 use super::plan::FaultPlan;
-use super::shelf::{LoadFault, SaveFault, Shelf};
+use super::shelf::Shelf;
 use std::alloc::Global;
 use std::collections::BTreeMap;
 use std::marker::Model;
@@ -53,16 +54,16 @@ impl Shelf for MemoryShelf {
 
     ghost faults = { λ s. s.plan.faults };
 
-    fn load(&mut self, name: &str) -> Result<Option<Vec<u8>>, LoadFault>
-        ensures fails { (result ≡ Err LoadFault.Failed) ↔ IsNextToFail self.old.plan }
+    fn load(&mut self, name: &str) -> Result<Option<Vec<u8>>, OutsideFault>
+        ensures fails { (result ≡ Err OutsideFault.Failed) ↔ IsNextToFail self.old.plan }
         ensures finds { IfOk result (λ found. content found ≡ get self.old.files name.now) }
         ensures keeps { self.new.files ≡ self.old.files }
 
-        ensures call_counted { result ≢ Err LoadFault.Failed → self.new.plan ≡ after_call self.old.plan }
-        ensures fault_counted { result ≡ Err LoadFault.Failed → self.new.plan ≡ after_fault self.old.plan }
+        ensures call_counted { result ≢ Err OutsideFault.Failed → self.new.plan ≡ after_call self.old.plan }
+        ensures fault_counted { result ≡ Err OutsideFault.Failed → self.new.plan ≡ after_fault self.old.plan }
     {
         if self.plan.next_fails() {
-            return Err(LoadFault::Failed);
+            return Err(OutsideFault::Failed);
         }
         let Some(bytes) = self.files.get(name) else {
             return Ok(None);
@@ -70,22 +71,22 @@ impl Shelf for MemoryShelf {
         Ok(Some(Vec::from_slice(self.alloc, bytes)?))
     }
 
-    fn save(&mut self, name: &str, bytes: &[u8]) -> Result<(), SaveFault>
-        ensures fails { (result ≡ Err SaveFault.Failed) ↔ IsNextToFail self.old.plan }
+    fn save(&mut self, name: &str, bytes: &[u8]) -> Result<(), OutsideFault>
+        ensures fails { (result ≡ Err OutsideFault.Failed) ↔ IsNextToFail self.old.plan }
         ensures saves { OnOk result (self.new.files ≡ insert self.old.files name.now bytes.now) }
         ensures keeps { OnErr result (self.new.files ≡ self.old.files) }
 
-        ensures call_counted { result ≢ Err SaveFault.Failed → self.new.plan ≡ after_call self.old.plan }
-        ensures fault_counted { result ≡ Err SaveFault.Failed → self.new.plan ≡ after_fault self.old.plan }
+        ensures call_counted { result ≢ Err OutsideFault.Failed → self.new.plan ≡ after_call self.old.plan }
+        ensures fault_counted { result ≡ Err OutsideFault.Failed → self.new.plan ≡ after_fault self.old.plan }
     {
         if self.plan.next_fails() {
-            return Err(SaveFault::Failed);
+            return Err(OutsideFault::Failed);
         }
         let name = String::from_str(self.alloc, name)?;
         let bytes = Vec::from_slice(self.alloc, bytes)?;
         match self.files.insert(name, bytes) {
             Ok(_) => Ok(()),
-            Err(_) => Err(SaveFault::NoMemory),
+            Err(_) => Err(OutsideFault::NoMemory),
         }
     }
 }

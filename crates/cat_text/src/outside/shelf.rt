@@ -1,44 +1,8 @@
 //! Files by name, of which one is loaded or saved whole.
 ghost use Rattle.std.specs.Prelude.{◌≡◌, ℕ, ◌<◌, ◌≤◌, ◌⊎◌, Option, IfOk, OnOk};
 ghost use Rattle.cat_text.specs.Shelves.{FileMap, Finds, KeepsFiles, SavesFile};
-ghost use Rattle.cat_text.specs.declared.outside.shelf.LoadFault.TheVariants.{NoMemory as LoadWantsMemory};
-ghost use Rattle.cat_text.specs.declared.outside.shelf.SaveFault.TheVariants.{NoMemory as SaveWantsMemory};
 
-use std::alloc::AllocError;
-
-/// Why a shelf gave no answer on a file.
-#[derive(Clone, Copy, Debug, PartialEq, Eq)]
-pub enum LoadFault {
-    /// The file could not be read.
-    Failed,
-    /// There was no memory for its bytes.
-    NoMemory,
-}
-
-impl From<AllocError> for LoadFault {
-    ghost from_gives = { λ _ fault. fault ≡ LoadWantsMemory };
-
-    fn from(_error: AllocError) -> LoadFault {
-        LoadFault::NoMemory
-    }
-}
-
-/// Why a shelf did not save a file.
-#[derive(Clone, Copy, Debug, PartialEq, Eq)]
-pub enum SaveFault {
-    /// The file could not be saved. It is as it was, or has the new bytes already.
-    Failed,
-    /// There was no memory. The file is as it was.
-    NoMemory,
-}
-
-impl From<AllocError> for SaveFault {
-    ghost from_gives = { λ _ fault. fault ≡ SaveWantsMemory };
-
-    fn from(_error: AllocError) -> SaveFault {
-        SaveFault::NoMemory
-    }
-}
+use super::fault::OutsideFault;
 
 /// Files by name.
 ///
@@ -51,22 +15,22 @@ pub trait Shelf {
 
     /// The bytes of the file of this name; None where there is no such file. The files stay as they are, whatever the
     /// answer is.
-    fn load(&mut self, name: &str) -> Result<Option<Vec<u8>>, LoadFault>
+    fn load(&mut self, name: &str) -> Result<Option<Vec<u8>>, OutsideFault>
         ensures finds { IfOk result (λ found. Finds (files self.old) name.now found) }
         ensures keeps { KeepsFiles (files self.old) (files self.new) }
 
-        ensures counted { result ≡ Err LoadFault.Failed → faults self.old < faults self.new }
+        ensures counted { result ≡ Err OutsideFault.Failed → faults self.old < faults self.new }
         ensures never_falls { faults self.old ≤ faults self.new };
 
     /// Gives the file of this name these bytes, and makes it where there is none. No other file changes, whatever the
     /// answer is.
-    fn save(&mut self, name: &str, bytes: &[u8]) -> Result<(), SaveFault>
+    fn save(&mut self, name: &str, bytes: &[u8]) -> Result<(), OutsideFault>
         ensures saves { OnOk result (SavesFile (files self.old) (files self.new) name.now bytes.now) }
-        ensures failed { result ≡ Err SaveFault.Failed
+        ensures failed { result ≡ Err OutsideFault.Failed
             → KeepsFiles (files self.old) (files self.new)
             ⊎ SavesFile (files self.old) (files self.new) name.now bytes.now }
-        ensures no_memory { result ≡ Err SaveFault.NoMemory → KeepsFiles (files self.old) (files self.new) }
+        ensures no_memory { result ≡ Err OutsideFault.NoMemory → KeepsFiles (files self.old) (files self.new) }
 
-        ensures counted { result ≡ Err SaveFault.Failed → faults self.old < faults self.new }
+        ensures counted { result ≡ Err OutsideFault.Failed → faults self.old < faults self.new }
         ensures never_falls { faults self.old ≤ faults self.new };
 }

@@ -2,26 +2,8 @@
 ghost use Rattle.std.specs.Prelude.{◌≡◌, ℕ, ◌<◌, ◌≤◌, Option, List, length, take, IfOk, OnOk, OnErr};
 ghost use Rattle.std.specs.Io.KnownBytes.{Appends, Keeps};
 ghost use Rattle.cat_text.specs.Outside.{AppendsPart};
-ghost use Rattle.cat_text.specs.declared.outside.sink.WriteFault.TheVariants.{NoMemory};
 
-use std::alloc::AllocError;
-
-/// Why a sink took nothing.
-#[derive(Clone, Copy, Debug, PartialEq, Eq)]
-pub enum WriteFault {
-    /// The write failed.
-    Failed,
-    /// The sink had no memory for the bytes.
-    NoMemory,
-}
-
-impl From<AllocError> for WriteFault {
-    ghost from_gives = { λ _ fault. fault ≡ NoMemory };
-
-    fn from(_error: AllocError) -> WriteFault {
-        WriteFault::NoMemory
-    }
-}
+use super::fault::OutsideFault;
 
 /// Bytes that are written in order.
 ///
@@ -34,22 +16,22 @@ pub trait Sink {
 
     /// Takes bytes from the front of the piece, and answers how many: at least one, where the
     /// piece has one.
-    fn write(&mut self, piece: &[u8]) -> Result<usize, WriteFault>
+    fn write(&mut self, piece: &[u8]) -> Result<usize, OutsideFault>
         ensures within { IfOk result (λ taken. taken ≤ length piece.now) }
         ensures takes { IfOk result (λ taken. 0 < length piece.now → 0 < taken) }
         ensures appends { IfOk result (λ taken. Appends (written self.old) (written self.new) (take taken piece.now)) }
 
         ensures keeps { OnErr result (Keeps (written self.old) (written self.new)) }
-        ensures counted { result ≡ Err WriteFault.Failed → faults self.old < faults self.new }
+        ensures counted { result ≡ Err OutsideFault.Failed → faults self.old < faults self.new }
         ensures never_falls { faults self.old ≤ faults self.new };
 }
 
 /// Writes a whole text, in as many writes as the sink needs. After an error the sink has a front
 /// of the text that lacks at least its last byte.
-pub fn write_whole<K: Sink>(sink: &mut K, text: &[u8]) -> Result<(), WriteFault>
+pub fn write_whole<K: Sink>(sink: &mut K, text: &[u8]) -> Result<(), OutsideFault>
     ensures whole { OnOk result (Appends (K.written sink.old) (K.written sink.new) text.now) }
     ensures part { OnErr result (AppendsPart (K.written sink.old) (K.written sink.new) text.now) }
-    ensures failed { result ≡ Err WriteFault.Failed → K.faults sink.old < K.faults sink.new }
+    ensures failed { result ≡ Err OutsideFault.Failed → K.faults sink.old < K.faults sink.new }
     ensures never_falls { K.faults sink.old ≤ K.faults sink.new }
 {
     let mut rest = text;

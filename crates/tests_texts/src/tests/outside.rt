@@ -1,8 +1,7 @@
 //! Reading whole and writing whole, over sources and sinks whose calls move few bytes, and fail.
 
 use cat_text::{
-    Counted, FaultPlan, MemorySink, MemorySource, ReadFault, WriteFault, read_whole,
-    write_whole,
+    Counted, FaultPlan, MemorySink, MemorySource, OutsideFault, ReadFault, read_whole, write_whole,
 };
 use std::alloc::Global;
 use std::io;
@@ -58,8 +57,8 @@ fn write_of(alloc: Global, largest: usize, failing: u64) -> Option<(u8, usize, u
     let mut sink = MemorySink::new(alloc, largest.max(1), plan_of(alloc, failing)?);
     let ended = match write_whole(&mut sink, BYTES) {
         Ok(()) => 0,
-        Err(WriteFault::Failed) => 1,
-        Err(WriteFault::NoMemory) => 2,
+        Err(OutsideFault::Failed) => 1,
+        Err(OutsideFault::NoMemory) => 2,
     };
     if !BYTES.starts_with(sink.written()) {
         return None;
@@ -112,6 +111,6 @@ fn a_writer_with_room_and_one_without(rt: HostRuntime) -> Result<(), Fail> {
     assert_eq!(rt; (written, &roomy), (Ok(()), b"abcdefgh.."));
     let mut short = [b'.'; 4];
     let failed = write_whole(&mut Counted::new(short.as_mut_slice()), BYTES);
-    assert_eq!(rt; (failed, &short), (Err(WriteFault::Failed), b"abcd"));
+    assert_eq!(rt; (failed, &short), (Err(OutsideFault::Failed), b"abcd"));
     Ok(())
 }
