@@ -13,8 +13,9 @@ use Rattle.cat_text.specs.ReportGrammar.{IsReportPart}
 use Rattle.shapes.specs.Anchors.{Anchors, past, next_of}
 use Rattle.shapes.specs.Weights.{IsShape}
 use Rattle.shapes.proofs.ScansByShape.{next-above, past-shorter, past-within}
-use Rattle.stopped_rounds.specs.Bounded.{MapState}
+use Rattle.stopped_rounds.specs.Bounded.{MapState, IsSame}
 use Rattle.stopped_rounds.specs.Stops.{IsScanSoFar}
+use Rattle.stopped_rounds.proofs.Came.{of_some}
 
 -- a part of the shape at this place
 pub part-is : (m : Map) (anchors : Anchors) (low : List ℕ) (left place : ℕ) (high : Option (List ℕ)) (pairs : List Pair) → high ≡ next_of anchors low → pairs ≡ take left (range m low high) →
@@ -62,13 +63,20 @@ pub record IsNext (s : MapState) (low : List ℕ) (left place : ℕ) (p : ScanPa
   pub bound : p.high ≡ next_of s.anchors low
   pub told : IsReportPart p
 
-pub next-part : (s now : MapState) (low : List ℕ) (left place : ℕ) (p : ScanPart) → now.contents ≡ s.contents → now.anchors ≡ s.anchors → IsPart (λ _. now.contents) low left place p → p.place ≡ place → p.high ≡ next_of now.anchors low → IsReportPart p → IsNext s low left place p
+next-part : (s now : MapState) (low : List ℕ) (left place : ℕ) (p : ScanPart) → now.contents ≡ s.contents → now.anchors ≡ s.anchors → IsPart (λ _. now.contents) low left place p → p.place ≡ place → p.high ≡ next_of now.anchors low → IsReportPart p → IsNext s low left place p
 next-part s now low left place p same shape is here bound told = record {
   part = subst (λ (k : Map). IsPart (λ _. k) low left place p) same is;
   here = here;
   bound = bound ∙ ap (λ (b : Anchors). next_of b low) shape;
   told = told;
 }
+
+-- the next part, where the map is as it was
+pub read-next : (s now : MapState) (low : List ℕ) (left place : ℕ) (read : Option ScanPart) (p : ScanPart) → IsSame s now → read ≡ Some p
+    → IfSome read (λ part. IsPart (λ _. now.contents) low left place part × (part.place ≡ place) × (part.high ≡ next_of now.anchors low)) → IfSome read IsReportPart → IsNext s low left place p
+read-next s now low left place read p same is here told =
+    let tells = of_some _ read p is here in
+    next-part s now low left place p same.0 same.1 tells.0 tells.1 tells.2 (of_some _ read p is told)
 
 part_few : (s : MapState) (low : List ℕ) (left place : ℕ) (p : ScanPart) → IsPart (λ _. s.contents) low left place p → length p.pairs ≤ left
 part_few s low left place p is = omega (arith, ap length is.lists, length-take left (range s.contents p.low p.high))
@@ -116,6 +124,10 @@ to_come anchors (Some low) = length (past anchors low) + 1
 pub fewer-to-come : (anchors : Anchors) (low : List ℕ) (next : Option (List ℕ)) → next ≡ next_of anchors low → to_come anchors next + 1 ≤ to_come anchors (Some low)
 fewer-to-come anchors low None is = omega arith
 fewer-to-come anchors low (Some high) is = let less = past-shorter anchors low high (sym is) in omega arith
+
+-- behind a part that was read fewer of them are to come
+pub fewer-behind : (s : MapState) (next : Option (List ℕ)) (low : List ℕ) (left place : ℕ) (p : ScanPart) → next ≡ Some low → IsNext s low left place p → to_come s.anchors p.high + 1 ≤ to_come s.anchors next
+fewer-behind s next low left place p is part = let come = ap (to_come s.anchors) is in let less = fewer-to-come s.anchors low p.high part.bound in omega (arith, come, less)
 
 -- there are no more of them than members
 pub parts-fit : (slots most : ℕ) (m : Map) (anchors : Anchors) (from : List ℕ) → IsShape slots most m anchors → length (past anchors from) + 1 ≤ most

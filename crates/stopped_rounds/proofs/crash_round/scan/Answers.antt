@@ -1,6 +1,6 @@
 use Rattle.std.proofs.Common.{◌-◌, ◌∙◌, ap, refl, arith, length}
-use Rattle.stopped_rounds.proofs.Came.{none_else, of_some}
-use Rattle.stopped_rounds.proofs.ScanStops.{reads-first, reads-cut, reads-end, reads-more, reads-last, next-part, to_come, fewer-to-come}
+use Rattle.stopped_rounds.proofs.Came.{none_else}
+use Rattle.stopped_rounds.proofs.ScanStops.{reads-first, reads-cut, reads-end, reads-more, reads-last, read-next, to_come, fewer-behind}
 use Rattle.stopped_rounds.proofs.crash_round.scan.Goals as goal
 
 pub loop-next-init : goal.loop-next-init
@@ -29,23 +29,16 @@ returns-in_default-2-clause-told g c = rw c.of-in_default-2.ensures c.loop-next.
 pub loop-next-smaller-then-left-gt0 : goal.loop-next-smaller-then-left-gt0
 loop-next-smaller-then-left-gt0 g c =
     let M = g.M.BoundedMap in
-    let shape = (M.state c.args.map.now).anchors in
-    let told = of_some _ _ c.in-Some-2.part c.in-Some-2.is c.in_ok-part.ensures.part in
-    let was = c.loop-next.invariant in
-    let is = next-part (M.state c.args.map.now) (M.state c.loop-next.map) c.in-Some.low c.loop-next.left c.args.place c.in-Some-2.part was.same.0 was.same.1 told.0 told.1 told.2 (of_some _ _ c.in-Some-2.part c.in-Some-2.is c.in_ok-part.ensures.told) in
-    let come = ap (to_come shape) c.in-Some.is in
-    let less = fewer-to-come shape c.in-Some.low c.in-Some-2.part.high is.bound in
-    omega (arith, come, less)
+    let is = read-next (M.state c.args.map.now) (M.state c.loop-next.map) c.in-Some.low c.loop-next.left c.args.place _ c.in-Some-2.part c.loop-next.invariant.same c.in-Some-2.is c.in_ok-part.ensures.part c.in_ok-part.ensures.told in
+    let less = fewer-behind (M.state c.args.map.now) c.loop-next.next c.in-Some.low c.loop-next.left c.args.place c.in-Some-2.part c.in-Some.is is in
+    omega (arith, less)
 
 pub loop-next-preserved-then-left-gt0 : goal.loop-next-preserved-then-left-gt0
 loop-next-preserved-then-left-gt0 g c =
     let M = g.M.BoundedMap in
-    let shape = (M.state c.args.map.now).anchors in
-    let told = of_some _ _ c.in-Some-2.part c.in-Some-2.is c.in_ok-part.ensures.part in
     let was = c.loop-next.invariant in
-    let is = next-part (M.state c.args.map.now) (M.state c.loop-next.map) c.in-Some.low c.loop-next.left c.args.place c.in-Some-2.part was.same.0 was.same.1 told.0 told.1 told.2 (of_some _ _ c.in-Some-2.part c.in-Some-2.is c.in_ok-part.ensures.told) in
-    let come = ap (to_come shape) c.in-Some.is in
-    let less = fewer-to-come shape c.in-Some.low c.in-Some-2.part.high is.bound in
+    let is = read-next (M.state c.args.map.now) (M.state c.loop-next.map) c.in-Some.low c.loop-next.left c.args.place _ c.in-Some-2.part was.same c.in-Some-2.is c.in_ok-part.ensures.part c.in_ok-part.ensures.told in
+    let less = fewer-behind (M.state c.args.map.now) c.loop-next.next c.in-Some.low c.loop-next.left c.args.place c.in-Some-2.part c.in-Some.is is in
     let now = c.read_part.ensures.same in
     let fewer = ap (λ ps. c.loop-next.left - length ps) c.as_slice.ensures in
     record {
@@ -53,7 +46,7 @@ loop-next-preserved-then-left-gt0 g c =
       same = (now.0 ∙ was.same.0, now.1 ∙ was.same.1, now.2 ∙ was.same.2);
       slots = c.read_part.ensures.slots ∙ was.slots;
       most = c.read_part.ensures.most ∙ was.most;
-      calls = omega (arith, less, come, was.calls, c.read_part.ensures.calls_left);
+      calls = omega (arith, less, was.calls, c.read_part.ensures.calls_left);
       writes = omega (arith, was.writes, c.read_part.ensures.writes_left);
       weighs_so = omega (arith, was.weighs_so, c.read_part.ensures.weighs);
     }
@@ -61,11 +54,9 @@ loop-next-preserved-then-left-gt0 g c =
 pub loop-next-preserved : goal.loop-next-preserved
 loop-next-preserved g c =
     let M = g.M.BoundedMap in
-    let shape = (M.state c.args.map.now).anchors in
-    let told = of_some _ _ c.in-Some-2.part c.in-Some-2.is c.in_ok-part.ensures.part in
     let was = c.loop-next.invariant in
-    let is = next-part (M.state c.args.map.now) (M.state c.loop-next.map) c.in-Some.low c.loop-next.left c.args.place c.in-Some-2.part was.same.0 was.same.1 told.0 told.1 told.2 (of_some _ _ c.in-Some-2.part c.in-Some-2.is c.in_ok-part.ensures.told) in
-    let come = ap (to_come shape) c.in-Some.is in
+    let is = read-next (M.state c.args.map.now) (M.state c.loop-next.map) c.in-Some.low c.loop-next.left c.args.place _ c.in-Some-2.part was.same c.in-Some-2.is c.in_ok-part.ensures.part c.in_ok-part.ensures.told in
+    let come = ap (to_come (M.state c.args.map.now).anchors) c.in-Some.is in
     let now = c.read_part.ensures.same in
     let fewer = ap (λ ps. c.loop-next.left - length ps) c.as_slice.ensures in
     record {
