@@ -1,5 +1,8 @@
 //! Rounds whose puts are all of new names, each caller's of its own.
 
+ghost use Rattle.std.specs.Prelude.{◌≡◌};
+ghost use Rattle.pm_words.specs.Layouts.{IsLayout};
+
 use super::plans::planned;
 use cat_history::{CallerOp, Op, Reply};
 use cat_key::Name;
@@ -7,7 +10,9 @@ use holding_gates::OpenGate;
 use pm_words::Layout;
 use recovery::open_fresh;
 use std::alloc::Global;
+use std::sync::Wait;
 use std::test::Fail;
+use std::thread::Threads;
 use thread_rounds::{Finish, Round, run_round};
 
 /// How the names of a round are written.
@@ -67,27 +72,40 @@ fn names(alloc: Global, finish: Finish) -> Result<u64, Fail> {
     }
 }
 
+/// What so many callers come to that each put so many names: how many writes are placed, how many of their names are
+/// told to be new, and how many names there are in the end.
+fn counts<R: Threads + Wait + Sync>(
+    rt: &R,
+    alloc: Global,
+    layout: Layout,
+    style: Style,
+    callers: u64,
+    each: u64,
+) -> Result<[u64; 3], Fail>
+    requires layout { IsLayout layout }
+    requires callers { layout.callers ≡ callers }
+{
+    let core = open_fresh(alloc, layout)?;
+    let plan = planned(puts(alloc, style, callers, each)?, callers, 64)?;
+    let round = run_round(rt, alloc, core, &plan, &OpenGate)?;
+    let (writes, news) = (round.writes, news(&round));
+    let names = names(alloc, round.finish)?;
+    Ok([writes, news, names])
+}
+
 #[test]
 fn two_callers_place_each_write_once(rt: HostRuntime) -> Result<(), Fail> {
-    let core = open_fresh(rt.alloc(), Layout::new(512, 8, 2)?)?;
-    let plan = planned(puts(rt.alloc(), Style::Short, 2, 500)?, 2, 64)?;
-    let round = run_round(&rt, rt.alloc(), core, &plan, &OpenGate)?;
-    let told = (round.writes, news(&round));
-    assert_eq!(rt; told, (1000, 1000));
-    let names = names(rt.alloc(), round.finish)?;
-    assert_eq!(rt; names, 1000);
+    let layout = Layout::new(512, 8, 2)?;
+    let told = counts(&rt, rt.alloc(), layout, Style::Short, 2, 500)?;
+    assert_eq!(rt; told, [1000; 3]);
     Ok(())
 }
 
 /// Each split leaves 32 names on both sides, so the nodes suffice.
 #[test]
 fn four_callers_fill_five_hundred_nodes(rt: HostRuntime) -> Result<(), Fail> {
-    let core = open_fresh(rt.alloc(), Layout::new(1024, 64, 4)?)?;
-    let plan = planned(puts(rt.alloc(), Style::Long, 4, 5000)?, 4, 64)?;
-    let round = run_round(&rt, rt.alloc(), core, &plan, &OpenGate)?;
-    let told = (round.writes, news(&round));
-    assert_eq!(rt; told, (20_000, 20_000));
-    let names = names(rt.alloc(), round.finish)?;
-    assert_eq!(rt; names, 20_000);
+    let layout = Layout::new(1024, 64, 4)?;
+    let told = counts(&rt, rt.alloc(), layout, Style::Long, 4, 5000)?;
+    assert_eq!(rt; told, [20_000; 3]);
     Ok(())
 }
