@@ -2,6 +2,9 @@
 
 ghost use Rattle.std.specs.Prelude.{◌≡◌, Some};
 ghost use Rattle.catalog_cli.specs.Statuses.{code_of, refusal_text, status_text};
+ghost use Rattle.catalog_cli.specs.Statuses.{status_of_bytes, status_of_open, status_of_read, status_of_script};
+ghost use Rattle.catalog_cli.specs.Statuses.{status_of_shelf};
+ghost use Rattle.catalog_cli.specs.declared.status.Status.TheVariants.{NoMemory as OutOfMemory};
 
 use cat_history::NoMemory;
 use cat_script::ScriptFault;
@@ -88,9 +91,6 @@ impl Status {
 }
 
 impl From<ReadFault> for Status {
-    ghost use Rattle.std.specs.Prelude.{◌≡◌};
-    ghost use Rattle.catalog_cli.specs.Statuses.{status_of_read};
-
     ghost from_gives = { λ fault status. status ≡ status_of_read fault };
 
     fn from(fault: ReadFault) -> Status {
@@ -103,9 +103,6 @@ impl From<ReadFault> for Status {
 }
 
 impl From<ScriptFault> for Status {
-    ghost use Rattle.std.specs.Prelude.{◌≡◌};
-    ghost use Rattle.catalog_cli.specs.Statuses.{status_of_script};
-
     ghost from_gives = { λ fault status. status ≡ status_of_script fault };
 
     fn from(fault: ScriptFault) -> Status {
@@ -124,9 +121,6 @@ impl From<ScriptFault> for Status {
 }
 
 impl From<OutsideFault> for Status {
-    ghost use Rattle.std.specs.Prelude.{◌≡◌};
-    ghost use Rattle.catalog_cli.specs.Statuses.{status_of_shelf};
-
     ghost from_gives = { λ fault status. status ≡ status_of_shelf fault };
 
     fn from(fault: OutsideFault) -> Status {
@@ -138,9 +132,6 @@ impl From<OutsideFault> for Status {
 }
 
 impl From<ImageFault> for Status {
-    ghost use Rattle.std.specs.Prelude.{◌≡◌};
-    ghost use Rattle.catalog_cli.specs.Statuses.{status_of_bytes};
-
     ghost from_gives = { λ fault status. status ≡ status_of_bytes fault };
 
     fn from(fault: ImageFault) -> Status {
@@ -161,9 +152,6 @@ impl From<ImageFault> for Status {
 }
 
 impl From<OpenFault> for Status {
-    ghost use Rattle.std.specs.Prelude.{◌≡◌};
-    ghost use Rattle.catalog_cli.specs.Statuses.{status_of_open};
-
     ghost from_gives = { λ fault status. status ≡ status_of_open fault };
 
     fn from(fault: OpenFault) -> Status {
@@ -178,9 +166,6 @@ impl From<OpenFault> for Status {
 }
 
 impl From<NoMemory> for Status {
-    ghost use Rattle.std.specs.Prelude.{◌≡◌};
-    ghost use Rattle.catalog_cli.specs.declared.status.Status.TheVariants.{NoMemory as OutOfMemory};
-
     ghost from_gives = { λ _ status. status ≡ OutOfMemory };
 
     fn from(_error: NoMemory) -> Status {
