@@ -227,14 +227,11 @@ module _ (about : About) (id : ℕ) (v : Member) (m : Running) (f : ℕ → ℕ)
             (λ j a part. subst (λ (s' : Index). IsPartKnown s' a) path (answered_known old c v.state kept.index own.there m is j a part)));
         goes = record {
           takes = step.takes;
-          about = refl;
+          stepped = record { about = refl; told = refl; taken = refl; seen = begins_more v.seen h more own.seen };
           state = refl;
-          told = refl;
-          taken = refl;
           added = refl;
           none_free = refl;
           known = refl;
-          seen = begins_more v.seen h more own.seen;
           own = placed ∙ ap (λ (l : List (ℕ × Write)). l ++ noted x more) own.own;
           says = subst (λ (b : About). SaysOf b.layout.slots (map_of b.base) (h ++ more) v.state (op_in m) (running_call m).limit (reply_of turn)) (sym own.same) step.says;
           no_epoch = step.no_epoch;

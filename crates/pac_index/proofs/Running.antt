@@ -157,22 +157,22 @@ runs_on c n old v w turn m x runs is goes =
     record {
       since = runs.since;
       later = runs.later;
-      about = goes.about ∙ runs.about;
+      about = goes.stepped.about ∙ runs.about;
       state = goes.state ∙ ap (λ (e : PartyState). state_after e turn') state ∙ after_after (began c n old runs.since) m turn';
-      ran = ap (run_of running_turned (Go (machine_in old c))) goes.told ∙ run_more running_turned (Go (machine_in old c)) v.told m x (runs.ran ∙ is);
-      taken = let was = runs.taken in let one = goes.taken in let long = ap length goes.told ∙ length-append v.told (x ∷ []) in omega arith;
+      ran = ap (run_of running_turned (Go (machine_in old c))) goes.stepped.told ∙ run_more running_turned (Go (machine_in old c)) v.told m x (runs.ran ∙ is);
+      taken = let was = runs.taken in let one = goes.stepped.taken in let long = ap length goes.stepped.told ∙ length-append v.told (x ∷ []) in omega arith;
       added = let was = runs.added ∙ ap (λ (t : Turn Running (Once Placed)). old.added + added_now op t) is in let now = goes.added ∙ ap (λ (o : NameOp). v.added + added_now o turn') same in omega arith;
       none_free = goes.none_free ∙ runs.none_free;
       known = still_longer old.known v.known w.known (answered_now m x) runs.known goes.known;
       op = subst (λ (o : NameOp). IsOfAfter o turn') same (goes.op_on);
       call_is = same_on (running_call (machine_in old c)) (running_call m) turn' call_is goes.call_on;
-      seen = begins_trans old.seen v.seen w.seen runs.seen goes.seen;
+      seen = begins_trans old.seen v.seen w.seen runs.seen goes.stepped.seen;
       own = more ∙ ap (λ (l : List (ℕ × Write)). l ++ noted x (written i n (counted (stage_of m)))) was ∙ append_assoc (placed_by i old.seen) (own_at i n (change_of op) (placed_in (stage_of m))) (noted x (written i n (counted (stage_of m))))
           ∙ ap (λ (l : List (ℕ × Write)). placed_by i old.seen ++ l) (sym own);
       says = says_by old.about.layout.slots (map_of old.about.base) w.seen v.state (began c n old runs.since) op (limit_of c) turn' caller index (subst (λ (e : PartyState). runs.since ≤ e.since) (sym state) (let le : runs.since ≤ runs.since = omega arith in le))
           (subst (λ (q : NameOp × Option ℕ × About). SaysOf q.2.layout.slots (map_of q.2.base) w.seen v.state q.0 q.1 (reply_of turn')) (λ k. (same k, limit k, runs.about k)) goes.says);
       no_epoch = goes.no_epoch;
-      heard = subst (λ (told : List ℕ). RunningTold old.about.layout old.about.generation told turn') (sym goes.told)
+      heard = subst (λ (told : List ℕ). RunningTold old.about.layout old.about.generation told turn') (sym goes.stepped.told)
           (running_told old.about.layout old.about.generation m v.told x sound (subst (RunningTold old.about.layout old.about.generation v.told) is runs.heard));
       ready = subst (λ (b : About). ReadyAfter b.layout b.generation turn') runs.about goes.ready;
       timely = subst (λ (k : ℕ). GoesTimely k turn') (ap (λ (e : PartyState). e.since) state) goes.timely;
@@ -224,7 +224,7 @@ part_ends low count n old v w turn m x words placed runs is goes listed done =
     (λ k. (runs.about k, asked k, counts k, listed k)) goes.lists in
     record {
       looks = ends_so c n old w (running_turned m x) (once.Done (words_placed words)) (runs_on c n old v w turn m x runs is goes) (listed_is_answered m words listed x told.0);
-      ran = ap (run_of part_turned (Go p)) goes.told ∙ listed_ran p v.told m x words (runs.ran ∙ is) listed told.0;
+      ran = ap (run_of part_turned (Go p)) goes.stepped.told ∙ listed_ran p v.told m x words (runs.ran ∙ is) listed told.0;
       lists = now told.0;
       known = has_last v.known w.known (record { low = low; count = count; words = words }) (goes.known ∙ ap (λ (l : List AnsweredPart). v.known ++ l) (answered_here m x count low words counts asked listed told.0));
     }

@@ -51,16 +51,16 @@ pub turn_held : (old w : Member) (x : ℕ) → TurnGoes (turn_in old first_epoch
 turn_held old w x goes other = λ epoch.
     let ended = refused_turn (terms_in old first_epoch) x other in
     record {
-      about = goes.about;
+      about = goes.stepped.about;
       state = goes.state ∙ ap (state_turned old.state) ended;
-      ran = ap (run_of making_turned (Go (turn_in old epoch))) goes.told ∙ refused_ran (terms_in old epoch) x other;
-      lock = (goes.told, other);
+      ran = ap (run_of making_turned (Go (turn_in old epoch))) goes.stepped.told ∙ refused_ran (terms_in old epoch) x other;
+      lock = (goes.stepped.told, other);
       free = tt;
-      taken = goes.taken ∙ ap (λ (l : List ℕ). old.taken + length l) (sym goes.told);
+      taken = goes.stepped.taken ∙ ap (λ (l : List ℕ). old.taken + length l) (sym goes.stepped.told);
       added = goes.added;
       none_free = goes.none_free ∙ ap (noted_by old.none_free) ended;
       known = goes.known;
-      seen = goes.seen;
+      seen = goes.stepped.seen;
       own = goes.own;
     }
 
@@ -70,25 +70,25 @@ took_lock old w x is goes = subst (λ (n : ℕ). TurnGoes (turn_in old first_epo
 
 module _ (old w : Member) (goes : TurnGoes (turn_in old first_epoch) (turning old) untaken_lock w) where
   pub lock_flies : w.state.turn ≡ Some (work_in w first_epoch)
-  lock_flies = ap (λ (e : PartyState). e.turn) goes.state ∙ ap (λ (b : About). Some (Working (work_from b.layout b.generation first_epoch (first_epoch - 2)))) (sym goes.about)
+  lock_flies = ap (λ (e : PartyState). e.turn) goes.state ∙ ap (λ (b : About). Some (Working (work_from b.layout b.generation first_epoch (first_epoch - 2)))) (sym goes.stepped.about)
 
   pub lock_ready : (about : About) → old.about ≡ about → TurnReady about.layout (Go (work_in w first_epoch))
-  lock_ready about same = subst (λ (q : About × About). TurnReady q.0.layout (Go (Working (work_from q.1.layout q.1.generation first_epoch (first_epoch - 2))))) (λ k. (same k, (sym goes.about) k)) goes.ready
+  lock_ready about same = subst (λ (q : About × About). TurnReady q.0.layout (Go (Working (work_from q.1.layout q.1.generation first_epoch (first_epoch - 2))))) (λ k. (same k, (sym goes.stepped.about) k)) goes.ready
 
   -- and then has its epoch
   pub lock_dated : (epoch : ℕ) → TurnReady old.about.layout (Go (work_in old epoch)) → TurnRuns epoch old (Go (work_in w epoch)) (turning_at w epoch)
   lock_dated epoch ready =
-      let same : work_in old epoch ≡ work_in w epoch = ap (λ (b : About). Working (work_from b.layout b.generation epoch (epoch - 2))) (sym goes.about) in
+      let same : work_in old epoch ≡ work_in w epoch = ap (λ (b : About). Working (work_from b.layout b.generation epoch (epoch - 2))) (sym goes.stepped.about) in
       subst (λ (m : MakeTurn). TurnRuns epoch old (Go m) (record w { state = record w.state { turn = Some m } })) same (record {
-        about = goes.about;
+        about = goes.stepped.about;
         state = ap (λ (e : PartyState). record e { turn = Some (work_in old epoch) }) goes.state;
-        ran = ap (run_of making_turned (Go (turn_in old epoch))) goes.told;
-        lock = (tt, ([], goes.told));
-        taken = goes.taken ∙ ap (λ (l : List ℕ). old.taken + length l) (sym goes.told);
+        ran = ap (run_of making_turned (Go (turn_in old epoch))) goes.stepped.told;
+        lock = (tt, ([], goes.stepped.told));
+        taken = goes.stepped.taken ∙ ap (λ (l : List ℕ). old.taken + length l) (sym goes.stepped.told);
         added = goes.added;
         none_free = goes.none_free;
         known = goes.known;
-        seen = goes.seen;
+        seen = goes.stepped.seen;
         own = goes.own;
         ready = ready;
       })
@@ -111,15 +111,15 @@ turn_on epoch old v w turn making x runs is goes =
     let turn' = making_turned making x in
     let caller : v.state.caller ≡ old.state.caller = ap (λ (e : PartyState). e.caller) runs.state in
     record {
-      about = goes.about ∙ runs.about;
+      about = goes.stepped.about ∙ runs.about;
       state = goes.state ∙ ap (λ (e : PartyState). state_turned e turn') runs.state;
-      ran = ap (run_of making_turned (Go (turn_in old epoch))) goes.told ∙ run_more making_turned (Go (turn_in old epoch)) v.told making x (runs.ran ∙ is);
-      lock = subst (λ (l : List ℕ). HasLock l turn') (sym goes.told) (lock_on v.told making x (subst (HasLock v.told) is runs.lock));
-      taken = let was = runs.taken in let one = goes.taken in let long = ap length goes.told ∙ length-append v.told (x ∷ []) in omega arith;
+      ran = ap (run_of making_turned (Go (turn_in old epoch))) goes.stepped.told ∙ run_more making_turned (Go (turn_in old epoch)) v.told making x (runs.ran ∙ is);
+      lock = subst (λ (l : List ℕ). HasLock l turn') (sym goes.stepped.told) (lock_on v.told making x (subst (HasLock v.told) is runs.lock));
+      taken = let was = runs.taken in let one = goes.stepped.taken in let long = ap length goes.stepped.told ∙ length-append v.told (x ∷ []) in omega arith;
       added = goes.added ∙ runs.added;
       none_free = goes.none_free ∙ ap (λ (b : Bool). noted_by b turn') (runs.none_free ∙ ap (noted_by old.none_free) is);
       known = goes.known ∙ runs.known;
-      seen = begins_trans old.seen v.seen w.seen runs.seen goes.seen;
+      seen = begins_trans old.seen v.seen w.seen runs.seen goes.stepped.seen;
       own = subst (λ (c : ℕ). placed_by c w.seen ≡ placed_by c v.seen) caller goes.own ∙ runs.own;
       ready = subst (λ (b : About). TurnReady b.layout turn') runs.about goes.ready;
     }

@@ -81,14 +81,11 @@ module _ (about : About) (id : ℕ) (v : Member) (making : MakeTurn) (f : ℕ �
             (λ a known. still a known) (λ j a part. still a (kept.known id (v ∷ []) at 0 v refl j a part));
         goes = record {
           takes = step.takes;
-          about = refl;
+          stepped = record { about = refl; told = refl; taken = refl; seen = own.seen };
           state = refl;
-          told = refl;
-          taken = refl;
           added = refl;
           none_free = refl;
           known = refl;
-          seen = own.seen;
           own = own.own;
           ready = subst (λ (b : About). TurnReady b.layout turn) (sym own.same) (ready_after about words' states' h c now turn index' there' refl);
         };

@@ -48,22 +48,22 @@ dated_stops parties epoch old v pins pins_now advanced turn making runs is dated
 pub lock_stops : (parties : ℕ) (old w : Member) (x : ℕ) (pins pins_now : PinMember) → x ≡ untaken_lock → TurnGoes (turn_in old first_epoch) (turning old) x w → pins_now ≡ pins → TurnStops parties old pins w pins_now
 lock_stops parties old w x pins pins_now free first same =
     let goes = subst (λ (n : ℕ). TurnGoes (turn_in old first_epoch) (turning old) n w) free first in
-    let ran : run_of making_turned (Go (turn_in old first_epoch)) w.told ≡ Go (work_in old first_epoch) = ap (run_of making_turned (Go (turn_in old first_epoch))) goes.told in
+    let ran : run_of making_turned (Go (turn_in old first_epoch)) w.told ≡ Go (work_in old first_epoch) = ap (run_of making_turned (Go (turn_in old first_epoch))) goes.stepped.told in
     inl (record {
       stops = record {
         making = work_in old first_epoch;
-        about = goes.about;
+        about = goes.stepped.about;
         state = goes.state;
         ran = ran;
-        lock = (tt, ([], goes.told));
-        taken = goes.taken ∙ ap (λ (l : List ℕ). old.taken + length l) (sym goes.told);
+        lock = (tt, ([], goes.stepped.told));
+        taken = goes.stepped.taken ∙ ap (λ (l : List ℕ). old.taken + length l) (sym goes.stepped.told);
         added = goes.added;
         none_free = goes.none_free;
         known = goes.known;
-        seen = goes.seen;
+        seen = goes.stepped.seen;
         own = goes.own;
       };
-      only = goes.told;
+      only = goes.stepped.told;
       pins_are = same;
     })
 

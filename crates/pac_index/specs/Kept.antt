@@ -237,17 +237,21 @@ abbrev pub GoesTimely : ℕ → Turn Running (Once Placed) → Type 0
 GoesTimely since (Go machine) = TimelyIn since machine
 GoesTimely since (Done answer) = Unit {0}
 
+-- What a step of a party leaves of it, which is told this number, be it of a call or of a turn.
+pub record Stepped (v : Member) (x : ℕ) (w : Member) : Type 0 where
+  pub about : w.about ≡ v.about
+  pub told : w.told ≡ v.told ++ x ∷ []
+  pub taken : w.taken ≡ v.taken + 1
+  pub seen : Begins v.seen w.seen
+
 -- What a party's step with its machine, which is told this number, leaves and shows.
 pub record Goes (m : Running) (v : Member) (x : ℕ) (w : Member) : Type 0 where
   pub takes : running_takes m x
-  pub about : w.about ≡ v.about
+  pub stepped : Stepped v x w
   pub state : w.state ≡ state_after v.state (running_turned m x)
-  pub told : w.told ≡ v.told ++ x ∷ []
-  pub taken : w.taken ≡ v.taken + 1
   pub added : w.added ≡ v.added + added_now (op_in m) (running_turned m x)
   pub none_free : w.none_free ≡ v.none_free
   pub known : w.known ≡ v.known ++ answered_now m x
-  pub seen : Begins v.seen w.seen
   -- of its writes just the one that the step counts is added, if it counts one, and at the place that it was told
   pub own : placed_by v.state.caller w.seen ≡ placed_by v.state.caller v.seen ++ noted x
       (written v.state.caller v.state.index (counted (stage_of m)))

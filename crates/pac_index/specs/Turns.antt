@@ -25,7 +25,7 @@ use Rattle.atomic_table.specs.Table.{Me}
 use Rattle.pac_index.specs.declared.rule.Member.{Member}
 use Rattle.pac_index.specs.declared.tried.TriedTurn.{TriedTurn}
 use Rattle.pac_index.specs.declared.tried.TriedTurn.TheVariants as tried
-use Rattle.pac_index.specs.Kept.{Begins, placed_by, party, IsLone}
+use Rattle.pac_index.specs.Kept.{Begins, Stepped, placed_by, party, IsLone}
 use Rattle.pac_index.specs.Calls.{run_of}
 use Rattle.pac_index.specs.Ends.{AtLast}
 
@@ -64,14 +64,11 @@ noted_by noted (Done answer) = noted_in noted answer
 -- What a step of a party's turn, which is told this number, leaves and shows.
 pub record TurnGoes (making : MakeTurn) (v : Member) (x : ℕ) (w : Member) : Type 0 where
   pub takes : making_takes making x
-  pub about : w.about ≡ v.about
+  pub stepped : Stepped v x w
   pub state : w.state ≡ state_turned v.state (making_turned making x)
-  pub told : w.told ≡ v.told ++ x ∷ []
-  pub taken : w.taken ≡ v.taken + 1
   pub added : w.added ≡ v.added
   pub none_free : w.none_free ≡ noted_by v.none_free (making_turned making x)
   pub known : w.known ≡ v.known
-  pub seen : Begins v.seen w.seen
   pub own : placed_by v.state.caller w.seen ≡ placed_by v.state.caller v.seen
   pub ready : TurnReady v.about.layout (making_turned making x)
 

@@ -55,5 +55,5 @@ returns g c =
       lone = began.lone;
       runs = subst (λ (u : Turn Running (Once Placed)). Runs call index v u w) (sym (ap (λ (q : Running). running_turned q c.act-got.result) c.requires.machine) ∙ c.advance.ensures.turned) runs;
       turned = (c.act-got.result, c.advance.ensures.turned);
-      taken = goes.taken;
+      taken = goes.stepped.taken;
     }

@@ -39,7 +39,7 @@ returns-in_default-last g c =
       lone = c.go_on.ensures.lone;
       ran = subst (λ (r : Once PartWords). PartAnswers c.args.low c.args.count c.args.index old r (party c.go_on.new.seat.me)) (sym c.early-in_default-last.ensures)
           (part_moved c.args.low c.args.count c.args.index old (party c.steps.seat.me) (party c.go_on.new.seat.me) (turn_of c.steps.machine c.steps.answer) c.steps.machine on.told c.in-Some-go_on.last c.steps.invariant.2 goes on.goes done early);
-      paid = pays_on c.args.left.now c.steps.left c.pay.new.left old.taken (party c.steps.seat.me).taken (party c.go_on.new.seat.me).taken c.steps.invariant.4 (paid c.pay.result _ _ c.if-not-pay.false c.pay.ensures) on.goes.taken;
+      paid = pays_on c.args.left.now c.steps.left c.pay.new.left old.taken (party c.steps.seat.me).taken (party c.go_on.new.seat.me).taken c.steps.invariant.4 (paid c.pay.result _ _ c.if-not-pay.false c.pay.ensures) on.goes.stepped.taken;
     }
 
 pub steps-preserved : goal.steps-preserved
@@ -54,5 +54,5 @@ steps-preserved g c =
       on.lone,
       runs_stepped (call.Part c.args.low c.args.count) c.args.index old (party c.steps.seat.me) (party c.go_on-answer.new.seat.me) _ m c.go_on-answer.new.machine c.go_on-answer.result runs goes on.steps,
       stops_early m c.go_on-answer.new.machine on.steps.told c.go_on-answer.result (runs_a_part c.args.low c.args.count c.args.index old (party c.steps.seat.me) _ m runs goes) none on.steps.turned,
-      pays_on c.args.left.now c.steps.left c.pay.new.left old.taken (party c.steps.seat.me).taken (party c.go_on-answer.new.seat.me).taken c.steps.invariant.4 (paid c.pay.result _ _ c.if-not-pay.false c.pay.ensures) on.steps.goes.taken,
+      pays_on c.args.left.now c.steps.left c.pay.new.left old.taken (party c.steps.seat.me).taken (party c.go_on-answer.new.seat.me).taken c.steps.invariant.4 (paid c.pay.result _ _ c.if-not-pay.false c.pay.ensures) on.steps.goes.stepped.taken,
     )

@@ -31,5 +31,5 @@ steps-preserved g c =
       (on.seat.0 ∙ c.steps.invariant.0.0, on.seat.1 ∙ c.steps.invariant.0.1),
       on.lone,
       work_stepped _ old (party c.steps.seat.me) (party c.go_on_work-turned.new.seat.me) _ c.steps.work c.go_on_work-turned.new.work c.go_on_work-turned.result c.steps.invariant.2 goes on.steps,
-      pays_on c.args.left.now c.steps.left c.pay-in-steps.new.left old.taken (party c.steps.seat.me).taken (party c.go_on_work-turned.new.seat.me).taken c.steps.invariant.3 paid_now on.steps.goes.taken,
+      pays_on c.args.left.now c.steps.left c.pay-in-steps.new.left old.taken (party c.steps.seat.me).taken (party c.go_on_work-turned.new.seat.me).taken c.steps.invariant.3 paid_now on.steps.goes.stepped.taken,
     )
