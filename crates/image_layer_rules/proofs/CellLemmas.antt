@@ -6,11 +6,11 @@ use Rattle.radix_nodes.specs.Cells.{words_of, children_of}
 use Rattle.radix_nodes.specs.declared.cell.Cell as cells
 use Rattle.tree_law.specs.Trees.{Cell, depth_of}
 use Rattle.tree_law.specs.Words.{kind_of, reference_of}
-use Rattle.tree_floor.proofs.FloorExact.{reference_some}
+use Rattle.tree_floor.proofs.FloorExact.{reference_some, to_cell}
 use Rattle.image_layer_rules.specs.Faults.{image_tree, IsWrong, image_cell}
 use Rattle.image_layer_rules.specs.Checks.{IsWrongFrom}
 use Rattle.image_layer_rules.proofs.WrongLemmas.{child_is}
-use Rattle.image_layer_rules.proofs.WalkLemmas.{to_cell, wrong_here, wrong_below, depth_small}
+use Rattle.image_layer_rules.proofs.WalkLemmas.{wrong_here, wrong_below, depth_small}
 use Rattle.image_layer_rules.proofs.CountLemmas.{head_deeper}
 
 -- the child at a byte is what is read of the cell there

@@ -2,34 +2,16 @@
 use Rattle.std.proofs.Common.{◌≡◌, ◌≢◌, ℕ, ◌<◌, List, inl, inr, sym, subst, ap, ◌∙◌}
 use Rattle.std.proofs.lemmas.Bool.{cases_lt}
 use Rattle.pm_words.specs.declared.layout.Layout.{Layout}
-use Rattle.pm_words.specs.Codes.{leaf_kind}
 use Rattle.radix_nodes.specs.Keys.{key_bytes}
 use Rattle.tree_law.specs.Trees.{Reference, Nothing, Leaf, Cell, Tree, Reaches, here, below, depth_of}
-use Rattle.tree_law.specs.Words.{kind_of, number_of, reference_of}
+use Rattle.tree_law.specs.Words.{reference_of}
 use Rattle.tree_law.proofs.SwitchLaw.{cell_goes}
-use Rattle.tree_floor.proofs.FloorExact.{IsReference, is_none, is_leaf, is_cell, reference}
 use Rattle.image_layer_rules.specs.Faults.{image_tree, IsWrong, is_too_deep, is_not_deeper}
 use Rattle.image_layer_rules.specs.Checks.{IsWrongFrom}
 use Rattle.image_layer_rules.proofs.WrongLemmas.{form_if, byte_within}
 
 pub to_nothing : (x : ℕ) → x ≡ 0 → reference_of x ≡ Nothing
 to_nothing x none = ap reference_of none
-
-pub to_leaf : (x : ℕ) → x ≢ 0 → kind_of x ≡ leaf_kind → reference_of x ≡ Leaf (number_of x)
-to_leaf x some kind = go (reference x)
-  where
-    go : IsReference x → reference_of x ≡ Leaf (number_of x)
-    go (is_none none is) = absurd (some none)
-    go (is_leaf some_here one is) = is
-    go (is_cell some_here other is) = absurd (other kind)
-
-pub to_cell : (x : ℕ) → x ≢ 0 → kind_of x ≢ leaf_kind → reference_of x ≡ Cell x
-to_cell x some kind = go (reference x)
-  where
-    go : IsReference x → reference_of x ≡ Cell x
-    go (is_none none is) = absurd (some none)
-    go (is_leaf some_here one is) = absurd (kind one)
-    go (is_cell some_here other is) = is
 
 -- a leaf reaches itself alone
 leaf_stays : (t : Tree) (i : ℕ) (r q : Reference) → r ≡ Leaf i → Reaches t r q → q ≡ Leaf i

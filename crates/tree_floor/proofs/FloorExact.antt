@@ -64,6 +64,23 @@ reference x = elim (cases_eq x 0) [
       ]
 ]
 
+-- one of these kinds leads to this
+pub to_leaf : (x : ℕ) → kind_of x ≡ leaf_kind → reference_of x ≡ Leaf (number_of x)
+to_leaf x one = go (reference x)
+  where
+    go : IsReference x → reference_of x ≡ Leaf (number_of x)
+    go (is_none none is) = absurd (omega arith)
+    go (is_leaf some_reference kind is) = is
+    go (is_cell some_reference other is) = absurd (other one)
+
+pub to_cell : (x : ℕ) → x ≢ 0 → kind_of x ≢ leaf_kind → reference_of x ≡ Cell x
+to_cell x some_reference other = go (reference x)
+  where
+    go : IsReference x → reference_of x ≡ Cell x
+    go (is_none none is) = absurd (some_reference none)
+    go (is_leaf some_here one is) = absurd (other one)
+    go (is_cell some_here kind is) = is
+
 pub reference_some : (x : ℕ) → x ≢ 0 → reference_of x ≢ Nothing
 reference_some x some_reference e = go (reference x)
   where

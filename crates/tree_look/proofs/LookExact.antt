@@ -25,7 +25,7 @@ use Rattle.layer_map.specs.Keys.{key_number, IsKey}
 use Rattle.tree_floor.specs.Floors.{no_words}
 use Rattle.tree_floor.proofs.KeyNumbers.{number_below}
 use Rattle.tree_floor.proofs.KeyWords.{key_set, AreRead, reads_on, read_number}
-use Rattle.tree_floor.proofs.FloorExact.{IsReference, is_none, is_leaf, is_cell, reference, reference_some}
+use Rattle.tree_floor.proofs.FloorExact.{IsReference, is_none, is_leaf, is_cell, reference, reference_some, to_leaf}
 use Rattle.tree_look.specs.declared.find.Findings.{Findings}
 use Rattle.tree_look.specs.declared.find.Findings.TheVariants.{More, Found, Absent}
 use Rattle.tree_look.specs.declared.look.Look.{Look}
@@ -165,12 +165,7 @@ module _ (l : Layout) (ks : List ℕ) (w : LayerWords) (layout : IsLayout l) (is
       ] refl
     where
       leaf_reference : (r i : ℕ) → r ≢ 0 → kind_of r ≡ leaf_kind → number_of r ≡ i → reference_of r ≡ Leaf i
-      leaf_reference r i some_reference kind number = go (reference r)
-        where
-          go : IsReference r → reference_of r ≡ Leaf i
-          go (is_none none is) = absurd (some_reference none)
-          go (is_leaf some' one is) = is ∙ ap Leaf number
-          go (is_cell some' other' is) = absurd (other' kind)
+      leaf_reference r i some_reference kind number = to_leaf r kind ∙ ap Leaf number
 
   -- a cell's prefix
   prefix_ends : (cell depth least : ℕ) (outer inner : Spot) (part : LookAt) (prefix : List ℕ) → IsKey prefix → key_number prefix ≡ t.prefix cell → KnownAt outer inner cell → reference_of cell ≡ Cell cell → depth ≡ t.depth cell

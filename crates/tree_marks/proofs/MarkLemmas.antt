@@ -15,7 +15,7 @@ use Rattle.tree_law.specs.Words.{kind_of, number_of, reference_of, tree_of, cell
 use Rattle.tree_law.specs.Marking.{kind_in, number_in}
 use Rattle.tree_law.proofs.Reach.{child_sound}
 use Rattle.tree_law.proofs.SwitchLaw.{cell_goes}
-use Rattle.tree_floor.proofs.FloorExact.{IsReference, is_none, is_leaf, is_cell, reference, reference_some}
+use Rattle.tree_floor.proofs.FloorExact.{IsReference, is_none, is_leaf, is_cell, reference, reference_some, to_leaf, to_cell}
 use Rattle.tree_row.specs.Rows.{image_word, layer_words}
 use Rattle.tree_row.specs.RowMarks.{has_mark, row_marks, IsNoMark}
 use Rattle.tree_row.proofs.RowLaw.{rows_alike}
@@ -169,22 +169,9 @@ module _ (l : Layout) (words : List ℕ) (x : ℕ) where
     | inr on ↦ passing.passed sound on.byte (let small = ((sound (Cell x) here).under on.byte on.some_child).byte in omega arith) on.some_child q on.reach
   ]
 
--- what a reference of these kinds leads to
-pub to_leaf : (x : ℕ) → kind_of x ≡ leaf_kind → reference_of x ≡ Leaf (number_of x)
-to_leaf x one = go (reference x)
-  where
-    go : IsReference x → reference_of x ≡ Leaf (number_of x)
-    go (is_none none is) = absurd (omega arith)
-    go (is_leaf some_reference kind is) = is
-    go (is_cell some_reference other is) = absurd (other one)
-
-pub to_cell : (l : Layout) (x : ℕ) → kind_of x ≢ leaf_kind → (row_room l).is_cell x ≡ true → reference_of x ≡ Cell x
-to_cell l x other cell = go (reference x)
-  where
-    go : IsReference x → reference_of x ≡ Cell x
-    go (is_none none is) = let has = cell_has_mark l x cell in let low : 1 ≤ kind_of x = has.0 in absurd (omega arith)
-    go (is_leaf some_reference one is) = absurd (other one)
-    go (is_cell some_reference kind is) = is
+-- what the reference of a cell of the layout leads to
+pub to_own_cell : (l : Layout) (x : ℕ) → kind_of x ≢ leaf_kind → (row_room l).is_cell x ≡ true → reference_of x ≡ Cell x
+to_own_cell l x other cell = to_cell x (λ none. let has = cell_has_mark l x cell in let low : 1 ≤ kind_of x = has.0 in omega arith) other
 
 module _ (l : Layout) (words : List ℕ) (x : ℕ) where
   -- where something is sound there is such a leaf, or such a cell, and the cell is as deep as it has to be
@@ -208,7 +195,7 @@ module _ (l : Layout) (words : List ℕ) (x : ℕ) where
       → IsSoundFrom (row_room l) (row_tree l words) (reference_of x) → ⊥
   not_deep depth least other is_cell_here depth_is wrong enough sound =
       let t = row_tree l words in
-      let is = to_cell l x other is_cell_here in
+      let is = to_own_cell l x other is_cell_here in
       let cell : IsCell (row_room l) t x = subst (IsSoundFrom (row_room l) t) is sound (Cell x) here in
       let small : t.depth x < key_bytes = cell.depth in
       let deep : least ≤ t.depth x = subst (λ r. least ≤ depth_of t r) is enough in

@@ -5,16 +5,15 @@ use Rattle.std.proofs.Math.Seq.{drop-append_seam}
 use Rattle.pm_words.specs.declared.layout.Layout.{Layout}
 use Rattle.pm_words.specs.Locations.{Cached, Durable, leaf_count, image_words, volatile_words, durable_address, address_of}
 use Rattle.pm_words.specs.Rows.{durable_row, row_of}
-use Rattle.pm_words.specs.Codes.{leaf_kind}
 use Rattle.tree_law.specs.Trees.{Reference, Nothing, Leaf, Cell, Tree, Reaches, IsReached, IsTree}
-use Rattle.tree_law.specs.Words.{IsLawful, word_in, kind_of, number_of, reference_of, tree_of}
+use Rattle.tree_law.specs.Words.{IsLawful, word_in, kind_of, number_of, tree_of}
 use Rattle.tree_law.specs.Marking.{MayHaveMark, kind_in, number_in}
 use Rattle.tree_law.specs.Stages.{MarksTell}
 use Rattle.tree_row.specs.Rows.{image_layer, layer_words}
 use Rattle.tree_row.specs.RowMarks.{row_marks}
 use Rattle.tree_row.proofs.RowLaw.{image_reads}
 use Rattle.tree_row.proofs.MarkLaw.{image_has_no_marks}
-use Rattle.tree_floor.proofs.FloorExact.{IsReference, is_none, is_leaf, is_cell, reference}
+use Rattle.tree_floor.proofs.FloorExact.{to_leaf, to_cell}
 use Rattle.tree_marks.specs.Marked.{row_tree, row_room, part_with}
 use Rattle.tree_marks.specs.Laws.{IsMarked, MarkedByWalk, MarkedIsAtRest, IsToldOf, MarksTellExactly, MarkingKeepsOthers, CrashLeavesImage}
 use Rattle.tree_marks.proofs.MarkLemmas.{part_is, layer_stays, durable_stays, beside, crash_same}
@@ -23,20 +22,10 @@ one_zero : (n : ℕ) → n ≡ 1 → n ≡ 0 → ⊥
 one_zero n one none = omega arith
 
 leaf_part : (i : ℕ) → i < 2 ^ 16 → part_with 1 i ≡ Leaf i
-leaf_part i small = go (reference (1 * 2 ^ 16 + i))
-  where
-    go : IsReference (1 * 2 ^ 16 + i) → reference_of (1 * 2 ^ 16 + i) ≡ Leaf i
-    go (is_none none is) = absurd (omega arith)
-    go (is_leaf some_reference one is) = is ∙ ap Leaf (let same : number_of (1 * 2 ^ 16 + i) ≡ i = omega arith in same)
-    go (is_cell some_reference other is) = absurd (other (let one : kind_of (1 * 2 ^ 16 + i) ≡ leaf_kind = omega arith in one))
+leaf_part i small = to_leaf (1 * 2 ^ 16 + i) (omega arith) ∙ ap Leaf (let same : number_of (1 * 2 ^ 16 + i) ≡ i = omega arith in same)
 
 cell_part : (x : ℕ) → 2 ≤ kind_of x → part_with (kind_of x) (number_of x) ≡ Cell x
-cell_part x low = part_is x ∙ go (reference x)
-  where
-    go : IsReference x → reference_of x ≡ Cell x
-    go (is_none none is) = absurd (omega arith)
-    go (is_leaf some_reference one is) = absurd (omega arith)
-    go (is_cell some_reference other is) = is
+cell_part x low = part_is x ∙ to_cell x (λ none. omega arith) (λ one. omega arith)
 
 -- the part of a mark
 own_part : (q : Reference) → MayHaveMark q → number_in q < 2 ^ 16 → part_with (kind_in q) (number_in q) ≡ q

@@ -2,7 +2,7 @@ use Rattle.std.proofs.Common.{rules, ◌+◌, ◌-◌, ◌<◌, arith}
 use Rattle.tree_law.specs.Words.{reference_of}
 use Rattle.image_layer_rules.specs.Counts.{HasMore, LeavesRoom}
 use Rattle.image_layer_rules.proofs.CellLemmas.{child_read, cell_later, cell_small, reads_on}
-use Rattle.image_layer_rules.proofs.WalkLemmas.{to_cell}
+use Rattle.tree_floor.proofs.FloorExact.{to_cell}
 use Rattle.image_layer_rules.proofs.CountLemmas.{room_goes, room_ends, room_left}
 use Rattle.image_layer_rules.proofs.count.+room_behind.Goals as goal
 

@@ -5,7 +5,7 @@ use Rattle.tree_law.specs.Words.{reference_of}
 use Rattle.tree_floor.proofs.KeyNumbers.{byte_is_of_number}
 use Rattle.image_layer_rules.specs.Faults.{image_tree}
 use Rattle.image_layer_rules.proofs.CellLemmas.{child_read, cell_later, cell_small, reads_on}
-use Rattle.image_layer_rules.proofs.WalkLemmas.{to_cell}
+use Rattle.tree_floor.proofs.FloorExact.{to_cell}
 use Rattle.image_layer_rules.proofs.LookLemmas.{leads_on}
 use Rattle.image_layer_rules.proofs.look.+node_from.Goals as goal
 

@@ -4,7 +4,7 @@ use Rattle.tree_law.specs.Words.{number_of, reference_of}
 use Rattle.image_layer_rules.specs.Faults.{image_tree}
 use Rattle.image_layer_rules.specs.Covers.{IsStrayFrom}
 use Rattle.image_layer_rules.proofs.CellLemmas.{child_read, cell_right, cell_small, reads_on}
-use Rattle.image_layer_rules.proofs.WalkLemmas.{to_leaf, to_cell}
+use Rattle.tree_floor.proofs.FloorExact.{to_leaf, to_cell}
 use Rattle.image_layer_rules.proofs.StrayLemmas.{stray_here, stray_only, stray_below, none_stray_below}
 use Rattle.image_layer_rules.proofs.stray.+is_stray_from.Goals as goal
 
@@ -14,7 +14,7 @@ returns-then-reference-eq-LEAF t c =
     let image = c.args.image.now.words in
     let s = reference_of c.args.reference in
     let i = number_of c.args.reference in
-    let is = to_leaf c.args.reference c.if-reference-eq0.false c.if-reference-eq-LEAF.true in
+    let is = to_leaf c.args.reference c.if-reference-eq-LEAF.true in
     (λ yes. stray_here l image i s is (c.is_stray.ensures.0 yes), λ stray. c.is_stray.ensures.1 (stray_only l image i s is stray))
 
 pub overflow_add-next : goal.overflow_add-next

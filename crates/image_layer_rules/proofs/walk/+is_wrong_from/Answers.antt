@@ -2,11 +2,11 @@ use Rattle.std.proofs.Common.{rules, ◌≡◌, ◌+◌, ◌-◌, ◌<◌, ◌�
 use Rattle.std.proofs.lemmas.Bool.{cases_eq, false≢true}
 use Rattle.tree_law.specs.Trees.{Nothing, Leaf, Cell, depth_of}
 use Rattle.tree_law.specs.Words.{number_of, reference_of}
-use Rattle.tree_floor.proofs.FloorExact.{reference_some}
+use Rattle.tree_floor.proofs.FloorExact.{reference_some, to_leaf, to_cell}
 use Rattle.image_layer_rules.specs.Faults.{image_tree, IsWrong, leads_nowhere, has_no_cell}
 use Rattle.image_layer_rules.specs.Checks.{IsWrongFrom}
 use Rattle.image_layer_rules.proofs.CellLemmas.{child_read}
-use Rattle.image_layer_rules.proofs.WalkLemmas.{to_nothing, to_leaf, to_cell, wrong_here, leaf_only, wrong_below, depth_small, child_deeper, none_wrong}
+use Rattle.image_layer_rules.proofs.WalkLemmas.{to_nothing, wrong_here, leaf_only, wrong_below, depth_small, child_deeper, none_wrong}
 use Rattle.image_layer_rules.proofs.walk.+is_wrong_from.Goals as goal
 use Rattle.image_layer_rules.proofs.walk.+is_wrong_from.Goals.{else-child-ne0-via-then-child-ne0+else-is_wrong_from, else-child-ne0-via-else-child-ne0}
 
@@ -20,7 +20,7 @@ pub returns-then-reference-eq-LEAF : goal.returns-then-reference-eq-LEAF
 returns-then-reference-eq-LEAF t c =
     let l = c.args.image.now.layout in
     let image = c.args.image.now.words in
-    let is = to_leaf c.args.reference c.if-reference-eq0.false c.if-reference-eq-LEAF.true in (
+    let is = to_leaf c.args.reference c.if-reference-eq-LEAF.true in (
       λ yes. wrong_here l image (Leaf (number_of c.args.reference)) (reference_of c.args.reference) is (c.is_wrong_leaf.ensures.0 yes),
       λ wrong. c.is_wrong_leaf.ensures.1 (leaf_only l image (number_of c.args.reference) (reference_of c.args.reference) is wrong),
     )

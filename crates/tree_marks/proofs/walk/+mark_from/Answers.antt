@@ -5,7 +5,7 @@ use Rattle.radix_nodes.specs.Keys.{key_bytes}
 use Rattle.tree_law.specs.Trees.{IsSoundFrom, depth_of}
 use Rattle.tree_law.specs.Words.{reference_of}
 use Rattle.tree_marks.specs.Marked.{row_tree, row_room, MarksFrom, AreMarked}
-use Rattle.tree_marks.proofs.MarkLemmas.{IsPassing, begins_passing, goes_passing, ends_passing, to_cell, no_cell, not_deep, child_is}
+use Rattle.tree_marks.proofs.MarkLemmas.{IsPassing, begins_passing, goes_passing, ends_passing, to_own_cell, no_cell, not_deep, child_is}
 use Rattle.tree_marks.proofs.walk.+mark_from.Goals as goal
 use Rattle.tree_marks.proofs.walk.+mark_from.Goals.{then-depth-least-via-then-depth-least, then-depth-least-via-else-depth-least+then-depth-ge-KEY_BYTES}
 
@@ -34,7 +34,7 @@ loop-byte-init t c =
     record {
       layout = ap (λ (r : Row). r.layout) c.set_mark.ensures.set;
       passing = subst (λ now. IsPassing l words x now 0) (sym (ap (λ (r : Row). r.words) c.set_mark.ensures.set))
-          (begins_passing l words x c.set_mark.ensures.row.whole cell (to_cell l x c.if-reference-eq-LEAF.false cell));
+          (begins_passing l words x c.set_mark.ensures.row.whole cell (to_own_cell l x c.if-reference-eq-LEAF.false cell));
     }
 
 pub loop-byte-preserved : goal.loop-byte-preserved
@@ -62,6 +62,6 @@ returns-clause-all t c enough sound =
     let words = c.args.memory.now.words in
     let x = c.args.reference in
     let is : c.is_cell.result ≡ true = search rules in
-    let cell = to_cell l x c.if-reference-eq-LEAF.false (sym c.is_cell.ensures ∙ is) in
+    let cell = to_own_cell l x c.if-reference-eq-LEAF.false (sym c.is_cell.ensures ∙ is) in
     subst (λ r. AreMarked l words r c.loop-byte.memory.words) (sym cell)
     (ends_passing l words x c.loop-byte.memory.words c.loop-byte.byte (omega arith) c.loop-byte.invariant.passing (subst (IsSoundFrom (row_room l) (row_tree l words)) cell sound))
