@@ -50,9 +50,8 @@ use Rattle.node_ops.specs.declared.get.Get.TheVariants as get
 use Rattle.node_ops.specs.declared.del.Del.TheVariants as del
 use Rattle.node_ops.specs.declared.single_del.SingleDel.TheVariants as single_del
 use Rattle.node_ops.specs.declared.lookup.LookupAt.{LookupAt}
-use Rattle.node_ops.specs.declared.lookup.LookupAt.TheVariants as look
 use Rattle.data_list.specs.WalkStages.{live_sight}
-use Rattle.node_ops.proofs.PlainSteps.{walk_by_loose}
+use Rattle.node_ops.proofs.PlainSteps.{each_look}
 use Rattle.node_ops.specs.declared.put.Put.{Put}
 use Rattle.node_ops.specs.declared.put.Put.TheVariants as put
 use Rattle.node_ops.specs.declared.single_put.SinglePut.TheVariants as single_put
@@ -98,7 +97,7 @@ use Rattle.node_ops.specs.PartSteps.{IsPart, part_call, part_turned, placed_turn
 use Rattle.node_ops.specs.declared.part.Reading.{Reading}
 use Rattle.node_ops.specs.declared.part.Way.{Way}
 use Rattle.node_ops.specs.declared.part.Way.TheVariants as ways
-use Rattle.node_ops.specs.CallStages.{reading_at_held, stage_by, held_by, walk_by, behind_sight, lookup_at_stage}
+use Rattle.node_ops.specs.CallStages.{reading_at_held, stage_by, behind_sight, lookup_at_stage}
 use Rattle.node_ops.specs.CallStages.{del_stage, has_place, stage_of, stage_after, reply_of, SoundAfter, found_full}
 use Rattle.node_ops.proofs.CallLaw.{turns_are_steps, leads_are_taken}
 use Rattle.node_ops.proofs.LookupSound.{Stays}
@@ -226,21 +225,8 @@ HoldsFew _ = ⊥
 loose_one : (s : Stage) → IsLoose s → HoldsFew s
 loose_one = each_loose HoldsFew tt (λ n v w k. tt) (λ n v. tt) (λ n v sight told. tt)
 
-held_one : (limit : Option ℕ) (n word : ℕ) (kept : Sight) (h : Held) → HoldsFew (held_by limit n word kept h)
-held_one None n word kept h = tt
-held_one (Some most) n word kept h = tt
-
 looks_one : (kept : Sight) (call : Call) (at : LookupAt) → HoldsFew (lookup_at_stage kept call at)
-looks_one kept call (look.Floor floor) = tt
-looks_one kept call (look.Walk walk) = loose_one (walk_by call.limit walk) (walk_by_loose call.limit walk)
-looks_one kept call (look.Read seen) = tt
-looks_one kept call (look.Lock seen locked) = tt
-looks_one kept call (look.Clock locked) = tt
-looks_one kept call (look.Spent hold) = tt
-looks_one kept call (look.Bitmap hold) = held_one call.limit _ _ _ _
-looks_one kept call (look.Prints hold bitmap prints k) = held_one call.limit _ _ _ _
-looks_one kept call (look.Name hold directory left slot k) = held_one call.limit _ _ _ _
-looks_one kept call (look.Value hold directory slot) = held_one call.limit _ _ _ _
+looks_one = each_look HoldsFew loose_one (λ n word h. tt)
 
 -- what splits is for its name
 split_is_for : (h : Held) (name : List ℕ) (own : Option Change) (s : Stage) → h.name ≡ name → h.old ≡ Some None → IsOfSplit h s → IsFor name own s

@@ -15,7 +15,7 @@ use Rattle.call_stages.specs.Prevs.{no_debt, Deals, keeps}
 use Rattle.call_stages.specs.Footings.{Footing, Minds}
 use Rattle.permutation.specs.Sparing.{SparingStep, on_nodes, on_layer, on_permutation}
 use Rattle.data_list.specs.declared.walk.Walk.{Walk}
-use Rattle.data_list.specs.WalkStages.{walk_watching}
+use Rattle.data_list.specs.WalkStages.{sight_in, walk_watching}
 use Rattle.data_list.proofs.WalkLaw.{walk_loose, view_loose}
 use Rattle.node_ops.specs.declared.lookup.LookupAt.{LookupAt}
 use Rattle.node_ops.specs.declared.lookup.LookupAt.TheVariants as look
@@ -26,6 +26,7 @@ use Rattle.node_ops.specs.declared.running.Running.{Running}
 use Rattle.node_ops.specs.Calls.{IsCall, name_in}
 use Rattle.call_stages.specs.Lines.{HeldLine}
 use Rattle.node_ops.specs.CallStages.{words_from, seen_hit, stage_after, reply_of, held_by, walk_by, lookup_at_stage, footing_after}
+use Rattle.index_law.proofs.Loose.{each_loose}
 use Rattle.node_ops.proofs.SeenLemmas.{Seen, Stand, seen_back, stand_whole, name_stands}
 use Rattle.node_ops.proofs.LookupLaw.{PlainStep, steps, reads_layer, loads_permutation, hit_words, found_known}
 
@@ -90,33 +91,28 @@ plain l g c line s action x turn single after step =
     (plain_foots l g c line s action x (stage_after turn) (reply_of turn) single step)
 
 pub loose_single : (s : Stage) → IsLoose s → IsSingle s
-loose_single Idle loose = tt
-loose_single (Saw n v w k) loose = tt
-loose_single (Wears n v) loose = tt
-loose_single (Reads n v sight told) loose = tt
-loose_single (Holds n w h) loose = tt
-loose_single (Eyes n w h m v u free) loose = tt
-loose_single (Splits left fresh phase) loose = absurd loose
-loose_single (Leaves left) loose = tt
-loose_single (Meets n w h right) loose = tt
-loose_single (Joins h left right pace) loose = absurd loose
+loose_single = each_loose IsSingle tt (λ n v w k. tt) (λ n v. tt) (λ n v sight told. tt)
 
 pub walk_by_loose : (limit : Option ℕ) (walk : Walk) → IsLoose (walk_by limit walk)
 walk_by_loose None walk = view_loose (walk_watching walk)
 walk_by_loose (Some limit) walk = walk_loose walk.generation walk.node walk.at
 
-held_single : (limit : Option ℕ) (n word : ℕ) (kept : Sight) (h : Held) → IsSingle (held_by limit n word kept h)
-held_single None _ _ _ _ = tt
-held_single (Some limit) _ _ _ _ = tt
+-- what holds of each stage that holds no node, and of each that holds one, holds all along a look-up
+each_held : (P : Stage → Type 0) → ((s : Stage) → IsLoose s → P s) → ((n word : ℕ) (h : Held) → P (Holds n word h)) → (limit : Option ℕ) (n word : ℕ) (kept : Sight) (h : Held) → P (held_by limit n word kept h)
+each_held P loose held None n word kept h = loose (Reads n word kept (Some h)) tt
+each_held P loose held (Some limit) n word kept h = held n word h
+
+pub each_look : (P : Stage → Type 0) → ((s : Stage) → IsLoose s → P s) → ((n word : ℕ) (h : Held) → P (Holds n word h)) → (kept : Sight) (call : Call) (at : LookupAt) → P (lookup_at_stage kept call at)
+each_look P loose held kept call (look.Floor floor) = loose Idle tt
+each_look P loose held kept call (look.Walk walk) = loose (walk_by call.limit walk) (walk_by_loose call.limit walk)
+each_look P loose held kept call (look.Read seen) = loose (Reads call.node seen.version (sight_in seen) None) tt
+each_look P loose held kept call (look.Lock seen locked) = loose (Saw call.node seen.version locked (sight_in seen)) tt
+each_look P loose held kept call (look.Clock locked) = held _ _ _
+each_look P loose held kept call (look.Spent hold) = held _ _ _
+each_look P loose held kept call (look.Bitmap hold) = each_held P loose held call.limit _ _ _ _
+each_look P loose held kept call (look.Prints hold bitmap prints k) = each_held P loose held call.limit _ _ _ _
+each_look P loose held kept call (look.Name hold directory left slot k) = each_held P loose held call.limit _ _ _ _
+each_look P loose held kept call (look.Value hold directory slot) = each_held P loose held call.limit _ _ _ _
 
 pub looks_single : (kept : Sight) (call : Call) (at : LookupAt) → IsSingle (lookup_at_stage kept call at)
-looks_single kept call (look.Floor floor) = tt
-looks_single kept call (look.Walk walk) = loose_single (walk_by call.limit walk) (walk_by_loose call.limit walk)
-looks_single kept call (look.Read seen) = tt
-looks_single kept call (look.Lock seen locked) = tt
-looks_single kept call (look.Clock locked) = tt
-looks_single kept call (look.Spent hold) = tt
-looks_single kept call (look.Bitmap hold) = held_single call.limit _ _ _ _
-looks_single kept call (look.Prints hold bitmap prints k) = held_single call.limit _ _ _ _
-looks_single kept call (look.Name hold directory left slot k) = held_single call.limit _ _ _ _
-looks_single kept call (look.Value hold directory slot) = held_single call.limit _ _ _ _
+looks_single = each_look IsSingle loose_single (λ n word h. tt)
