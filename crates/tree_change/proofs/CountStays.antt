@@ -12,6 +12,7 @@ use Rattle.tree_change.specs.declared.others.Counted.TheVariants.{Two, One, Abse
 use Rattle.tree_change.specs.declared.count.Count.{Count}
 use Rattle.tree_change.specs.Others.{slot_count, slot_value, slots_end, slot_next, others_turned, OthersAfter, OthersEnd}
 use Rattle.tree_change.specs.Counts.{count_goes, count_turned, count_takes, count_left, CountAfter, CountStays}
+use Rattle.tree_floor.proofs.Telling.{either_way}
 
 ends_after : (kind one left : ℕ) → 1 < left → OthersAfter kind left (slots_end kind one)
 ends_after kind one left enough = elim (one == 0) as (λ a. (one == 0) ≡ a → OthersAfter kind left (cond a (Done Absent) (cond (kind == 4) (cond (ltb 48 one) (Done Absent) (Go (others.Reference one))) (Done (One one))))) [
@@ -51,8 +52,4 @@ count_stays count got takes = go (others_turned (kind_of count.cell) count.byte 
     go (Done counted) after = tt
 
 pub count_fewer : (count : Count) (got : ℕ) → count_takes count got → GoesBelow {A = Counted} count_left (count_left count) (count_turned count got)
-count_fewer count got takes = go (count_turned count got) (count_stays count got takes)
-  where
-    go : (turn : Turn Count Counted) → CountAfter count turn → GoesBelow {A = Counted} count_left (count_left count) turn
-    go (Go next) after = after.4
-    go (Done counted) after = tt
+count_fewer count got takes = either_way (CountAfter count) (GoesBelow {A = Counted} count_left (count_left count)) (λ next after. after.4) (λ counted after. tt) (count_turned count got) (count_stays count got takes)

@@ -21,7 +21,7 @@ use Rattle.tree_change.specs.declared.find_room.FindRoom.{FindRoom}
 use Rattle.tree_floor.specs.Telling.{answer_in}
 use Rattle.tree_change.specs.Rooms.{has_byte, places_start, places_offset, places_turned, places_left, IsPlaces, PlacesAfter, RoomsEnd, IsRoom, places_turn, RoomsAreExact}
 use Rattle.tree_change.specs.FindRooms.{find_room_goes, find_room_turned, find_room_takes, find_room_left, FindRoomAfter, FindRoomStays, find_room_turn, FindRoomIsExact}
-use Rattle.tree_floor.proofs.Telling.{GoesOn, answers_right, answers_as}
+use Rattle.tree_floor.proofs.Telling.{GoesOn, answers_right, answers_as, either_way}
 
 pub rooms_end : RoomsEnd
 rooms_end kind (places.Entry entry) got is =
@@ -55,11 +55,7 @@ find_room_stays find got takes = go (places_turned (kind_of find.cell) find.plac
     go (Done room) after = after
 
 pub find_room_fewer : (find : FindRoom) (got : ℕ) → find_room_takes find got → GoesBelow {A = Room} find_room_left (find_room_left find) (find_room_turned find got)
-find_room_fewer find got takes = go (find_room_turned find got) (find_room_stays find got takes)
-  where
-    go : (turn : Turn FindRoom Room) → FindRoomAfter find got turn → GoesBelow {A = Room} find_room_left (find_room_left find) turn
-    go (Go next) after = after.4
-    go (Done room) after = tt
+find_room_fewer find got takes = either_way (FindRoomAfter find got) (GoesBelow {A = Room} find_room_left (find_room_left find)) (λ next after. after.4) (λ room after. tt) (find_room_turned find got) (find_room_stays find got takes)
 
 lacks_byte : (word byte limit : ℕ) → has_byte word byte limit ≡ false → (at : ℕ) → at < limit → byte_in word at ≢ byte
 lacks_byte word byte zero none at less e = absurd (omega arith)

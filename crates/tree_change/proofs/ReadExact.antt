@@ -14,7 +14,7 @@ use Rattle.tree_floor.specs.Floors.{IsCellOf}
 use Rattle.tree_change.specs.declared.read_cell.ReadCell.{ReadCell}
 use Rattle.tree_floor.specs.Telling.{answer_in}
 use Rattle.tree_change.specs.Reads.{read_starts, read_all, read_told, read_turned, read_takes, read_left, read_most, ReadAfter, ReadStays, IsReadOf, read_turn, ReadIsExact}
-use Rattle.tree_floor.proofs.Telling.{GoesOn, answers_right}
+use Rattle.tree_floor.proofs.Telling.{GoesOn, answers_right, either_way}
 
 pub read_stays : ReadStays
 read_stays read got takes = elim (ltb (read.offset + 1) (read_all read)) as (λ a. ltb (read.offset + 1) (read_all read) ≡ a → ReadAfter read (cond a (Go (record read { cell = read_told read got; offset = read.offset + 1 })) (Done (read_told read got)))) [
@@ -23,11 +23,7 @@ read_stays read got takes = elim (ltb (read.offset + 1) (read_all read)) as (λ 
 ] refl
 
 pub read_fewer : (read : ReadCell) (got : ℕ) → read_takes read got → GoesBelow {A = cells.Cell} read_left (read_left read) (read_turned read got)
-read_fewer read got takes = go (read_turned read got) (read_stays read got takes)
-  where
-    go : (turn : Turn ReadCell cells.Cell) → ReadAfter read turn → GoesBelow {A = cells.Cell} read_left (read_left read) turn
-    go (Go next) after = after.3
-    go (Done cell) after = tt
+read_fewer read got takes = either_way (ReadAfter read) (GoesBelow {A = cells.Cell} read_left (read_left read)) (λ next after. after.3) (λ cell after. tt) (read_turned read got) (read_stays read got takes)
 
 -- each kind has some words, and no more than the largest
 pub kind_bounds : (kind : ℕ) → 2 ≤ kind → kind ≤ 5 → (0 < kind_words kind) × (kind_words kind ≤ 264)

@@ -21,7 +21,7 @@ use Rattle.tree_change.specs.declared.take.Taken.{Taken}
 use Rattle.tree_change.specs.declared.take.Taken.TheVariants.{Absent}
 use Rattle.tree_floor.specs.Telling.{answer_in}
 use Rattle.tree_change.specs.Takes.{take_seeks, take_turned, take_at_turned, take_takes, take_left, take_at_left, take_most, take_starts, take_turn, IsTake, IsTakeAt, TakeAfter, TakeStays, TakesBy, TakeMarks, IsTaken, TakeIsExact, TakenIsUnreached, UnreachedStays, SomeIsTaken, TakeSets, FreeSets, part_of}
-use Rattle.tree_floor.proofs.Telling.{GoesOn, answers_right}
+use Rattle.tree_floor.proofs.Telling.{GoesOn, answers_right, either_way}
 
 module _ (take : Take) (is : IsTake take) where
   abbrev all : ℕ
@@ -47,11 +47,7 @@ pub take_stays : TakeStays
 take_stays take got takes = after_turn take takes.0 take.at got takes.0.here
 
 pub take_fewer : (take : Take) (got : ℕ) → take_takes take got → GoesBelow {A = Taken} take_left (take_left take) (take_turned take got)
-take_fewer take got takes = go (take_turned take got) (take_stays take got takes)
-  where
-    go : (turn : Turn Take Taken) → TakeAfter take (take_left take) turn → GoesBelow {A = Taken} take_left (take_left take) turn
-    go (Go next) after = after.3
-    go (Done taken) after = tt
+take_fewer take got takes = either_way (TakeAfter take (take_left take)) (GoesBelow {A = Taken} take_left (take_left take)) (λ next after. after.3) (λ taken after. tt) (take_turned take got) (take_stays take got takes)
 
 -- what it asks for
 abbrev machine : Layout → ℕ → TakeAt → Take

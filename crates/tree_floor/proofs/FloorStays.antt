@@ -3,7 +3,6 @@ use Rattle.std.proofs.Common.{◌≡◌, ℕ, ◌+◌, ◌-◌, ◌*◌, ◌^◌
 use Rattle.std.proofs.Common.{ltb, leb, List, slice_set, refl, arith}
 use Rattle.std.proofs.lemmas.Bool.{ltb-true, ltb-false, leb-true, leb-false, and_parts, eqb-false}
 use Rattle.pm_words.specs.declared.layout.Layout.{Layout}
-use Rattle.pm_words.specs.declared.machine.Turn.{Turn}
 use Rattle.pm_words.specs.declared.machine.Turn.TheVariants.{Go, Done}
 use Rattle.pm_words.specs.Layouts.{IsLayout}
 use Rattle.pm_words.specs.Locations.{leaf_count}
@@ -29,6 +28,7 @@ use Rattle.tree_floor.specs.Floors.{IsCellOf, IsDeep, IsFloorAt, floor_takes, le
 use Rattle.tree_floor.specs.Floors.{FloorAfter, FloorStays}
 use Rattle.tree_floor.proofs.ScanLaw.{scans_end, scans_start}
 use Rattle.tree_floor.proofs.KeyWords.{no_words_key, key_set}
+use Rattle.tree_floor.proofs.Telling.{either_way}
 
 module _ (l : Layout) (key : List ℕ) (layout : IsLayout l) (is_key : IsKey key) where
   abbrev floor : ℕ → ℕ → ℕ → Bool → FloorAt → Floor
@@ -167,8 +167,4 @@ pub floor_stays : FloorStays
 floor_stays f got takes = at_after f.layout f.key takes.0.layout takes.0.key f.other f.other_least f.least f.last f.at got takes.0.here takes.1
 
 pub floor_fewer : (f : Floor) (got : ℕ) → floor_takes f got → GoesBelow {A = ℕ} floor_left (floor_left f) (floor_turned f got)
-floor_fewer f got takes = go (floor_turned f got) (floor_stays f got takes)
-  where
-    go : (turn : Turn Floor ℕ) → FloorAfter f.layout f.key (floor_left f) turn → GoesBelow {A = ℕ} floor_left (floor_left f) turn
-    go (Go next) after = after.3
-    go (Done node) after = tt
+floor_fewer f got takes = either_way (FloorAfter f.layout f.key (floor_left f)) (GoesBelow {A = ℕ} floor_left (floor_left f)) (λ next after. after.3) (λ node after. tt) (floor_turned f got) (floor_stays f got takes)

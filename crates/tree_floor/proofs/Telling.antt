@@ -5,6 +5,11 @@ use Rattle.pm_words.specs.declared.machine.Turn.{Turn}
 use Rattle.pm_words.specs.declared.machine.Turn.TheVariants.{Go, Done}
 use Rattle.tree_floor.specs.Telling.{turn_answer, answer_in}
 
+-- what follows where a turn goes on, and where it ends, follows of each turn
+pub either_way : {M A : Type 0} (After Gives : Turn M A → Type 0) → ((next : M) → After (Go next) → Gives (Go next)) → ((answer : A) → After (Done answer) → Gives (Done answer)) → (turn : Turn M A) → After turn → Gives turn
+either_way After Gives goes ends (Go next) after = goes next after
+either_way After Gives goes ends (Done answer) after = ends answer after
+
 module _ {M A : Type 0} (turn : M → Turn M A) (Knows : M → Type 0) (left : M → ℕ) (IsRight : A → Type 0) where
   -- it knows as much, and has fewer turns left; or has answered right
   abbrev pub GoesOn : ℕ → Turn M A → Type 0

@@ -2,7 +2,6 @@
 use Rattle.std.proofs.Common.{◌≡◌, ℕ, ◌+◌, ◌-◌, ◌*◌, ◌^◌, ◌<◌, ◌≤◌, ◌==◌, ◌&&◌, ◌||◌, not, true, false, cond, ltb, leb, List, slice_set, refl, arith}
 use Rattle.std.proofs.lemmas.Bool.{ltb-true, ltb-false, leb-true, leb-false, and_parts, eqb-false}
 use Rattle.pm_words.specs.declared.layout.Layout.{Layout}
-use Rattle.pm_words.specs.declared.machine.Turn.{Turn}
 use Rattle.pm_words.specs.declared.machine.Turn.TheVariants.{Go, Done}
 use Rattle.pm_words.specs.Layouts.{IsLayout}
 use Rattle.pm_words.specs.Locations.{leaf_count}
@@ -31,6 +30,7 @@ use Rattle.tree_look.specs.Depths.{shared_of}
 use Rattle.tree_look.specs.Looks.{goes_to, byte_parted, parts, lands, has_key, has_prefix, has_found, level, look_at_turned, look_turned, IsLookAt, IsSpot, look_takes, look_left}
 use Rattle.tree_look.specs.LookLaws.{LookAfter, LookStays}
 use Rattle.tree_look.proofs.FindLaw.{finds_end, starts}
+use Rattle.tree_floor.proofs.Telling.{either_way}
 
 -- the byte at which something parts is one
 parted_small : (other depth : ℕ) → byte_parted other depth < 256
@@ -125,8 +125,4 @@ pub look_stays : LookStays
 look_stays f got takes = at_after f.layout f.key takes.0.layout takes.0.key f.least f.outer f.inner f.at got (takes.0.outer, takes.0.inner) takes.0.here takes.1
 
 pub look_fewer : (f : Look) (got : ℕ) → look_takes f got → GoesBelow {A = Looked} look_left (look_left f) (look_turned f got)
-look_fewer f got takes = go (look_turned f got) (look_stays f got takes)
-  where
-    go : (turn : Turn Look Looked) → LookAfter f.layout f.key (look_left f) turn → GoesBelow {A = Looked} look_left (look_left f) turn
-    go (Go next) after = after.3
-    go (Done answer) after = tt
+look_fewer f got takes = either_way (LookAfter f.layout f.key (look_left f)) (GoesBelow {A = Looked} look_left (look_left f)) (λ next after. after.3) (λ answer after. tt) (look_turned f got) (look_stays f got takes)
