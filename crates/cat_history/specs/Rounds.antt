@@ -32,18 +32,25 @@ IsPut (Get name) = ⊥
 IsPut (Del name) = ⊥
 IsPut (Scan from count) = ⊥
 
-abbrev pub IsScan : Op → Type 0
-IsScan (Put name value) = ⊥
-IsScan (Get name) = ⊥
-IsScan (Del name) = ⊥
-IsScan (Scan from count) = Unit {0}
-
 -- The op asks for a write.
 abbrev pub IsWriter : Op → Type 0
 IsWriter (Put name value) = Unit {0}
 IsWriter (Get name) = ⊥
 IsWriter (Del name) = Unit {0}
 IsWriter (Scan from count) = ⊥
+
+-- The op is on one name.
+abbrev pub IsOnName : Op → Type 0
+IsOnName (Put name value) = Unit {0}
+IsOnName (Get name) = Unit {0}
+IsOnName (Del name) = Unit {0}
+IsOnName (Scan from count) = ⊥
+
+abbrev pub IsScan : Op → Type 0
+IsScan (Put name value) = ⊥
+IsScan (Get name) = ⊥
+IsScan (Del name) = ⊥
+IsScan (Scan from count) = Unit {0}
 
 -- The number that a call on one name is told is that of its name in this map.
 abbrev pub IsOld : Map → Op → Option ℕ → Type 0

@@ -6,7 +6,7 @@ use Rattle.std.proofs.Math.Nat.{mod-eq_of_lt}
 use Rattle.std.proofs.lemmas.Option.{get_or_from_slice_get, slice_get-get_or, slice_get_within}
 use Rattle.std.proofs.Math.Seq.{get_or-append_seam}
 use Rattle.std.specs.Prelude.{MatchResult, Option, Result, Ok, Err, Some, slice_get}
-use Rattle.cat_history.specs.Rounds.{IsAnswered}
+use Rattle.cat_history.specs.Rounds.{IsAnswered, IsOnName}
 use Rattle.cat_history.specs.declared.op.CallerOp.{CallerOp}
 use Rattle.cat_history.specs.declared.record.CutMark.{CutMark}
 use Rattle.cat_history.specs.declared.record.Record.{Record}
@@ -14,7 +14,7 @@ use Rattle.cat_history.specs.declared.record.Reply.{Reply}
 use Rattle.cat_history.specs.declared.record.Reply.TheVariants.{Old, Full, Cut}
 use Rattle.shapes.specs.declared.map.Full.{Full as NoRoom}
 use Rattle.stopped_rounds.specs.Bounded.{ComesTo, IsInTime}
-use Rattle.stopped_rounds.specs.InTime.{AreInTime, AreOnNames, IsOnName, RepliesInTime}
+use Rattle.stopped_rounds.specs.InTime.{AreInTime, AreOnNames, RepliesInTime}
 use Rattle.stopped_rounds.specs.declared.bounded_map.Bounded.{Bounded}
 use Rattle.stopped_rounds.specs.declared.bounded_map.Bounded.TheVariants as bounded
 use Rattle.stopped_rounds.proofs.Turns.{Between, Goes, between-next}

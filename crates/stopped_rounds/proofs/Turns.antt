@@ -3,10 +3,10 @@ use Rattle.std.proofs.Common.{◌≡◌, ◌≢◌, ℕ, suc, ◌+◌, ◌-◌, 
 use Rattle.std.proofs.lemmas.Bool.{cases_eq}
 use Rattle.std.proofs.Math.Nat.{div-add-mod, le-div_iff_mul-le, mod-eq_of_lt, mod-lt, div-mul-le_self, mul-le-mul_right}
 use Rattle.std.proofs.lemmas.Nat.{div-mul-add, mod-mul-add}
-use Rattle.cat_history.specs.Rounds.{IsAnswered}
+use Rattle.cat_history.specs.Rounds.{IsAnswered, IsOnName}
 use Rattle.cat_history.specs.declared.op.CallerOp.{CallerOp}
 use Rattle.cat_history.specs.declared.record.Reply.{Reply}
-use Rattle.stopped_rounds.specs.InTime.{IsOnName, RepliesInTime}
+use Rattle.stopped_rounds.specs.InTime.{RepliesInTime}
 
 -- what one number more does to a quotient and a remainder
 pub record NextIn (turns calls : ℕ) : Type 0 where

@@ -1,19 +1,10 @@
 -- Which calls of a round were surely answered within a budget.
 use Rattle.std.specs.Prelude.{◌≡◌, ℕ, ◌+◌, ◌*◌, ◌/◌, ◌<◌, ◌≤◌, ◌⊎◌, List, All, length, slice_get, Some}
-use Rattle.cat_history.specs.Rounds.{IsAnswered}
+use Rattle.cat_history.specs.Rounds.{IsAnswered, IsOnName}
 use Rattle.cat_history.specs.declared.op.CallerOp.{CallerOp}
-use Rattle.cat_history.specs.declared.op.Op.{Op}
-use Rattle.cat_history.specs.declared.op.Op.TheVariants.{Put, Get, Del, Scan}
 use Rattle.cat_history.specs.declared.plan.RoundPlan.{RoundPlan}
 use Rattle.cat_history.specs.declared.record.Record.{Record}
 use Rattle.cat_history.specs.declared.record.Reply.{Reply}
-
--- It is no scan.
-abbrev pub IsOnName : Op → Type 0
-IsOnName (Put name value) = Unit {0}
-IsOnName (Get name) = Unit {0}
-IsOnName (Del name) = Unit {0}
-IsOnName (Scan from count) = ⊥
 
 abbrev pub AreOnNames : List CallerOp → Type 0
 AreOnNames asked = All (λ (a : CallerOp). IsOnName a.op) asked

@@ -3,7 +3,7 @@
 ghost use Rattle.std.specs.Prelude.{◌≡◌, ◌≢◌, ℕ, ◌+◌, ◌*◌, ◌%◌, ◌<◌, ◌≤◌, ◌^◌, ◌↔◌, ◌⊎◌, List, [], ◌∷◌, is_some};
 ghost use Rattle.std.specs.Prelude.{if◌then◌else◌, length, take, All, IfOk, IfSome, IsTrue, MatchResult, None, true};
 ghost use Rattle.cat_history.specs.Records.{mark_place};
-ghost use Rattle.cat_history.specs.Rounds.{IsAnswered};
+ghost use Rattle.cat_history.specs.Rounds.{IsAnswered, IsOnName};
 ghost use Rattle.cat_history.specs.LoneRounds.{write_of, writes_of};
 ghost use Rattle.cat_history.specs.Scans.{IsPart};
 ghost use Rattle.cat_text.specs.ReportGrammar.{IsReportOp, IsReportPart};
@@ -11,7 +11,7 @@ ghost use Rattle.shapes.specs.Anchors.{next_of, past};
 ghost use Rattle.shapes.specs.ShapeRounds.{one_added, puts_added};
 ghost use Rattle.stopped_rounds.specs.Bounded.{ComesTo, IsSame};
 ghost use Rattle.cat_history.specs.declared.op.CallerOp.{CallerOp};
-ghost use Rattle.stopped_rounds.specs.InTime.{AreInTime, AreOnNames, HasNoTurns, HasTimelyTurns, IsOnName};
+ghost use Rattle.stopped_rounds.specs.InTime.{AreInTime, AreOnNames, HasNoTurns, HasTimelyTurns};
 ghost use Rattle.stopped_rounds.specs.InTime.{RepliesInTime};
 ghost use Rattle.stopped_rounds.specs.Replies.{IsLate, IsTold, Replies, SettlesToReport, write_mark};
 ghost use Rattle.cat_history.specs.declared.op.Op.TheVariants as Op;

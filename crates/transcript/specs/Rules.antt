@@ -7,8 +7,8 @@ use Rattle.cat_history.specs.CrashEnds.{IsCrashEnd}
 use Rattle.cat_history.specs.CrashRounds.{StopsOnce, KeepsBudget, ReplySays, changes_cut}
 use Rattle.cat_history.specs.Maps.{Map, at, map_of}
 use Rattle.cat_history.specs.Records.{Call, interval, numbered}
-use Rattle.cat_history.specs.Rounds.{RecordsEachCall, AreWritesByPlace, IsPut, IsScan, IsWriter, IsItsMark}
-use Rattle.cat_history.specs.Rounds.{IsAnswered, KeepsCallersOrder}
+use Rattle.cat_history.specs.Rounds.{RecordsEachCall, AreWritesByPlace, IsPut, IsWriter, IsItsMark, IsAnswered}
+use Rattle.cat_history.specs.Rounds.{IsOnName, IsScan, KeepsCallersOrder}
 use Rattle.cat_history.specs.Scans.{IsLegalScan}
 use Rattle.cat_history.specs.Writes.{after, after_all}
 use Rattle.cat_history.specs.declared.op.CallerOp.{CallerOp}
@@ -103,13 +103,6 @@ ReachesLimit limit Unstarted = Unit {0}
 pub record LimitIsKept (limit : ℕ) (calls : List Call) (told : List Record) (writes : List Write) : Type 0 where
   pub reached : All (λ r. ReachesLimit limit r.reply) told
   pub in_time : PlacesKeepLimit limit (map (λ call. call.caller) calls) writes
-
--- The call is on one name.
-abbrev pub IsOnName : Op → Type 0
-IsOnName (Put name value) = Unit {0}
-IsOnName (Get name) = Unit {0}
-IsOnName (Del name) = Unit {0}
-IsOnName (Scan from count) = ⊥
 
 -- The reply is of a form that there is for the call: a number for a call on one name, parts for a scan, full for a put
 -- alone, spent for a put or a delete, the mark of a call that was cut off by what it asks.

@@ -6,7 +6,7 @@ use Rattle.shapes.specs.ShapeRounds.{one_added}
 use Rattle.stopped_rounds.specs.Replies.{IsLate, IsTold, Replies, write_mark}
 use Rattle.stopped_rounds.proofs.ScanStops.{parts-fit}
 use Rattle.stopped_rounds.proofs.Replying.{put_weighs, put_replies, del_replies, get_replies, scan_replies}
-use Rattle.stopped_rounds.specs.InTime.{IsOnName}
+use Rattle.cat_history.specs.Rounds.{IsOnName}
 use Rattle.stopped_rounds.proofs.Timing.{answered_then, old_in_time, put_in_time}
 use Rattle.stopped_rounds.proofs.crash_round.reply_to.Goals as goal
 
