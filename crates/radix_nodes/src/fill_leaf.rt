@@ -6,7 +6,7 @@ use crate::filling::Filling;
 use crate::key::Key;
 use cat_key::WORDS;
 use pm_words::codes::reference::LEAF;
-use pm_words::{Action, Layout, Machine, Turn};
+use pm_words::{Action, Layout};
 
 /// Stores the words of a leaf that nothing leads to, and makes them durable.
 #[derive(Clone, Copy)]
@@ -18,38 +18,13 @@ pub struct FillLeaf {
     pub at: Filling,
 }
 
-impl Machine for FillLeaf {
-    ghost use Rattle.radix_nodes.specs.Fills.{IsFillLeaf, fill_leaf_asks, fill_leaf_turned, fill_leaf_takes};
-    ghost use Rattle.radix_nodes.specs.Fills.{fill_leaf_left};
-
-    type Answer = ();
-
-    ghost fits = { IsFillLeaf };
-
-    ghost asks = { fill_leaf_asks };
-
-    ghost turned = { fill_leaf_turned };
-
-    ghost takes = { fill_leaf_takes };
-
-    ghost left = { fill_leaf_left };
-
-    fn action(&self) -> Action {
-        let offset = self.at.offset(LEAF);
-        let word = self.layout.leaf_word(self.number, offset);
-        self.at.action(self.layout.cached(word), self.word(offset))
-    }
-
-    fn resume(self, got: u64) -> Turn<FillLeaf, ()> {
-        self.told(got)
-    }
-}
-
 impl FillLeaf {
     ghost use Rattle.std.specs.Prelude.{◌≡◌, ◌<◌, slice_index};
     ghost use Rattle.pm_words.specs.Layouts.{IsLayout};
+    ghost use Rattle.pm_words.specs.Turns.{AdvancesTo};
     ghost use Rattle.pm_words.specs.Locations.{leaf_count};
-    ghost use Rattle.radix_nodes.specs.Fills.{IsFillLeaf, fill_leaf_turned, fill_leaf_start, leaf_value};
+    ghost use Rattle.radix_nodes.specs.Fills.{IsFillLeaf, fill_leaf_start, fill_leaf_asks, fill_leaf_takes};
+    ghost use Rattle.radix_nodes.specs.Fills.{fill_leaf_turned, leaf_value};
 
     /// It fills the leaf of this number with a key and its node.
     pub fn new(layout: Layout, number: u64, key: Key, node: u64) -> FillLeaf
@@ -68,14 +43,27 @@ impl FillLeaf {
         }
     }
 
-    /// What it is once it is told a number.
-    fn told(self, got: u64) -> Turn<FillLeaf, ()>
-        requires { IsFillLeaf self }
-        ensures { result ≡ fill_leaf_turned self got }
+    /// The action that it asks for next.
+    pub fn action(&self) -> Action
+        requires { IsFillLeaf self.now }
+        ensures { result ≡ fill_leaf_asks self.now }
+    {
+        let offset = self.at.offset(LEAF);
+        let word = self.layout.leaf_word(self.number, offset);
+        self.at.action(self.layout.cached(word), self.word(offset))
+    }
+
+    /// Tells it in place the number that its action gave. It goes on, or is done where there is an answer.
+    pub fn advance(&mut self, got: u64) -> Option<()>
+        requires { fill_leaf_takes self.old got }
+        ensures { AdvancesTo (fill_leaf_turned self.old got) self.new result }
     {
         match self.at.next(1, got) {
-            Some(at) => Turn::Go(FillLeaf { at, ..self }),
-            None => Turn::Done(()),
+            Some(at) => {
+                self.at = at;
+                None
+            }
+            None => Some(()),
         }
     }
 

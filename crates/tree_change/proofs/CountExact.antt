@@ -9,7 +9,7 @@ use Rattle.radix_nodes.specs.Cells.{CellWords, entry_byte, entry_reference, seek
 use Rattle.radix_nodes.specs.Changes.{IsOneMore}
 use Rattle.radix_nodes.proofs.EntryForms.{seek_here}
 use Rattle.radix_nodes.proofs.IndexForm.{child_none, indexed_of}
-use Rattle.tree_law.specs.Words.{LayerWords, kind_of, cell_in}
+use Rattle.tree_law.specs.Words.{kind_of, cell_in}
 use Rattle.tree_floor.proofs.ScanExact.{child_of_index, direct_child}
 use Rattle.tree_change.specs.declared.others.Others.{Others}
 use Rattle.tree_change.specs.declared.others.Others.TheVariants as others
@@ -282,16 +282,11 @@ counts_are_exact kind byte c times enough least most small form =
     counts kind byte c least most form times others_starts low (low, inl (refl, λ j lt. absurd (omega arith))) (omega arith)
 
 -- The machine answers what its scan has counted.
-module _ (l : Layout) (cell byte : ℕ) (w : LayerWords) where
-  abbrev scan_turn : Others → Turn Others Counted
-  scan_turn s = others_turn (kind_of cell) byte (cell_in w cell) s
-
-  abbrev make : Others → Count
-  make s = record { layout = l; cell = cell; byte = byte; others = s }
-
-  counts_as : (times : ℕ) → answer_in times (count_turn w) (make others_starts) ≡ answer_in times scan_turn others_starts
-  counts_as times = answers_as (count_turn w) scan_turn make (λ s next is. ap (count_goes (make s)) is) (λ s counted is. ap (count_goes (make s)) is) times others_starts
+abbrev counting : Layout → ℕ → ℕ → Others → Count
+counting l cell byte s = record { layout = l; cell = cell; byte = byte; others = s }
 
 pub count_is_exact : CountIsExact
 count_is_exact l cell byte w times enough is small form =
-    subst (λ answer. IsSomeAnd answer (IsCounted (kind_of cell) (cell_in w cell) byte)) (sym (counts_as l cell byte w times)) (counts_are_exact (kind_of cell) byte (cell_in w cell) times enough is.low is.high small form)
+    subst (λ answer. IsSomeAnd answer (IsCounted (kind_of cell) (cell_in w cell) byte))
+    (sym (answers_as (count_turn w) (others_turn (kind_of cell) byte (cell_in w cell)) (counting l cell byte) (λ s next is. ap (count_goes (counting l cell byte s)) is) (λ s counted is. ap (count_goes (counting l cell byte s)) is) times others_starts))
+    (counts_are_exact (kind_of cell) byte (cell_in w cell) times enough is.low is.high small form)

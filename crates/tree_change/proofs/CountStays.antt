@@ -3,16 +3,13 @@ use Rattle.std.proofs.Common.{◌≡◌, ℕ, ◌+◌, ◌-◌, ◌<◌, ◌==�
 use Rattle.std.proofs.lemmas.Bool.{eqb-true, eqb-false, ltb-true, ltb-false}
 use Rattle.pm_words.specs.declared.machine.Turn.{Turn}
 use Rattle.pm_words.specs.declared.machine.Turn.TheVariants.{Go, Done}
-use Rattle.pm_words.specs.Turns.{GoesBelow}
 use Rattle.tree_law.specs.Words.{kind_of}
 use Rattle.tree_change.specs.declared.others.Others.{Others}
 use Rattle.tree_change.specs.declared.others.Others.TheVariants as others
 use Rattle.tree_change.specs.declared.others.Counted.{Counted}
 use Rattle.tree_change.specs.declared.others.Counted.TheVariants.{Two, One, Absent}
-use Rattle.tree_change.specs.declared.count.Count.{Count}
 use Rattle.tree_change.specs.Others.{slot_count, slot_value, slots_end, slot_next, others_turned, OthersAfter, OthersEnd}
-use Rattle.tree_change.specs.Counts.{count_goes, count_turned, count_takes, count_left, CountAfter, CountStays}
-use Rattle.tree_floor.proofs.Telling.{either_way}
+use Rattle.tree_change.specs.Counts.{count_goes, count_left, CountAfter, CountStays}
 
 ends_after : (kind one left : ℕ) → 1 < left → OthersAfter kind left (slots_end kind one)
 ends_after kind one left enough = elim (one == 0) as (λ a. (one == 0) ≡ a → OthersAfter kind left (cond a (Done Absent) (cond (kind == 4) (cond (ltb 48 one) (Done Absent) (Go (others.Reference one))) (Done (One one))))) [
@@ -50,6 +47,3 @@ count_stays count got takes = go (others_turned (kind_of count.cell) count.byte 
     go : (turn : Turn Others Counted) → OthersAfter (kind_of count.cell) (count_left count) turn → CountAfter count (count_goes count turn)
     go (Go next) after = (record { layout = takes.0.layout; cell = takes.0.cell; byte = takes.0.byte; here = after.0 }, refl, refl, refl, after.1)
     go (Done counted) after = tt
-
-pub count_fewer : (count : Count) (got : ℕ) → count_takes count got → GoesBelow {A = Counted} count_left (count_left count) (count_turned count got)
-count_fewer count got takes = either_way (CountAfter count) (GoesBelow {A = Counted} count_left (count_left count)) (λ next after. after.4) (λ counted after. tt) (count_turned count got) (count_stays count got takes)

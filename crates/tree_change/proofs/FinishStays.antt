@@ -1,18 +1,16 @@
 -- The end of a change stays one, and does less and less, whatever it is told.
 use Rattle.std.proofs.Common.{◌≡◌, ℕ, ◌+◌, ◌^◌, ◌<◌, ◌≤◌, ◌==◌, true, false, cond, Option, Some, None, refl, arith}
 use Rattle.std.proofs.lemmas.Bool.{eqb-false}
-use Rattle.pm_words.specs.declared.machine.Turn.{Turn}
 use Rattle.pm_words.specs.declared.machine.Turn.TheVariants.{Go, Done}
 use Rattle.pm_words.specs.declared.fence.Fence.{Fence}
 use Rattle.pm_words.specs.declared.action.Action.{Action}
 use Rattle.pm_words.specs.Fences.{IsFence, fence_next, fence_left, fence_start, FenceTurn}
 use Rattle.pm_words.specs.Fences as turn
-use Rattle.pm_words.specs.Turns.{GoesBelow}
 use Rattle.pm_words.proofs.Fencing.{fence_turns}
 use Rattle.tree_change.specs.declared.finish.Finish.{Finish}
 use Rattle.tree_change.specs.declared.finish.FinishAt.{FinishAt}
 use Rattle.tree_change.specs.declared.finish.FinishAt.TheVariants as at
-use Rattle.tree_change.specs.Finishes.{IsFinish, IsFinishAt, finish_turned, finish_takes, finish_left, finish_at_left, finish_at_turned, quiet_drained, switch_drained, unmarks, frees, finish_to, FinishAfter, FinishStays}
+use Rattle.tree_change.specs.Finishes.{IsFinish, IsFinishAt, finish_at_left, finish_at_turned, quiet_drained, switch_drained, unmarks, frees, finish_to, FinishAfter, FinishStays}
 
 -- what is left of a fence
 abbrev FenceAfter : Fence → Option Fence → Type 0
@@ -77,10 +75,3 @@ module _ (f : Finish) (is : IsFinish f) where
 
 pub finish_stays : FinishStays
 finish_stays f got takes = after_turn f takes.0 f.at got takes.1 takes.0.here
-
-pub finish_fewer : (f : Finish) (got : ℕ) → finish_takes f got → GoesBelow {A = Unit {0}} finish_left (finish_left f) (finish_turned f got)
-finish_fewer f got takes = go (finish_turned f got) (finish_stays f got takes)
-  where
-    go : (turn : Turn Finish (Unit {0})) → FinishAfter f (finish_left f) turn → GoesBelow {A = Unit {0}} finish_left (finish_left f) turn
-    go (Go next) after = after.fewer
-    go (Done answer) after = tt

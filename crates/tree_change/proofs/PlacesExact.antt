@@ -5,11 +5,10 @@ use Rattle.std.proofs.lemmas.Bool.{cases_eq, eqb-true, eqb-false, ltb-true, ltb-
 use Rattle.pm_words.specs.declared.layout.Layout.{Layout}
 use Rattle.pm_words.specs.declared.machine.Turn.{Turn}
 use Rattle.pm_words.specs.declared.machine.Turn.TheVariants.{Go, Done}
-use Rattle.pm_words.specs.Turns.{GoesBelow}
 use Rattle.radix_nodes.specs.Bytes.{byte_in}
 use Rattle.radix_nodes.specs.Cells.{CellWords, children, index_of, IsForm}
 use Rattle.radix_nodes.proofs.EntryForms.{entry_adds}
-use Rattle.tree_law.specs.Words.{LayerWords, kind_of, cell_in}
+use Rattle.tree_law.specs.Words.{kind_of, cell_in}
 use Rattle.tree_floor.specs.Scans.{first_entry, entry_count}
 use Rattle.tree_floor.proofs.ScanExact.{entry_form, index_in}
 use Rattle.tree_look.proofs.FindLaw.{entry_words}
@@ -20,8 +19,8 @@ use Rattle.tree_change.specs.declared.room.Room.TheVariants.{Entry, Full}
 use Rattle.tree_change.specs.declared.find_room.FindRoom.{FindRoom}
 use Rattle.tree_floor.specs.Telling.{answer_in}
 use Rattle.tree_change.specs.Rooms.{has_byte, places_start, places_offset, places_turned, places_left, IsPlaces, PlacesAfter, RoomsEnd, IsRoom, places_turn, RoomsAreExact}
-use Rattle.tree_change.specs.FindRooms.{find_room_goes, find_room_turned, find_room_takes, find_room_left, FindRoomAfter, FindRoomStays, find_room_turn, FindRoomIsExact}
-use Rattle.tree_floor.proofs.Telling.{GoesOn, answers_right, answers_as, either_way}
+use Rattle.tree_change.specs.FindRooms.{find_room_goes, find_room_left, FindRoomAfter, FindRoomStays, find_room_turn, FindRoomIsExact}
+use Rattle.tree_floor.proofs.Telling.{GoesOn, answers_right, answers_as}
 
 pub rooms_end : RoomsEnd
 rooms_end kind (places.Entry entry) got is =
@@ -53,9 +52,6 @@ find_room_stays find got takes = go (places_turned (kind_of find.cell) find.plac
     go : (turn : Turn Places Room) → PlacesAfter (kind_of find.cell) got (find_room_left find) turn → FindRoomAfter find got (find_room_goes find turn)
     go (Go next) after = (record { layout = takes.0.layout; cell = takes.0.cell; byte = takes.0.byte; here = after.0 }, refl, refl, refl, after.1)
     go (Done room) after = after
-
-pub find_room_fewer : (find : FindRoom) (got : ℕ) → find_room_takes find got → GoesBelow {A = Room} find_room_left (find_room_left find) (find_room_turned find got)
-find_room_fewer find got takes = either_way (FindRoomAfter find got) (GoesBelow {A = Room} find_room_left (find_room_left find)) (λ next after. after.4) (λ room after. tt) (find_room_turned find got) (find_room_stays find got takes)
 
 lacks_byte : (word byte limit : ℕ) → has_byte word byte limit ≡ false → (at : ℕ) → at < limit → byte_in word at ≢ byte
 lacks_byte word byte zero none at less e = absurd (omega arith)
@@ -128,16 +124,11 @@ rooms_are_exact kind byte c times enough least most small form none = elim (case
 ]
 
 -- The machine answers what its scan has found.
-module _ (l : Layout) (cell byte : ℕ) (w : LayerWords) where
-  abbrev scan_turn : Places → Turn Places Room
-  scan_turn s = places_turn (kind_of cell) byte (cell_in w cell) s
-
-  abbrev make : Places → FindRoom
-  make s = record { layout = l; cell = cell; byte = byte; places = s }
-
-  finds_as : (times : ℕ) (s : Places) → answer_in times (find_room_turn w) (make s) ≡ answer_in times scan_turn s
-  finds_as times s = answers_as (find_room_turn w) scan_turn make (λ p next is. ap (find_room_goes (make p)) is) (λ p room is. ap (find_room_goes (make p)) is) times s
+abbrev finding : Layout → ℕ → ℕ → Places → FindRoom
+finding l cell byte s = record { layout = l; cell = cell; byte = byte; places = s }
 
 pub find_room_is_exact : FindRoomIsExact
 find_room_is_exact l cell byte w times enough is most small form none =
-    subst (λ answer. IsSomeAnd answer (IsRoom (kind_of cell) (cell_in w cell) byte)) (sym (finds_as l cell byte w times (places_start (kind_of cell)))) (rooms_are_exact (kind_of cell) byte (cell_in w cell) times enough is.low most small form none)
+    subst (λ answer. IsSomeAnd answer (IsRoom (kind_of cell) (cell_in w cell) byte))
+    (sym (answers_as (find_room_turn w) (places_turn (kind_of cell) byte (cell_in w cell)) (finding l cell byte) (λ s next is. ap (find_room_goes (finding l cell byte s)) is) (λ s room is. ap (find_room_goes (finding l cell byte s)) is) times (places_start (kind_of cell))))
+    (rooms_are_exact (kind_of cell) byte (cell_in w cell) times enough is.low most small form none)

@@ -5,7 +5,6 @@ use Rattle.std.specs.Prelude.{IsSomeAnd}
 use Rattle.pm_words.specs.declared.layout.Layout.{Layout}
 use Rattle.pm_words.specs.declared.machine.Turn.{Turn}
 use Rattle.pm_words.specs.declared.machine.Turn.TheVariants.{Go, Done}
-use Rattle.pm_words.specs.Turns.{GoesBelow}
 use Rattle.pm_words.specs.Locations.{kind_words}
 use Rattle.radix_nodes.specs.declared.cell.Cell as cells
 use Rattle.radix_nodes.proofs.Heads.{Copied, copied_start, copied_step}
@@ -13,17 +12,14 @@ use Rattle.tree_law.specs.Words.{LayerWords, kind_of, cell_in}
 use Rattle.tree_floor.specs.Floors.{IsCellOf}
 use Rattle.tree_change.specs.declared.read_cell.ReadCell.{ReadCell}
 use Rattle.tree_floor.specs.Telling.{answer_in}
-use Rattle.tree_change.specs.Reads.{read_starts, read_all, read_told, read_turned, read_takes, read_left, read_most, ReadAfter, ReadStays, IsReadOf, read_turn, ReadIsExact}
-use Rattle.tree_floor.proofs.Telling.{GoesOn, answers_right, either_way}
+use Rattle.tree_change.specs.Reads.{read_starts, read_all, read_told, read_left, read_most, ReadAfter, ReadStays, IsReadOf, read_turn, ReadIsExact}
+use Rattle.tree_floor.proofs.Telling.{GoesOn, answers_right}
 
 pub read_stays : ReadStays
 read_stays read got takes = elim (ltb (read.offset + 1) (read_all read)) as (λ a. ltb (read.offset + 1) (read_all read) ≡ a → ReadAfter read (cond a (Go (record read { cell = read_told read got; offset = read.offset + 1 })) (Done (read_told read got)))) [
   | true ↦ λ e. let less = ltb-true _ _ e in (record { layout = takes.0.layout; cell = takes.0.cell; here = less }, refl, refl, omega arith)
   | false ↦ λ e. tt
 ] refl
-
-pub read_fewer : (read : ReadCell) (got : ℕ) → read_takes read got → GoesBelow {A = cells.Cell} read_left (read_left read) (read_turned read got)
-read_fewer read got takes = either_way (ReadAfter read) (GoesBelow {A = cells.Cell} read_left (read_left read)) (λ next after. after.3) (λ cell after. tt) (read_turned read got) (read_stays read got takes)
 
 -- each kind has some words, and no more than the largest
 pub kind_bounds : (kind : ℕ) → 2 ≤ kind → kind ≤ 5 → (0 < kind_words kind) × (kind_words kind ≤ 264)

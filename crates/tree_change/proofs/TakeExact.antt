@@ -5,7 +5,6 @@ use Rattle.std.specs.Prelude.{IsSomeAnd}
 use Rattle.pm_words.specs.declared.layout.Layout.{Layout}
 use Rattle.pm_words.specs.declared.machine.Turn.{Turn}
 use Rattle.pm_words.specs.declared.machine.Turn.TheVariants.{Go, Done}
-use Rattle.pm_words.specs.Turns.{GoesBelow}
 use Rattle.pm_words.specs.Locations.{leaf_count}
 use Rattle.pm_words.specs.Codes.{leaf_kind}
 use Rattle.tree_law.specs.Trees.{Nothing, Leaf, Cell, IsReached}
@@ -20,8 +19,8 @@ use Rattle.tree_change.specs.declared.take.TakeAt.TheVariants as at
 use Rattle.tree_change.specs.declared.take.Taken.{Taken}
 use Rattle.tree_change.specs.declared.take.Taken.TheVariants.{Absent}
 use Rattle.tree_floor.specs.Telling.{answer_in}
-use Rattle.tree_change.specs.Takes.{take_seeks, take_turned, take_at_turned, take_takes, take_left, take_at_left, take_most, take_starts, take_turn, IsTake, IsTakeAt, TakeAfter, TakeStays, TakesBy, TakeMarks, IsTaken, TakeIsExact, TakenIsUnreached, UnreachedStays, SomeIsTaken, TakeSets, FreeSets, part_of}
-use Rattle.tree_floor.proofs.Telling.{GoesOn, answers_right, either_way}
+use Rattle.tree_change.specs.Takes.{take_seeks, take_turned, take_at_turned, take_left, take_at_left, take_most, take_starts, take_turn, IsTake, IsTakeAt, TakeAfter, TakeStays, TakesBy, TakeMarks, IsTaken, TakeIsExact, TakenIsUnreached, UnreachedStays, SomeIsTaken, TakeSets, FreeSets, part_of}
+use Rattle.tree_floor.proofs.Telling.{GoesOn, answers_right}
 
 module _ (take : Take) (is : IsTake take) where
   abbrev all : ℕ
@@ -45,9 +44,6 @@ module _ (take : Take) (is : IsTake take) where
 
 pub take_stays : TakeStays
 take_stays take got takes = after_turn take takes.0 take.at got takes.0.here
-
-pub take_fewer : (take : Take) (got : ℕ) → take_takes take got → GoesBelow {A = Taken} take_left (take_left take) (take_turned take got)
-take_fewer take got takes = either_way (TakeAfter take (take_left take)) (GoesBelow {A = Taken} take_left (take_left take)) (λ next after. after.3) (λ taken after. tt) (take_turned take got) (take_stays take got takes)
 
 -- what it asks for
 abbrev machine : Layout → ℕ → TakeAt → Take

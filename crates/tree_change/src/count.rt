@@ -4,7 +4,7 @@ ghost use Rattle.std.specs.Prelude.{◌≡◌, ◌<◌};
 
 use crate::others::{Counted, Others};
 use pm_words::codes::reference::KIND;
-use pm_words::{Action, Layout, Machine, Turn};
+use pm_words::{Action, Layout, Turn};
 use tree_floor::word_of;
 
 /// Counts the children of a cell beside the one under a byte, up to two. Nobody may write meanwhile.
@@ -16,42 +16,12 @@ pub struct Count {
     pub others: Others,
 }
 
-impl Machine for Count {
-    ghost use Rattle.tree_change.specs.Counts.{IsCount, count_asks, count_turned, count_takes, count_left};
-
-    type Answer = Counted;
-
-    ghost fits = { IsCount };
-
-    ghost asks = { count_asks };
-
-    ghost turned = { count_turned };
-
-    ghost takes = { count_takes };
-
-    ghost left = { count_left };
-
-    fn action(&self) -> Action {
-        let layout = self.layout;
-        let offset = self.others.offset(self.cell / KIND);
-        Action::Load(layout.cached(word_of(layout, self.cell, offset)))
-    }
-
-    fn resume(self, got: u64) -> Turn<Count, Counted> {
-        let mut next = self;
-        match next.advance(got) {
-            None => Turn::Go(next),
-            Some(counted) => Turn::Done(counted),
-        }
-    }
-}
-
 impl Count {
     ghost use Rattle.std.specs.Prelude.{◌≡◌, ◌<◌};
     ghost use Rattle.pm_words.specs.Layouts.{IsLayout};
     ghost use Rattle.pm_words.specs.Turns.{AdvancesTo};
     ghost use Rattle.tree_floor.specs.Floors.{IsCellOf};
-    ghost use Rattle.tree_change.specs.Counts.{IsCount, count_starts, count_takes, count_turned};
+    ghost use Rattle.tree_change.specs.Counts.{IsCount, count_asks, count_starts, count_takes, count_turned};
 
     /// The count for this cell and byte.
     pub fn new(layout: Layout, cell: u64, byte: u64) -> Count
@@ -67,6 +37,16 @@ impl Count {
             byte,
             others: Others::new(),
         }
+    }
+
+    /// The action that it asks for next.
+    pub fn action(&self) -> Action
+        requires { IsCount self.now }
+        ensures { result ≡ count_asks self.now }
+    {
+        let layout = self.layout;
+        let offset = self.others.offset(self.cell / KIND);
+        Action::Load(layout.cached(word_of(layout, self.cell, offset)))
     }
 
     /// Tells it in place the word that it asked for. It goes on, or is done where there is an answer.

@@ -4,7 +4,7 @@ ghost use Rattle.std.specs.Prelude.{◌≡◌, ◌<◌, ◌≤◌};
 
 use crate::room::{Places, Room};
 use pm_words::codes::reference::KIND;
-use pm_words::{Action, Layout, Machine, Turn};
+use pm_words::{Action, Layout, Turn};
 use tree_floor::word_of;
 
 /// Looks where a child under a byte comes into a cell of form 4, 16 or 48, which has none there. Nobody may write
@@ -17,44 +17,14 @@ pub struct FindRoom {
     pub places: Places,
 }
 
-impl Machine for FindRoom {
-    ghost use Rattle.tree_change.specs.FindRooms.{IsFindRoom, find_room_asks, find_room_turned, find_room_takes};
-    ghost use Rattle.tree_change.specs.FindRooms.{find_room_left};
-
-    type Answer = Room;
-
-    ghost fits = { IsFindRoom };
-
-    ghost asks = { find_room_asks };
-
-    ghost turned = { find_room_turned };
-
-    ghost takes = { find_room_takes };
-
-    ghost left = { find_room_left };
-
-    fn action(&self) -> Action {
-        let layout = self.layout;
-        let offset = self.places.offset(self.cell / KIND, self.byte);
-        Action::Load(layout.cached(word_of(layout, self.cell, offset)))
-    }
-
-    fn resume(self, got: u64) -> Turn<FindRoom, Room> {
-        let mut next = self;
-        match next.advance(got) {
-            None => Turn::Go(next),
-            Some(room) => Turn::Done(room),
-        }
-    }
-}
-
 impl FindRoom {
     ghost use Rattle.std.specs.Prelude.{◌≡◌, ◌<◌, ◌≤◌};
     ghost use Rattle.pm_words.specs.Layouts.{IsLayout};
     ghost use Rattle.tree_law.specs.Words.{kind_of};
     ghost use Rattle.pm_words.specs.Turns.{AdvancesTo};
     ghost use Rattle.tree_floor.specs.Floors.{IsCellOf};
-    ghost use Rattle.tree_change.specs.FindRooms.{IsFindRoom, find_room_starts, find_room_takes, find_room_turned};
+    ghost use Rattle.tree_change.specs.FindRooms.{IsFindRoom, find_room_asks, find_room_starts, find_room_takes};
+    ghost use Rattle.tree_change.specs.FindRooms.{find_room_turned};
 
     /// The look for room in this cell.
     pub fn new(layout: Layout, cell: u64, byte: u64) -> FindRoom
@@ -71,6 +41,16 @@ impl FindRoom {
             byte,
             places: Places::of(cell / KIND),
         }
+    }
+
+    /// The action that it asks for next.
+    pub fn action(&self) -> Action
+        requires { IsFindRoom self.now }
+        ensures { result ≡ find_room_asks self.now }
+    {
+        let layout = self.layout;
+        let offset = self.places.offset(self.cell / KIND, self.byte);
+        Action::Load(layout.cached(word_of(layout, self.cell, offset)))
     }
 
     /// Tells it in place the word that it asked for. It goes on, or is done where there is an answer.

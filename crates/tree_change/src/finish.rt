@@ -8,7 +8,7 @@ ghost use Rattle.tree_change.specs.Finishes.{IsTarget, target_image, line_image,
 
 use pm_words::codes::reference::KIND;
 use pm_words::offsets::root;
-use pm_words::{Action, Fence, Layout, Machine, Turn, line_of};
+use pm_words::{Action, Fence, Layout, line_of};
 use tree_floor::{ROOT, word_of};
 
 /// A word of the layer.
@@ -49,49 +49,12 @@ pub enum FinishAt {
     Unmark { reference: u64 },
 }
 
-impl Machine for Finish {
-    ghost use Rattle.tree_change.specs.Finishes.{IsFinish, finish_asks, finish_turned, finish_takes, finish_left};
-
-    type Answer = ();
-
-    ghost fits = { IsFinish };
-
-    ghost asks = { finish_asks };
-
-    ghost turned = { finish_turned };
-
-    ghost takes = { finish_takes };
-
-    ghost left = { finish_left };
-
-    fn action(&self) -> Action {
-        let layout = self.layout;
-        match self.at {
-            FinishAt::Quiet => store_action(layout, self.quiet),
-            FinishAt::QuietFence { fence } => fence_action(layout, self.quiet.target, fence),
-            FinishAt::Switch => store_action(layout, self.switch),
-            FinishAt::SwitchFence { fence } => fence_action(layout, self.switch.target, fence),
-            FinishAt::Unmark { reference } => {
-                Action::Store(layout.mark(reference / KIND, reference % KIND), 0)
-            }
-        }
-    }
-
-    fn resume(self, got: u64) -> Turn<Finish, ()> {
-        let mut next = self;
-        match next.advance(got) {
-            None => Turn::Go(next),
-            Some(()) => Turn::Done(()),
-        }
-    }
-}
-
 impl Finish {
     ghost use Rattle.std.specs.Prelude.{◌≡◌, ◌≢◌, ◌<◌};
     ghost use Rattle.pm_words.specs.Layouts.{IsLayout};
     ghost use Rattle.pm_words.specs.Turns.{AdvancesTo};
     ghost use Rattle.tree_change.specs.Finishes.{IsFinish, IsTarget, IsMarked, finish_starts, quiet_starts};
-    ghost use Rattle.tree_change.specs.Finishes.{finish_takes, finish_turned, finish_to, unmarks};
+    ghost use Rattle.tree_change.specs.Finishes.{finish_asks, finish_takes, finish_turned, finish_to, unmarks};
 
     /// The end of a change by this switch store, behind which what these references lead to is free; 0 for none.
     pub fn new(layout: Layout, switch: TargetStore, free: u64, next: u64) -> Finish
@@ -127,6 +90,23 @@ impl Finish {
             free: 0,
             next: 0,
             at: FinishAt::Quiet,
+        }
+    }
+
+    /// The action that it asks for next.
+    pub fn action(&self) -> Action
+        requires { IsFinish self.now }
+        ensures { result ≡ finish_asks self.now }
+    {
+        let layout = self.layout;
+        match self.at {
+            FinishAt::Quiet => store_action(layout, self.quiet),
+            FinishAt::QuietFence { fence } => fence_action(layout, self.quiet.target, fence),
+            FinishAt::Switch => store_action(layout, self.switch),
+            FinishAt::SwitchFence { fence } => fence_action(layout, self.switch.target, fence),
+            FinishAt::Unmark { reference } => {
+                Action::Store(layout.mark(reference / KIND, reference % KIND), 0)
+            }
         }
     }
 

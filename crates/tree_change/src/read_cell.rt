@@ -4,7 +4,7 @@ ghost use Rattle.std.specs.Prelude.{◌≡◌, ◌<◌, ◌≤◌};
 ghost use Rattle.pm_words.specs.Locations.{kind_words};
 
 use pm_words::codes::reference::KIND;
-use pm_words::{Action, Layout, Machine, Turn, kind_words};
+use pm_words::{Action, Layout, kind_words};
 use radix_nodes::{CELL_WORDS, Cell};
 use tree_floor::word_of;
 
@@ -20,41 +20,12 @@ pub struct ReadCell {
     pub offset: u64,
 }
 
-impl Machine for ReadCell {
-    ghost use Rattle.tree_change.specs.Reads.{IsReadCell, read_asks, read_turned, read_takes, read_left};
-
-    type Answer = Cell;
-
-    ghost fits = { IsReadCell };
-
-    ghost asks = { read_asks };
-
-    ghost turned = { read_turned };
-
-    ghost takes = { read_takes };
-
-    ghost left = { read_left };
-
-    fn action(&self) -> Action {
-        let layout = self.layout;
-        Action::Load(layout.cached(word_of(layout, self.reference, self.offset)))
-    }
-
-    fn resume(self, got: u64) -> Turn<ReadCell, Cell> {
-        let mut next = self;
-        match next.advance(got) {
-            None => Turn::Go(next),
-            Some(cell) => Turn::Done(cell),
-        }
-    }
-}
-
 impl ReadCell {
     ghost use Rattle.std.specs.Prelude.{◌≡◌, ◌<◌};
     ghost use Rattle.pm_words.specs.Layouts.{IsLayout};
     ghost use Rattle.pm_words.specs.Turns.{AdvancesTo};
     ghost use Rattle.tree_floor.specs.Floors.{IsCellOf};
-    ghost use Rattle.tree_change.specs.Reads.{IsReadCell, read_starts, read_takes, read_turned};
+    ghost use Rattle.tree_change.specs.Reads.{IsReadCell, read_asks, read_starts, read_takes, read_turned};
 
     /// It reads this cell.
     pub fn new(layout: Layout, reference: u64) -> ReadCell
@@ -73,6 +44,15 @@ impl ReadCell {
             cell,
             offset: 0,
         }
+    }
+
+    /// The action that it asks for next.
+    pub fn action(&self) -> Action
+        requires { IsReadCell self.now }
+        ensures { result ≡ read_asks self.now }
+    {
+        let layout = self.layout;
+        Action::Load(layout.cached(word_of(layout, self.reference, self.offset)))
     }
 
     /// Tells it in place the word that it asked for. It goes on, or is done where there is an answer.

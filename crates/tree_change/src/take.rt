@@ -2,7 +2,7 @@
 
 ghost use Rattle.std.specs.Prelude.{◌≡◌, ◌<◌, ◌≤◌};
 
-use pm_words::{Action, Layout, Machine, Turn};
+use pm_words::{Action, Layout};
 
 /// Takes the first leaf or cell of a kind that has no mark, and marks it. Nobody else may set a mark meanwhile.
 #[derive(Clone, Copy)]
@@ -31,44 +31,12 @@ pub enum Taken {
     Absent,
 }
 
-impl Machine for Take {
-    ghost use Rattle.tree_change.specs.Takes.{IsTake, take_asks, take_turned, take_takes, take_left};
-
-    type Answer = Taken;
-
-    ghost fits = { IsTake };
-
-    ghost asks = { take_asks };
-
-    ghost turned = { take_turned };
-
-    ghost takes = { take_takes };
-
-    ghost left = { take_left };
-
-    fn action(&self) -> Action {
-        let layout = self.layout;
-        match self.at {
-            TakeAt::Seek { number } => Action::Load(layout.mark(self.kind, number)),
-            TakeAt::Mark { number } => Action::Store(layout.mark(self.kind, number), 1),
-        }
-    }
-
-    fn resume(self, got: u64) -> Turn<Take, Taken> {
-        let mut next = self;
-        match next.advance(got) {
-            None => Turn::Go(next),
-            Some(taken) => Turn::Done(taken),
-        }
-    }
-}
-
 impl Take {
     ghost use Rattle.std.specs.Prelude.{◌≡◌, ◌<◌, ◌≤◌};
     ghost use Rattle.pm_words.specs.Layouts.{IsLayout};
     ghost use Rattle.pm_words.specs.Locations.{leaf_count};
     ghost use Rattle.pm_words.specs.Turns.{AdvancesTo};
-    ghost use Rattle.tree_change.specs.Takes.{IsTake, take_starts, take_takes, take_turned, take_seeks};
+    ghost use Rattle.tree_change.specs.Takes.{IsTake, take_asks, take_starts, take_takes, take_turned, take_seeks};
 
     /// It takes one of this kind.
     pub fn new(layout: Layout, kind: u64) -> Take
@@ -82,6 +50,18 @@ impl Take {
             layout,
             kind,
             at: TakeAt::Seek { number: 0 },
+        }
+    }
+
+    /// The action that it asks for next.
+    pub fn action(&self) -> Action
+        requires { IsTake self.now }
+        ensures { result ≡ take_asks self.now }
+    {
+        let layout = self.layout;
+        match self.at {
+            TakeAt::Seek { number } => Action::Load(layout.mark(self.kind, number)),
+            TakeAt::Mark { number } => Action::Store(layout.mark(self.kind, number), 1),
         }
     }
 

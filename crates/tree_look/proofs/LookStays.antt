@@ -5,7 +5,6 @@ use Rattle.pm_words.specs.declared.layout.Layout.{Layout}
 use Rattle.pm_words.specs.declared.machine.Turn.TheVariants.{Go, Done}
 use Rattle.pm_words.specs.Layouts.{IsLayout}
 use Rattle.pm_words.specs.Locations.{leaf_count}
-use Rattle.pm_words.specs.Turns.{GoesBelow}
 use Rattle.pm_words.specs.Codes.{leaf_kind}
 use Rattle.cat_key.specs.declared.TheConstants.{WORDS}
 use Rattle.radix_nodes.specs.Keys.{key_bytes}
@@ -22,15 +21,13 @@ use Rattle.tree_look.specs.declared.look.Look.{Look}
 use Rattle.tree_look.specs.declared.look.LookAt.{LookAt}
 use Rattle.tree_look.specs.declared.look.LookAt.TheVariants as at
 use Rattle.tree_look.specs.declared.look.Spot.{Spot}
-use Rattle.tree_look.specs.declared.look.Looked.{Looked}
 use Rattle.tree_look.specs.declared.look.Looked.TheVariants as looked
 use Rattle.tree_look.specs.Finds.{find_starts, find_told, find_left}
 use Rattle.tree_look.specs.FindLaws.{FindAfter}
 use Rattle.tree_look.specs.Depths.{shared_of}
-use Rattle.tree_look.specs.Looks.{goes_to, byte_parted, parts, lands, has_key, has_prefix, has_found, level, look_at_turned, look_turned, IsLookAt, IsSpot, look_takes, look_left}
+use Rattle.tree_look.specs.Looks.{goes_to, byte_parted, parts, lands, has_key, has_prefix, has_found, level, look_at_turned, IsLookAt, IsSpot, look_left}
 use Rattle.tree_look.specs.LookLaws.{LookAfter, LookStays}
 use Rattle.tree_look.proofs.FindLaw.{finds_end, starts}
-use Rattle.tree_floor.proofs.Telling.{either_way}
 
 -- the byte at which something parts is one
 parted_small : (other depth : ℕ) → byte_parted other depth < 256
@@ -123,6 +120,3 @@ module _ (l : Layout) (key : List ℕ) (layout : IsLayout l) (is_key : IsKey key
 
 pub look_stays : LookStays
 look_stays f got takes = at_after f.layout f.key takes.0.layout takes.0.key f.least f.outer f.inner f.at got (takes.0.outer, takes.0.inner) takes.0.here takes.1
-
-pub look_fewer : (f : Look) (got : ℕ) → look_takes f got → GoesBelow {A = Looked} look_left (look_left f) (look_turned f got)
-look_fewer f got takes = either_way (LookAfter f.layout f.key (look_left f)) (GoesBelow {A = Looked} look_left (look_left f)) (λ next after. after.3) (λ answer after. tt) (look_turned f got) (look_stays f got takes)

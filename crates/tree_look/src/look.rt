@@ -90,52 +90,14 @@ pub enum Looked {
     Wrong,
 }
 
-impl Machine for Look {
-    ghost use Rattle.tree_look.specs.Looks.{IsLook, look_asks, look_turned, look_takes, look_left};
-
-    type Answer = Looked;
-
-    ghost fits = { IsLook };
-
-    ghost asks = { look_asks };
-
-    ghost turned = { look_turned };
-
-    ghost takes = { look_takes };
-
-    ghost left = { look_left };
-
-    fn action(&self) -> Action {
-        let layout = self.layout;
-        let word = match self.at {
-            LookAt::Root => ROOT,
-            LookAt::Key { leaf, word, .. } => layout.leaf_word(leaf, word),
-            LookAt::Depth { cell } => word_of(layout, cell, DEPTH),
-            LookAt::Prefix { cell, word, .. } => word_of(layout, cell, 1 + word),
-            LookAt::Finding { cell, depth, find } => {
-                let byte = byte_of(self.key, depth);
-                word_of(layout, cell, find.offset(cell / KIND, byte))
-            }
-        };
-        Action::Load(layout.cached(word))
-    }
-
-    fn resume(self, got: u64) -> Turn<Look, Looked> {
-        let mut next = self;
-        match next.advance(got) {
-            None => Turn::Go(next),
-            Some(looked) => Turn::Done(looked),
-        }
-    }
-}
-
 impl Look {
     ghost use Rattle.std.specs.Prelude.{◌≡◌, ◌<◌, ◌^◌};
     ghost use Rattle.radix_nodes.specs.Keys.{key_bytes};
     ghost use Rattle.pm_words.specs.Layouts.{IsLayout};
     ghost use Rattle.pm_words.specs.Turns.{AdvancesTo};
-    ghost use Rattle.tree_look.specs.Looks.{IsLook, look_starts, look_takes, look_turned, goes_to, lands, parts};
-    ghost use Rattle.tree_look.specs.Looks.{has_key, has_key_word, has_depth, has_prefix, has_prefix_word, has_found};
+    ghost use Rattle.tree_look.specs.Looks.{IsLook, look_asks, look_starts, look_takes, look_turned, goes_to, lands};
+    ghost use Rattle.tree_look.specs.Looks.{parts, has_key, has_key_word, has_depth, has_prefix, has_prefix_word};
+    ghost use Rattle.tree_look.specs.Looks.{has_found};
 
     /// The look for this key.
     pub fn new(layout: Layout, key: Key) -> Look
@@ -156,6 +118,25 @@ impl Look {
             inner: root,
             at: LookAt::Root,
         }
+    }
+
+    /// The action that it asks for next.
+    pub fn action(&self) -> Action
+        requires { IsLook self.now }
+        ensures { result ≡ look_asks self.now }
+    {
+        let layout = self.layout;
+        let word = match self.at {
+            LookAt::Root => ROOT,
+            LookAt::Key { leaf, word, .. } => layout.leaf_word(leaf, word),
+            LookAt::Depth { cell } => word_of(layout, cell, DEPTH),
+            LookAt::Prefix { cell, word, .. } => word_of(layout, cell, 1 + word),
+            LookAt::Finding { cell, depth, find } => {
+                let byte = byte_of(self.key, depth);
+                word_of(layout, cell, find.offset(cell / KIND, byte))
+            }
+        };
+        Action::Load(layout.cached(word))
     }
 
     /// Tells it in place the word that it asked for. It goes on, or is done where there is an answer.

@@ -3,7 +3,7 @@
 ghost use Rattle.std.specs.Prelude.{◌≡◌, ◌≢◌, ◌^◌, ◌<◌, ◌+◌};
 
 use crate::change::{Change, Ended};
-use pm_words::{Action, Layout, Machine, Turn};
+use pm_words::{Action, Layout, Machine};
 use radix_nodes::Key;
 
 /// Sets a key of the tree to a node. The holder of the updater lock alone runs it.
@@ -14,37 +14,10 @@ pub struct Set {
     pub change: Change,
 }
 
-impl Machine for Set {
-    ghost use Rattle.tree_update.specs.Sets.{IsSet, set_asks, set_turned, set_takes, set_left};
-
-    type Answer = Ended;
-
-    ghost fits = { IsSet };
-
-    ghost asks = { set_asks };
-
-    ghost turned = { set_turned };
-
-    ghost takes = { set_takes };
-
-    ghost left = { set_left };
-
-    fn action(&self) -> Action {
-        self.change.action()
-    }
-
-    fn resume(self, got: u64) -> Turn<Set, Ended> {
-        match self.change.resume(got) {
-            Turn::Go(change) => Turn::Go(Set { change }),
-            Turn::Done(ended) => Turn::Done(ended),
-        }
-    }
-}
-
 impl Set {
     ghost use Rattle.pm_words.specs.Layouts.{IsLayout};
     ghost use Rattle.pm_words.specs.Turns.{AdvancesTo};
-    ghost use Rattle.tree_update.specs.Sets.{IsSet, set_starts, set_takes, set_turned};
+    ghost use Rattle.tree_update.specs.Sets.{IsSet, set_asks, set_starts, set_takes, set_turned};
 
     /// The set of the key to the node.
     pub fn new(layout: Layout, key: Key, node: u64) -> Set
@@ -56,6 +29,14 @@ impl Set {
         Set {
             change: Change::new(layout, key, node + 1),
         }
+    }
+
+    /// The action that it asks for next.
+    pub fn action(&self) -> Action
+        requires { IsSet self.now }
+        ensures { result ≡ set_asks self.now }
+    {
+        self.change.action()
     }
 
     /// Tells it in place the number that it asked for. It goes on, or is done where there is an answer.
@@ -75,39 +56,12 @@ pub struct Unset {
     pub change: Change,
 }
 
-impl Machine for Unset {
-    ghost use Rattle.tree_update.specs.Sets.{IsUnset, unset_asks, unset_turned, unset_takes, unset_left};
-
-    type Answer = Ended;
-
-    ghost fits = { IsUnset };
-
-    ghost asks = { unset_asks };
-
-    ghost turned = { unset_turned };
-
-    ghost takes = { unset_takes };
-
-    ghost left = { unset_left };
-
-    fn action(&self) -> Action {
-        self.change.action()
-    }
-
-    fn resume(self, got: u64) -> Turn<Unset, Ended> {
-        match self.change.resume(got) {
-            Turn::Go(change) => Turn::Go(Unset { change }),
-            Turn::Done(ended) => Turn::Done(ended),
-        }
-    }
-}
-
 impl Unset {
     ghost use Rattle.std.specs.Prelude.{◌≢◌};
     ghost use Rattle.pm_words.specs.Layouts.{IsLayout};
     ghost use Rattle.pm_words.specs.Turns.{AdvancesTo};
     ghost use Rattle.layer_map.specs.Keys.{key_number};
-    ghost use Rattle.tree_update.specs.Sets.{IsUnset, unset_starts, unset_takes, unset_turned};
+    ghost use Rattle.tree_update.specs.Sets.{IsUnset, unset_asks, unset_starts, unset_takes, unset_turned};
 
     /// The unset of the key, which isn't zero.
     pub fn new(layout: Layout, key: Key) -> Unset
@@ -119,6 +73,14 @@ impl Unset {
         Unset {
             change: Change::new(layout, key, 0),
         }
+    }
+
+    /// The action that it asks for next.
+    pub fn action(&self) -> Action
+        requires { IsUnset self.now }
+        ensures { result ≡ unset_asks self.now }
+    {
+        self.change.action()
     }
 
     /// Tells it in place the number that it asked for. It goes on, or is done where there is an answer.

@@ -9,7 +9,6 @@ ghost use Rattle.tree_change.specs.Begins.{spot_target};
 use crate::change::{Change, ChangeAt, Ended, NewCell, Site};
 use pm_words::codes::reference::{FORM_256, KIND};
 use pm_words::offsets::cell::{FIRST, PLACES};
-use pm_words::{Machine, Turn};
 use radix_nodes::{
     Branch, Cell, ENTRY, FillCell, FillLeaf, Key, byte_set, larger, paired, prefix_of,
 };
@@ -71,16 +70,10 @@ impl Change {
         let ChangeAt::FillingLeaf { fill, site } = &mut self.at else {
             return None;
         };
-        match fill.resume(got) {
-            Turn::Go(filling) => {
-                *fill = filling;
-                None
-            }
-            Turn::Done(()) => {
-                let (leaf, site) = (fill.number, *site);
-                self.leaf_filled(leaf, site)
-            }
-        }
+        let leaf = fill.number;
+        fill.advance(got)?;
+        let site = *site;
+        self.leaf_filled(leaf, site)
     }
 
     /// The leaf is filled and durable.
@@ -126,16 +119,10 @@ impl Change {
         let ChangeAt::FindingRoom { find, spot, leaf } = &mut self.at else {
             return None;
         };
-        match find.resume(got) {
-            Turn::Go(next) => {
-                *find = next;
-                None
-            }
-            Turn::Done(room) => {
-                let (find, spot, leaf) = (*find, *spot, *leaf);
-                self.room_found(find, spot, leaf, room)
-            }
-        }
+        let looked = *find;
+        let room = find.advance(got)?;
+        let (spot, leaf) = (*spot, *leaf);
+        self.room_found(looked, spot, leaf, room)
     }
 
     /// The look for room has found that.
@@ -253,17 +240,10 @@ impl Change {
         let ChangeAt::FillingCell { fill, spot, free } = &mut self.at else {
             return None;
         };
-        match fill.resume(got) {
-            Turn::Go(next) => {
-                *fill = next;
-                None
-            }
-            Turn::Done(()) => {
-                let reference = fill.cell.kind * KIND + fill.number;
-                let (spot, free) = (*spot, *free);
-                self.finishes(spot_target(spot), spot.high + reference, free, 0)
-            }
-        }
+        let reference = fill.cell.kind * KIND + fill.number;
+        fill.advance(got)?;
+        let (spot, free) = (*spot, *free);
+        self.finishes(spot_target(spot), spot.high + reference, free, 0)
     }
 }
 

@@ -6,7 +6,6 @@ use crate::change::{Change, ChangeAt, Ended};
 use crate::setting::spot_target;
 use pm_words::codes::reference::{FORM_48, KIND};
 use pm_words::offsets::cell::FIRST;
-use pm_words::{Machine, Turn};
 use radix_nodes::{ENTRY, KEY_BYTES, byte_set};
 use tree_change::{Count, Counted, Target};
 use tree_floor::byte_of;
@@ -62,16 +61,10 @@ impl Change {
         else {
             return None;
         };
-        match count.resume(got) {
-            Turn::Go(next) => {
-                *count = next;
-                None
-            }
-            Turn::Done(children) => {
-                let (count, leaf, outer, inner) = (*count, *leaf, *outer, *inner);
-                self.counted(count, leaf, outer, inner, children)
-            }
-        }
+        let counting = *count;
+        let children = count.advance(got)?;
+        let (leaf, outer, inner) = (*leaf, *outer, *inner);
+        self.counted(counting, leaf, outer, inner, children)
     }
 
     /// The leaf's cell has these other children.
