@@ -187,6 +187,20 @@ pub at_prefix : {here : FloorAt} {cell depth word count : ℕ} {words : List ℕ
 at_prefix {cell = cell} {depth} {words = words} is word_is none =
     is ∙ ap (λ (w : ℕ). at.Prefix cell depth words w) (sym word_is ∙ none)
 
+pub stands_is : (row : Row) (floor : Floor) {here : FloorAt} → floor.at ≡ here → MayFloor row floor floor.at
+    → IsFloor (record floor { at = here })
+stands_is row floor {here} is may = floor_is row floor here (at_may row floor is may)
+
+pub stands_can : (row : Row) (floor : Floor) {here : FloorAt} {address : ℕ} → floor.at ≡ here
+    → MayFloor row floor floor.at → Load address ≡ Load (layer_address floor.layout (floor_word here))
+    → CanAct row.layout row.words (Load address)
+stands_can row floor {here} is may asked = floor_can row floor here (at_may row floor is may) asked
+
+-- a load of the cached twin of a word
+pub cached_load : (l : Layout) {address word number : ℕ} → address ≡ cached_address l word → word ≡ number
+    → Load address ≡ Load (cached_address l number)
+cached_load l is word_is = ap (λ (a : ℕ). Load a) (is ∙ ap (λ (w : ℕ). cached_address l w) word_is)
+
 -- there is the word that it reads there
 pub first_loads : (floor : Floor) (here : FloorAt) → IsFloor (record floor { at = here })
     → HasLayerWord floor.layout (floor_word here)

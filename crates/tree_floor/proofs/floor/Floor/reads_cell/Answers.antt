@@ -1,47 +1,40 @@
-use Rattle.std.proofs.Common.{ℕ, ap, refl, ◌∙◌}
-use Rattle.pm_words.specs.declared.action.Action.TheVariants.{Load}
-use Rattle.pm_words.specs.Locations.{cached_address}
+use Rattle.std.proofs.Common.{refl}
 use Rattle.machine_runs.specs.Runs.{begins}
 use Rattle.machine_runs.proofs.Running.{run_begins, run_can, run_takes, turn_bursts}
 use Rattle.machine_runs.proofs.Inside.{same_bursts}
 use Rattle.tree_floor.specs.declared.floor.FloorAt.TheVariants as at
 use Rattle.tree_floor.specs.Floors.{floor_takes}
 use Rattle.tree_floor.proofs.FloorStays.{floor_fewer}
-use Rattle.tree_floor.proofs.FloorReading.{floor_is, floor_can, load_bursts, at_may, at_bursts, at_prefix, first_loads}
+use Rattle.tree_floor.proofs.FloorReading.{stands_is, stands_can, cached_load, load_bursts, at_may, at_bursts, at_prefix, first_loads}
 use Rattle.tree_floor.proofs.FloorReading.{prefix_within, prefix_bursts}
 use Rattle.tree_floor.proofs.floor.Floor.reads_cell.Goals as goal
 
 pub word_of-word-requires : goal.word_of-word-requires
 word_of-word-requires g c =
-    let is = floor_is c.args.memory.now c.args.self.now (at.Depth c.in-Depth.cell) (at_may c.args.memory.now c.args.self.now c.in-Depth.is c.requires) in
+    let is = stands_is c.args.memory.now c.args.self.now c.in-Depth.is c.requires in
     record { layout = is.layout; cell = is.here; offset = (first_loads c.args.self.now (at.Depth c.in-Depth.cell) is).3 }
 
 pub cached-requires-clause-layout : goal.cached-requires-clause-layout
 cached-requires-clause-layout g c =
-    (floor_is c.args.memory.now c.args.self.now (at.Depth c.in-Depth.cell)
-    (at_may c.args.memory.now c.args.self.now c.in-Depth.is c.requires)).layout
+    (stands_is c.args.memory.now c.args.self.now c.in-Depth.is c.requires).layout
 
 pub act-depth-requires : goal.act-depth-requires
 act-depth-requires g c =
-    floor_can c.args.memory.now c.args.self.now (at.Depth c.in-Depth.cell) (at_may c.args.memory.now c.args.self.now c.in-Depth.is c.requires)
-    (ap (λ (a : ℕ). Load a)
-    (c.cached.ensures.address ∙ ap (λ (w : ℕ). cached_address c.args.self.now.layout w) c.word_of-word.ensures.word))
+    stands_can c.args.memory.now c.args.self.now c.in-Depth.is c.requires
+    (cached_load c.args.self.now.layout c.cached.ensures.address c.word_of-word.ensures.word)
 
 pub has_depth-requires : goal.has_depth-requires
 has_depth-requires g c =
-    (floor_is c.args.memory.now c.args.self.now (at.Depth c.in-Depth.cell)
-    (at_may c.args.memory.now c.args.self.now c.in-Depth.is c.requires)).here
+    (stands_is c.args.memory.now c.args.self.now c.in-Depth.is c.requires).here
 
 pub word_of-requires : goal.word_of-requires
 word_of-requires g c =
-    let is = floor_is c.args.memory.now c.args.self.now (at.Prefix c.in-Prefix-default-default-default-eq0.cell c.in-Prefix-default-default-default-eq0.depth c.in-Prefix-default-default-default-eq0.words 0)
-    (at_may c.args.memory.now c.args.self.now (at_prefix c.in-Prefix-default-default-default-eq0.is c.in-Prefix-default-default-default-eq0.word-is c.in-Prefix-default-default-default-eq0.word-test) c.requires) in
+    let is = stands_is c.args.memory.now c.args.self.now (at_prefix c.in-Prefix-default-default-default-eq0.is c.in-Prefix-default-default-default-eq0.word-is c.in-Prefix-default-default-default-eq0.word-test) c.requires in
     record { layout = is.layout; cell = is.here.0; offset = (first_loads c.args.self.now (at.Prefix c.in-Prefix-default-default-default-eq0.cell c.in-Prefix-default-default-default-eq0.depth c.in-Prefix-default-default-default-eq0.words 0) is).3 }
 
 pub loads_key-prefix-requires-clause-layout : goal.loads_key-prefix-requires-clause-layout
 loads_key-prefix-requires-clause-layout g c =
-    (floor_is c.args.memory.now c.args.self.now (at.Prefix c.in-Prefix-default-default-default-eq0.cell c.in-Prefix-default-default-default-eq0.depth c.in-Prefix-default-default-default-eq0.words 0)
-    (at_may c.args.memory.now c.args.self.now (at_prefix c.in-Prefix-default-default-default-eq0.is c.in-Prefix-default-default-default-eq0.word-is c.in-Prefix-default-default-default-eq0.word-test) c.requires)).layout
+    (stands_is c.args.memory.now c.args.self.now (at_prefix c.in-Prefix-default-default-default-eq0.is c.in-Prefix-default-default-default-eq0.word-is c.in-Prefix-default-default-default-eq0.word-test) c.requires).layout
 
 pub loads_key-prefix-requires-clause-within : goal.loads_key-prefix-requires-clause-within
 loads_key-prefix-requires-clause-within g c =
@@ -51,8 +44,7 @@ loads_key-prefix-requires-clause-within g c =
 
 pub has_prefix-requires : goal.has_prefix-requires
 has_prefix-requires g c =
-    let is = floor_is c.args.memory.now c.args.self.now (at.Prefix c.in-Prefix-default-default-default-eq0.cell c.in-Prefix-default-default-default-eq0.depth c.in-Prefix-default-default-default-eq0.words 0)
-    (at_may c.args.memory.now c.args.self.now (at_prefix c.in-Prefix-default-default-default-eq0.is c.in-Prefix-default-default-default-eq0.word-is c.in-Prefix-default-default-default-eq0.word-test) c.requires) in
+    let is = stands_is c.args.memory.now c.args.self.now (at_prefix c.in-Prefix-default-default-default-eq0.is c.in-Prefix-default-default-default-eq0.word-is c.in-Prefix-default-default-default-eq0.word-test) c.requires in
     record { layout = is.layout; cell = is.here.0; depth = is.here.1.1 }
 
 pub seeks-scanned-requires : goal.seeks-scanned-requires
@@ -61,8 +53,7 @@ seeks-scanned-requires g c =
 
 pub has_scanned-requires : goal.has_scanned-requires
 has_scanned-requires g c =
-    let is = floor_is c.args.memory.now c.args.self.now (at.Scanning c.in-Scanning.cell c.in-Scanning.depth c.in-Scanning.byte c.in-Scanning.scan)
-    (at_may c.args.memory.now c.args.self.now c.in-Scanning.is c.requires) in
+    let is = stands_is c.args.memory.now c.args.self.now c.in-Scanning.is c.requires in
     record { layout = is.layout; depth = is.here.1.1 }
 
 pub action-requires : goal.action-requires
@@ -83,8 +74,7 @@ returns-in-Depth g c =
     at_bursts c.args.self.now c.in-Depth.is
     (same_bursts refl
     (load_bursts c.args.self.now (at.Depth c.in-Depth.cell) (at_may c.args.memory.now c.args.self.now c.in-Depth.is c.requires)
-    (ap (λ (a : ℕ). Load a)
-    (c.cached.ensures.address ∙ ap (λ (w : ℕ). cached_address c.args.self.now.layout w) c.word_of-word.ensures.word))
+    (cached_load c.args.self.now.layout c.cached.ensures.address c.word_of-word.ensures.word)
     c.act-depth.ensures.row c.act-depth.ensures.got c.act-depth.ensures.tick)
     c.has_depth.ensures)
 
