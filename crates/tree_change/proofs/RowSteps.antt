@@ -9,16 +9,17 @@ use Rattle.pm_words.specs.Rows as rows
 use Rattle.radix_nodes.specs.Cells.{words_of}
 use Rattle.radix_nodes.specs.Fills.{lines_of, fill_leaf_asks, fill_leaf_turned, fill_cell_asks, fill_cell_turned}
 use Rattle.layer_map.specs.Layers.{Layer}
-use Rattle.tree_law.specs.Words.{LayerWords, IsMix, Keeps, LeafPart}
+use Rattle.tree_law.specs.Words.{LayerWords, IsMix, Keeps, Part, LeafPart}
 use Rattle.tree_floor.specs.tree_row.specs.Rows.{layer_words}
 use Rattle.tree_floor.specs.tree_row.proofs.RowLaw.{crash_reads, eviction_mixes}
 use Rattle.tree_change.specs.Finishes.{finish_asks, finish_turned}
 use Rattle.tree_change.specs.Endings.{Ending, CanQuiet, Quieted, CanSwitch, Switched, Unmarks, EndingMix, SureEnding}
-use Rattle.tree_change.specs.Endings.{ending_at, ending_after}
+use Rattle.tree_change.specs.Endings.{Effect, ending_at, ending_after}
 use Rattle.tree_change.specs.Endings as endings
-use Rattle.tree_change.specs.Fillings.{SureFilling, effect_at, stage_at, leaf_words, leaf_after, cell_part, cell_after}
+use Rattle.tree_change.specs.Fillings.{FillStage, FillStep, SureFilling, effect_at, stage_at, leaf_words, leaf_after, cell_part, cell_after}
 use Rattle.tree_change.specs.RowSteps.{LeavesLayer, FinishActs, FinishEvicts, FinishCrashes, LeafActs, CellActs}
-use Rattle.tree_change.specs.RowSteps.{FillEvicts, FillCrashes}
+use Rattle.tree_change.specs.RowSteps.{FillingIn, FillEvicts, FillCrashes}
+use Rattle.tree_change.specs.Acts.{HappensIn}
 use Rattle.tree_change.proofs.FinishTurns.{finish_turns}
 use Rattle.tree_change.proofs.FillTurns.{leaf_turns, cell_turns}
 use Rattle.tree_change.proofs.EndingLaw.{end_step_keeps, ending_drains, ending_mixes}
@@ -79,24 +80,24 @@ finish_crashes count nodes before made l e words sure =
       | inr new ↦ inr (left count nodes made l words new)
     ]
 
+-- an action of a filling that has this effect
+fill_acts : (count nodes : ℕ) (before : Layer) (begun : LayerWords) (l : Layout) (part : Part) (lines : ℕ) (wanted : ℕ → ℕ) (f : FillStage) (effect : Effect) (f' : FillStage) (words : List ℕ) (a : Action)
+    → FillStep part lines wanted f effect f' → HappensIn l words a effect → FillingIn count nodes before begun l part lines wanted f words → FillingIn count nodes before begun l part lines wanted f' (acted l words a)
+fill_acts count nodes before begun l part lines wanted f effect f' words a step happens sure =
+    fill_step_keeps count nodes before begun part lines wanted f effect f' (in_cached l words) (in_durable l words) (in_cached l (acted l words a)) (in_durable l (acted l words a)) step happens sure
+
 pub leaf_acts : LeafActs
 leaf_acts count nodes before begun m words is row sure =
-    let l = m.layout in
-    let x = rows.got l words (fill_leaf_asks m) in
-    let after = acted l words (fill_leaf_asks m) in
-    let turns = leaf_turns m x (is, got_fits l words row (fill_leaf_asks m)) in
-    fill_step_keeps count nodes before begun (LeafPart m.number) 1 (leaf_words m) (stage_at 1 m.at) (effect_at (LeafPart m.number) (leaf_words m) m.at x) (leaf_after (fill_leaf_turned m x)) (in_cached l words) (in_durable l words) (in_cached l after) (in_durable l after)
-    turns.1 (leaf_happens m words is row.whole) sure
+    let x = rows.got m.layout words (fill_leaf_asks m) in
+    fill_acts count nodes before begun m.layout (LeafPart m.number) 1 (leaf_words m) (stage_at 1 m.at) (effect_at (LeafPart m.number) (leaf_words m) m.at x) (leaf_after (fill_leaf_turned m x)) words (fill_leaf_asks m)
+    (leaf_turns m x (is, got_fits m.layout words row (fill_leaf_asks m))).1 (leaf_happens m words is row.whole) sure
 
 pub cell_acts : CellActs
 cell_acts count nodes before begun m words is row sure =
-    let l = m.layout in
     let lines = lines_of m.cell.kind in
-    let x = rows.got l words (fill_cell_asks m) in
-    let after = acted l words (fill_cell_asks m) in
-    let turns = cell_turns m x (is, got_fits l words row (fill_cell_asks m)) in
-    fill_step_keeps count nodes before begun (cell_part m) lines (words_of m.cell) (stage_at lines m.at) (effect_at (cell_part m) (words_of m.cell) m.at x) (cell_after m (fill_cell_turned m x)) (in_cached l words) (in_durable l words) (in_cached l after) (in_durable l after)
-    turns.1 (cell_happens m words is row.whole) sure
+    let x = rows.got m.layout words (fill_cell_asks m) in
+    fill_acts count nodes before begun m.layout (cell_part m) lines (words_of m.cell) (stage_at lines m.at) (effect_at (cell_part m) (words_of m.cell) m.at x) (cell_after m (fill_cell_turned m x)) words (fill_cell_asks m)
+    (cell_turns m x (is, got_fits m.layout words row (fill_cell_asks m))).1 (cell_happens m words is row.whole) sure
 
 pub fill_evicts : FillEvicts
 fill_evicts count nodes before begun l part lines wanted f words word whole sure =
