@@ -2,20 +2,21 @@ use Rattle.std.proofs.Common.{◌≡◌, ◌<◌, ◌≤◌, ◌+◌, ℕ, List,
 use Rattle.pm_words.specs.declared.layout.Layout.{Layout}
 use Rattle.pm_words.specs.declared.machine.Turn.TheVariants.{Go, Done}
 use Rattle.pm_words.specs.Rows.{CanAct, got, acted}
-use Rattle.layer_map.specs.Layers.{node_of}
+use Rattle.layer_map.specs.Layers.{Layer, node_of}
 use Rattle.tree_update.proofs.Doing.{turned_by, words_by, layout_by}
 use Rattle.layer_map.specs.Keys.{key_number}
 use Rattle.tree_update.specs.Changes.{change_asks, change_turned, change_left, change_most}
 use Rattle.tree_update.specs.Kinds.{KeepsOthers}
-use Rattle.tree_update.specs.Stages.{aim_of}
+use Rattle.tree_update.specs.declared.change.Change.{Change}
+use Rattle.tree_update.specs.Stages.{Aim, aim_of}
 use Rattle.tree_update.specs.Runs.{layer_in}
 use Rattle.tree_update.specs.Alone.{IsChanged}
 use Rattle.tree_update.proofs.RunLaw.{OnRun, starts_on, starts_left, can_on, goes_on, others_on, ends_on}
 use Rattle.tree_update.proofs.alone.run_alone.Goals as goal
 
 -- what stays along the run
-others : (l : Layout) (words now after : List ℕ) → KeepsOthers l words now → KeepsOthers l now after → KeepsOthers l words after
-others l words now after before step p has other = step p has other ∙ before p has other
+others : (l : Layout) (before : Layer) (aim : Aim) (change : Change) (words now : List ℕ) → OnRun l before aim change now → KeepsOthers l words now → KeepsOthers l words (acted l now (change_asks change))
+others l before aim change words now on so_far p has other = others_on l before aim change now on p has other ∙ so_far p has other
 
 pub turns-init : goal.turns-init
 turns-init g c =
@@ -44,10 +45,9 @@ turns-preserved g c =
     let before = layer_in l words in
     let change = c.turns.change in
     let row = c.turns.memory in
-    let on = c.turns.invariant.on in
     let is : change_turned change (got l row.words (change_asks change)) ≡ Go c.in-Go.next =
     turned_by (change_turned change) l row (change_asks change) c.action.result c.act-got.result c.turns.invariant.layout c.action.ensures c.act-got.ensures.got c.resume.ensures.turned c.in-Go.is in
-    let next = goes_on l before (aim_of c.args.change) c.requires.rooted change c.in-Go.next row.words on is in
+    let next = goes_on l before (aim_of c.args.change) c.requires.rooted change c.in-Go.next row.words c.turns.invariant.on is in
     let after = words_by l row c.act-got.new.self (change_asks change) c.action.result c.turns.invariant.layout c.action.ensures c.act-got.ensures.row in
     let fewer : change_left c.in-Go.next < change_left change = c.in-Go.ensures.fewer in
     let steps : c.turns.steps + change_left change ≤ c.args.steps.now + change_most l = c.turns.invariant.steps in
@@ -55,7 +55,7 @@ turns-preserved g c =
       layout = layout_by l row c.act-got.new.self c.action.result c.turns.invariant.layout c.act-got.ensures.row;
       on = subst (λ (ws : List ℕ). OnRun l before (aim_of c.args.change) c.in-Go.next ws) (sym after) next;
       others = subst (λ (ws : List ℕ). KeepsOthers l words ws) (sym after)
-          (others l words row.words (acted l row.words (change_asks change)) c.turns.invariant.others (others_on l before (aim_of c.args.change) change row.words on));
+          (others l before (aim_of c.args.change) change words row.words c.turns.invariant.on c.turns.invariant.others);
       steps = omega (arith, c.act-got.ensures.tick);
     }
 
@@ -66,14 +66,13 @@ returns-in-Done-clause-changed g c =
     let before = layer_in l words in
     let change = c.turns.change in
     let row = c.turns.memory in
-    let on = c.turns.invariant.on in
     let is : change_turned change (got l row.words (change_asks change)) ≡ Done c.in-Done.field-0 =
     turned_by (change_turned change) l row (change_asks change) c.action.result c.act-got.result c.turns.invariant.layout c.action.ensures c.act-got.ensures.got c.resume.ensures.turned c.in-Done.is in
-    let end = ends_on l before (aim_of c.args.change) c.requires.rooted c.requires.few change row.words c.in-Done.field-0 on is in
+    let end = ends_on l before (aim_of c.args.change) c.requires.rooted c.requires.few change row.words c.in-Done.field-0 c.turns.invariant.on is in
     let after = words_by l row c.act-got.new.self (change_asks change) c.action.result c.turns.invariant.layout c.action.ensures c.act-got.ensures.row in
     subst (λ (ws : List ℕ). IsChanged l (key_number c.args.change.key) (node_of c.args.change.word) words ws) (sym after)
     (record {
       layer = end.1;
       rest = end.2;
-      others = others l words row.words (acted l row.words (change_asks change)) c.turns.invariant.others (others_on l before (aim_of c.args.change) change row.words on);
+      others = others l before (aim_of c.args.change) change words row.words c.turns.invariant.on c.turns.invariant.others;
     })
