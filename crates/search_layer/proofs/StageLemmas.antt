@@ -57,7 +57,7 @@ module _ (count nodes : ℕ) (before : Layer) (aim : Aim) where
   sure_keeps (at.FindingRoom find spot leaf) w s m sure = sure.1.can.keeps
   sure_keeps (at.ReadingCell read spot byte leaf) w s m sure = sure.1.can.keeps
   sure_keeps (at.TakingCell take new) w s m sure = sure.2.can.keeps
-  sure_keeps (at.FillingCell fill spot free) w s m sure = (filling_mixes count nodes before sure.begun (cell_part fill) (lines_of fill.cell.kind) (words_of fill.cell) (stage_at (lines_of fill.cell.kind) fill.at) w s w sure.sure (all_cached w s)).0
+  sure_keeps (at.FillingCell fill spot free) w s m sure = (filling_mixes count nodes before sure.start.begun (cell_part fill) (lines_of fill.cell.kind) (words_of fill.cell) (stage_at (lines_of fill.cell.kind) fill.at) w s w sure.sure (all_cached w s)).0
   sure_keeps (at.ReadingDepth leaf outer inner) w s m sure = sure.1.can.keeps
   sure_keeps (at.Counting look leaf outer inner) w s m sure = sure.1.can.keeps
   sure_keeps (at.ReadingIndex cell byte leaf) w s m sure = sure.1.can.keeps
@@ -93,7 +93,7 @@ module _ (count nodes : ℕ) (before : Layer) (aim : Aim) where
   sure_mixed (at.FindingRoom find spot leaf) w s mix m sure is = before_mixed mix (can_mixed before w s mix sure.1.can is)
   sure_mixed (at.ReadingCell read spot byte leaf) w s mix m sure is = before_mixed mix (can_mixed before w s mix sure.1.can is)
   sure_mixed (at.TakingCell take new) w s mix m sure is = before_mixed mix (can_mixed before w s mix sure.2.can is)
-  sure_mixed (at.FillingCell fill spot free) w s mix m sure is = before_mixed mix (filling_mixes count nodes before sure.begun (cell_part fill) (lines_of fill.cell.kind) (words_of fill.cell) (stage_at (lines_of fill.cell.kind) fill.at) w s mix sure.sure is).1
+  sure_mixed (at.FillingCell fill spot free) w s mix m sure is = before_mixed mix (filling_mixes count nodes before sure.start.begun (cell_part fill) (lines_of fill.cell.kind) (words_of fill.cell) (stage_at (lines_of fill.cell.kind) fill.at) w s mix sure.sure is).1
   sure_mixed (at.ReadingDepth leaf outer inner) w s mix m sure is = before_mixed mix (can_mixed before w s mix sure.1.can is)
   sure_mixed (at.Counting look leaf outer inner) w s mix m sure is = before_mixed mix (can_mixed before w s mix sure.1.can is)
   sure_mixed (at.ReadingIndex cell byte leaf) w s mix m sure is = before_mixed mix (can_mixed before w s mix sure.1.can is)

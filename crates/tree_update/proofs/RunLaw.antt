@@ -77,14 +77,8 @@ change_evicts count nodes before aim (at.FindingRoom find spot leaf) w s mix m s
 change_evicts count nodes before aim (at.ReadingCell read spot byte leaf) w s mix m sure is = (sure.0, leaf_mix count nodes before (key_number aim.key) (aim.word - 1) leaf w s mix m sure.1 is, sure.2, sure.3)
 change_evicts count nodes before aim (at.TakingCell take new) w s mix m sure is = (sure.0, sure.1, leaf_mix count nodes before (key_number aim.key) (aim.word - 1) sure.1 w s mix m sure.2 is, sure.3, sure.4)
 change_evicts count nodes before aim (at.FillingCell fill spot free) w s mix m sure is = record {
-  sets = sure.sets;
-  leaf = sure.leaf;
-  begun = sure.begun;
-  durable = sure.durable;
-  one = sure.one;
-  has = sure.has;
-  sure = filling_drains count nodes before sure.begun (cell_part fill) (lines_of fill.cell.kind) (words_of fill.cell) (stage_at (lines_of fill.cell.kind) fill.at) w s mix sure.sure is;
-  wanted = sure.wanted;
+  start = sure.start;
+  sure = filling_drains count nodes before sure.start.begun (cell_part fill) (lines_of fill.cell.kind) (words_of fill.cell) (stage_at (lines_of fill.cell.kind) fill.at) w s mix sure.sure is;
   marked = sure.marked;
   unreached = sure.unreached;
 }
@@ -115,7 +109,7 @@ change_mixes count nodes before aim (at.FillingLeaf fill place) w s mix m sure i
 change_mixes count nodes before aim (at.FindingRoom find spot leaf) w s mix m sure is = inl (can_keeps count nodes before w s mix sure.1.can is)
 change_mixes count nodes before aim (at.ReadingCell read spot byte leaf) w s mix m sure is = inl (can_keeps count nodes before w s mix sure.1.can is)
 change_mixes count nodes before aim (at.TakingCell take new) w s mix m sure is = inl (can_keeps count nodes before w s mix sure.2.can is)
-change_mixes count nodes before aim (at.FillingCell fill spot free) w s mix m sure is = inl (filling_mixes count nodes before sure.begun (cell_part fill) (lines_of fill.cell.kind) (words_of fill.cell) (stage_at (lines_of fill.cell.kind) fill.at) w s mix sure.sure is).1
+change_mixes count nodes before aim (at.FillingCell fill spot free) w s mix m sure is = inl (filling_mixes count nodes before sure.start.begun (cell_part fill) (lines_of fill.cell.kind) (words_of fill.cell) (stage_at (lines_of fill.cell.kind) fill.at) w s mix sure.sure is).1
 change_mixes count nodes before aim (at.ReadingDepth leaf outer inner) w s mix m sure is = inl (can_keeps count nodes before w s mix sure.1.can is)
 change_mixes count nodes before aim (at.Counting look leaf outer inner) w s mix m sure is = inl (can_keeps count nodes before w s mix sure.1.can is)
 change_mixes count nodes before aim (at.ReadingIndex cell byte leaf) w s mix m sure is = inl (can_keeps count nodes before w s mix sure.1.can is)

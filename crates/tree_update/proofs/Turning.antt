@@ -57,7 +57,7 @@ use Rattle.tree_change.specs.declared.others.Counted.TheVariants as counts_as
 use Rattle.tree_change.specs.declared.finish.Finish.{Finish}
 use Rattle.tree_change.specs.declared.finish.Target.TheVariants as target
 use Rattle.tree_change.specs.Begins.{spot_target}
-use Rattle.tree_change.specs.Takes.{take_starts, take_asks, take_turned, take_turn, take_most, IsTaken, part_of, IsUnreached}
+use Rattle.tree_change.specs.Takes.{take_starts, take_asks, take_turned, take_turn, take_most, IsTaken, part_of, IsUnreached, IsTake}
 use Rattle.tree_change.specs.FindRooms.{find_room_starts, find_room_asks, find_room_word, find_room_goes, find_room_turn}
 use Rattle.tree_change.specs.Rooms.{places_turned, places_most, IsRoom}
 use Rattle.tree_change.specs.Reads.{read_asks, read_word, read_told, read_all, read_turn, read_most, IsReadOf}
@@ -360,11 +360,18 @@ module _ (before : Layer) (c : Change) (words : List ℕ) (is : IsChange c) (row
     some_word,
   )
 
+  -- what follows of each turn of a take of this kind, follows of this one
+  taking_by : (take : Take) (kind : ℕ) → IsTake take → take.layout ≡ lay → take.kind ≡ kind → Answers (take_turn m) (IsTaken cnt m kind) take → (Then : Turn Take Taken → LayerWords → LayerWords → Marks → Type 0)
+      → ((turn : Turn Take Taken) (w' s' : LayerWords) (m' : Marks) → TakeOn cnt kind w s m turn w' s' m' → Then turn w' s' m')
+      → Then (take_turned take (rows.got lay words (take_asks take))) (layer_words lay (acted lay words (take_asks take)) Cached) (layer_words lay (acted lay words (take_asks take)) Durable) (row_marks lay (acted lay words (take_asks take)))
+  taking_by take kind is_take same of_kind answers Then then_so =
+      then_so (take_turned take (rows.got lay words (take_asks take))) (layer_words lay (acted lay words (take_asks take)) Cached) (layer_words lay (acted lay words (take_asks take)) Durable) (row_marks lay (acted lay words (take_asks take)))
+      (subst (λ j. TakeOn cnt j w s m (take_turned take (rows.got lay words (take_asks take))) (layer_words lay (acted lay words (take_asks take)) Cached) (layer_words lay (acted lay words (take_asks take)) Durable) (row_marks lay (acted lay words (take_asks take)))) of_kind
+      (take_on take lay words is_take same row.whole (subst (λ j. Answers (take_turn m) (IsTaken cnt m j) take) (sym of_kind) answers)))
+
   taking_leaf : (take : Take) (place : Site) → IsChangeAt lay c.key c.word (at.TakingLeaf take place) → SureAt cnt lay.nodes before (aim_of c) (at.TakingLeaf take place) w s m → After (takes_leaf c take place (rows.got lay words (take_asks take))) (take_asks take)
   taking_leaf take place here sure =
-      go (take_turned take (rows.got lay words (take_asks take))) (layer_words lay (acted lay words (take_asks take)) Cached) (layer_words lay (acted lay words (take_asks take)) Durable) (row_marks lay (acted lay words (take_asks take)))
-      (subst (λ kind. TakeOn cnt kind w s m (take_turned take (rows.got lay words (take_asks take))) (layer_words lay (acted lay words (take_asks take)) Cached) (layer_words lay (acted lay words (take_asks take)) Durable) (row_marks lay (acted lay words (take_asks take)))) here.2
-      (take_on take lay words here.0 here.1 row.whole (subst (λ kind. Answers (take_turn m) (IsTaken cnt m kind) take) (sym here.2) sure.2)))
+      taking_by take 1 here.0 here.1 here.2 sure.2 (λ turn w' s' m'. SureAfter cnt lay.nodes before (aim_of c) (leaf_goes c place turn) w' s' m') go
     where
       go : (turn : Turn Take Taken) (w' s' : LayerWords) (m' : Marks) → TakeOn cnt 1 w s m turn w' s' m' → SureAfter cnt lay.nodes before (aim_of c) (leaf_goes c place turn) w' s' m'
       go (Go next) w' s' m' on = moved (λ v r n. Rests cnt lay.nodes before v r n × IsSited v k place × Answers (take_turn n) (IsTaken cnt n 1) next) w s w' s' m m' on.0 on.1 on.2 (sure.0, sure.1, moved (λ v r n. Answers (take_turn n) (IsTaken cnt n 1) next) w s w s m m refl refl refl on.3)
@@ -385,9 +392,7 @@ module _ (before : Layer) (c : Change) (words : List ℕ) (is : IsChange c) (row
 
   taking_cell : (take : Take) (new : NewCell) → IsChangeAt lay c.key c.word (at.TakingCell take new) → SureAt cnt lay.nodes before (aim_of c) (at.TakingCell take new) w s m → After (takes_cell c take new (rows.got lay words (take_asks take))) (take_asks take)
   taking_cell take new here sure =
-      go (take_turned take (rows.got lay words (take_asks take))) (layer_words lay (acted lay words (take_asks take)) Cached) (layer_words lay (acted lay words (take_asks take)) Durable) (row_marks lay (acted lay words (take_asks take)))
-      (subst (λ kind. TakeOn cnt kind w s m (take_turned take (rows.got lay words (take_asks take))) (layer_words lay (acted lay words (take_asks take)) Cached) (layer_words lay (acted lay words (take_asks take)) Durable) (row_marks lay (acted lay words (take_asks take)))) here.2
-      (take_on take lay words here.0 here.1 row.whole (subst (λ kind. Answers (take_turn m) (IsTaken cnt m kind) take) (sym here.2) sure.4)))
+      taking_by take new.cell.kind here.0 here.1 here.2 sure.4 (λ turn w' s' m'. SureAfter cnt lay.nodes before (aim_of c) (cell_goes c new turn) w' s' m') go
     where
       kind : ℕ
       kind = new.cell.kind
@@ -407,14 +412,8 @@ module _ (before : Layer) (c : Change) (words : List ℕ) (is : IsChange c) (row
           let is_cell : part_of new.cell.kind number ≡ cell_part fill = ap (λ a. cond a (LeafPart number) (CellPart (new.cell.kind * 2 ^ 16 + number))) (ne_eqb new.cell.kind 1 (λ e. omega arith)) in
           let unreached : IsUnreached w (cell_part fill) = subst (IsUnreached w) is_cell (taken_is_unreached cnt w has.told m new.cell.kind number has.tells leaf_kept (few before c is rooted) on.3) in
           record {
-            sets = sure.0;
-            leaf = sure.1;
-            begun = w;
-            durable = s;
-            one = m;
-            has = has;
+            start = record { sets = sure.0; leaf = sure.1; begun = w; durable = s; one = m; has = has; wanted = sure.3 };
             sure = moved (λ v r n. SureFilling cnt lay.nodes before w (cell_part fill) lines (words_of new.cell) (Fills 0 0 None) v r) w s w' s' m m on.0 on.1 refl (fill_begins cnt lay.nodes before (cell_part fill) lines (words_of new.cell) w s has.can unreached);
-            wanted = sure.3;
             marked = subst (λ p. IsMarkSet m m' (part_reference p) 1) is_cell on.2;
             unreached = unreached;
           }
@@ -461,14 +460,14 @@ module _ (before : Layer) (c : Change) (words : List ℕ) (is : IsChange c) (row
 
   filling_cell : (fill : FillCell) (spot : Spot) (free : ℕ) → IsChangeAt lay c.key c.word (at.FillingCell fill spot free) → SureAt cnt lay.nodes before (aim_of c) (at.FillingCell fill spot free) w s m → After (fills_cell c fill spot free (rows.got lay words (fill_cell_asks fill))) (fill_cell_asks fill)
   filling_cell fill spot free here sure =
-      let on = cell_on cnt lay.nodes before sure.begun fill lay words here.0 here.1 row sure.sure in
+      let on = cell_on cnt lay.nodes before sure.start.begun fill lay words here.0 here.1 row sure.sure in
       let after = acted lay words (fill_cell_asks fill) in
       go (filling_next (lines_of fill.cell.kind) fill.at (rows.got lay words (fill_cell_asks fill))) (layer_words lay after Cached) (layer_words lay after Durable) (row_marks lay after) on.0 on.1
     where
       x : ℕ
       x = fill.cell.kind * 2 ^ 16 + fill.number
 
-      end : (w' s' : LayerWords) (m' : Marks) → SureFilled cnt lay.nodes before sure.begun (cell_part fill) (lines_of fill.cell.kind) (words_of fill.cell) w' s' → m' ≡ m → (wanted : IsWanted sure.begun c.key sure.leaf (record { cell = fill.cell; spot = spot; free = free })) → SureAfter cnt lay.nodes before (aim_of c) (change_finishes c (spot_target spot) (spot.high + filled_reference fill) free 0) w' s' m'
+      end : (w' s' : LayerWords) (m' : Marks) → SureFilled cnt lay.nodes before sure.start.begun (cell_part fill) (lines_of fill.cell.kind) (words_of fill.cell) w' s' → m' ≡ m → (wanted : IsWanted sure.start.begun c.key sure.start.leaf (record { cell = fill.cell; spot = spot; free = free })) → SureAfter cnt lay.nodes before (aim_of c) (change_finishes c (spot_target spot) (spot.high + filled_reference fill) free 0) w' s' m'
       end w' s' m' filled same wanted =
           let within : fill.number < cnt = subst (λ y. fill.number < leaf_count y) here.1 here.0.number in
           let small = few before c is rooted in
@@ -477,16 +476,16 @@ module _ (before : Layer) (c : Change) (words : List ℕ) (is : IsChange c) (row
           let y = fill.cell.kind * 2 ^ 16 + fill.number in
           let kind_is : kind_of y ≡ fill.cell.kind = omega arith in
           let number_is : number_of y ≡ fill.number = omega arith in
-          let lawful = sure.has.can.keeps.lawful in
-          let has : HasCell lay cnt lay.nodes before (aim_of c) small y sure.leaf w' s' m' = record {
+          let lawful = sure.start.has.can.keeps.lawful in
+          let has : HasCell lay cnt lay.nodes before (aim_of c) small y sure.start.leaf w' s' m' = record {
             can = filled.can;
-            told = sure.has.told;
-            one = sure.one;
-            tells = tells_stay sure.begun w' (cell_part fill) sure.unreached filled.outside cnt lay.nodes sure.has.told lawful sure.has.tells;
-            first = sure.has.marked;
-            second = subst (λ n. IsMarkSet sure.one n (Cell y) 1) (sym same) sure.marked;
+            told = sure.start.has.told;
+            one = sure.start.one;
+            tells = tells_stay sure.start.begun w' (cell_part fill) sure.unreached filled.outside cnt lay.nodes sure.start.has.told lawful sure.start.has.tells;
+            first = sure.start.has.marked;
+            second = subst (λ n. IsMarkSet sure.start.one n (Cell y) 1) (sym same) sure.marked;
             unreached = filled.unreached;
-            filled = leaf_stays cnt lay.nodes sure.begun w' y k (c.word - 1) sure.leaf filled.outside sure.has.filled;
+            filled = leaf_stays cnt lay.nodes sure.start.begun w' y k (c.word - 1) sure.start.leaf filled.outside sure.start.has.filled;
             least = subst (λ n. 2 ≤ n) (sym kind_is) low;
             most = subst (λ n. n ≤ 5) (sym kind_is) high;
             within = subst (λ n. n < cnt) (sym number_is) within;
@@ -494,34 +493,28 @@ module _ (before : Layer) (c : Change) (words : List ℕ) (is : IsChange c) (row
           let stands : StandsIn w' y fill.cell = (kind_is, λ o lt. filled.stored o (subst (λ n. o < n) (sym (whole_lines fill.cell.kind low high)) lt)) in
           by_wanted wanted has stands
         where
-          by_wanted : IsWanted sure.begun c.key sure.leaf (record { cell = fill.cell; spot = spot; free = free }) → HasCell lay cnt lay.nodes before (aim_of c) (few before c is rooted) (fill.cell.kind * 2 ^ 16 + fill.number) sure.leaf w' s' m' → StandsIn w' (fill.cell.kind * 2 ^ 16 + fill.number) fill.cell
+          by_wanted : IsWanted sure.start.begun c.key sure.start.leaf (record { cell = fill.cell; spot = spot; free = free }) → HasCell lay cnt lay.nodes before (aim_of c) (few before c is rooted) (fill.cell.kind * 2 ^ 16 + fill.number) sure.start.leaf w' s' m' → StandsIn w' (fill.cell.kind * 2 ^ 16 + fill.number) fill.cell
               → SureAfter cnt lay.nodes before (aim_of c) (change_finishes c (spot_target spot) (spot.high + filled_reference fill) free 0) w' s' m'
           by_wanted (as_pair {reference} {depth} {byte} found is_reference deep small cell_is none) has stands =
-              let found' = looked_stays sure.begun w' (cell_part fill) sure.unreached filled.outside k (looked.Parts spot reference depth byte) found in
+              let found' = looked_stays sure.start.begun w' (cell_part fill) sure.unreached filled.outside k (looked.Parts spot reference depth byte) found in
               subst (λ n. SureAfter cnt lay.nodes before (aim_of c) (change_finishes c (spot_target spot) (spot.high + filled_reference fill) n 0) w' s' m') (sym none)
-              (pair_ends lay cnt lay.nodes before (aim_of c) (few before c is rooted) w' s' m' spot reference depth byte sure.leaf (fill.cell.kind * 2 ^ 16 + fill.number) fill.cell has is.key found' sure.sets is_reference deep small cell_is stands)
+              (pair_ends lay cnt lay.nodes before (aim_of c) (few before c is rooted) w' s' m' spot reference depth byte sure.start.leaf (fill.cell.kind * 2 ^ 16 + fill.number) fill.cell has is.key found' sure.start.sets is_reference deep small cell_is stands)
           by_wanted (as_larger {x = old} {depth} {byte} {read} found byte_is reads is_read four small cell_is free_is) has stands =
-              let found' = looked_stays sure.begun w' (cell_part fill) sure.unreached filled.outside k (looked.Nothing spot old depth) found in
-              let reached = comes_place (tree_of sure.begun) k (Entry old (byte_at depth k)) found.2 in
-              let kept = cell_stays sure.begun w' (cell_part fill) sure.unreached filled.outside old reached in
+              let found' = looked_stays sure.start.begun w' (cell_part fill) sure.unreached filled.outside k (looked.Nothing spot old depth) found in
+              let reached = comes_place (tree_of sure.start.begun) k (Entry old (byte_at depth k)) found.2 in
+              let kept = cell_stays sure.start.begun w' (cell_part fill) sure.unreached filled.outside old reached in
               let reads' : StandsIn w' old read = (reads.stands.0, λ o lt. ap (λ f. f o) kept ∙ reads.stands.1 o lt) in
               subst (λ n. SureAfter cnt lay.nodes before (aim_of c) (change_finishes c (spot_target spot) (spot.high + filled_reference fill) n 0) w' s' m') (sym free_is)
-              (grow_ends lay cnt lay.nodes before (aim_of c) (few before c is rooted) w' s' m' spot old depth byte sure.leaf (fill.cell.kind * 2 ^ 16 + fill.number) read fill.cell has found' byte_is sure.sets reads' is_read four small cell_is stands)
+              (grow_ends lay cnt lay.nodes before (aim_of c) (few before c is rooted) w' s' m' spot old depth byte sure.start.leaf (fill.cell.kind * 2 ^ 16 + fill.number) read fill.cell has found' byte_is sure.start.sets reads' is_read four small cell_is stands)
 
-      go : (next : Option Filling) (w' s' : LayerWords) (m' : Marks) → SureFilling cnt lay.nodes before sure.begun (cell_part fill) (lines_of fill.cell.kind) (words_of fill.cell) (cell_after fill (fills.fill_cell_goes fill next)) w' s' → m' ≡ m → SureAfter cnt lay.nodes before (aim_of c) (fill_cell_goes c spot free (filled_reference fill) (fills.fill_cell_goes fill next)) w' s' m'
+      go : (next : Option Filling) (w' s' : LayerWords) (m' : Marks) → SureFilling cnt lay.nodes before sure.start.begun (cell_part fill) (lines_of fill.cell.kind) (words_of fill.cell) (cell_after fill (fills.fill_cell_goes fill next)) w' s' → m' ≡ m → SureAfter cnt lay.nodes before (aim_of c) (fill_cell_goes c spot free (filled_reference fill) (fills.fill_cell_goes fill next)) w' s' m'
       go (Some next) w' s' m' filling same = record {
-        sets = sure.sets;
-        leaf = sure.leaf;
-        begun = sure.begun;
-        durable = sure.durable;
-        one = sure.one;
-        has = sure.has;
+        start = sure.start;
         sure = filling;
-        wanted = sure.wanted;
-        marked = subst (λ n. IsMarkSet sure.one n (part_reference (cell_part fill)) 1) (sym same) sure.marked;
+        marked = subst (λ n. IsMarkSet sure.start.one n (part_reference (cell_part fill)) 1) (sym same) sure.marked;
         unreached = sure.unreached;
       }
-      go None w' s' m' filled same = end w' s' m' filled same sure.wanted
+      go None w' s' m' filled same = end w' s' m' filled same sure.start.wanted
 
   -- The end.
   finishing : (finish : Finish) → IsChangeAt lay c.key c.word (at.Finishing finish) → SureAt cnt lay.nodes before (aim_of c) (at.Finishing finish) w s m → After (finish_goes c (finish_turned finish (rows.got lay words (finish_asks finish)))) (finish_asks finish)

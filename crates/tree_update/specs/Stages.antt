@@ -37,6 +37,7 @@ use Rattle.tree_change.specs.Fillings.{SureFilling, stage_at, leaf_words, cell_p
 use Rattle.tree_update.specs.declared.change.Change.{Change}
 use Rattle.tree_update.specs.declared.change.ChangeAt.{ChangeAt}
 use Rattle.tree_update.specs.declared.change.ChangeAt.TheVariants as at
+use Rattle.tree_update.specs.declared.change.NewCell.{NewCell}
 use Rattle.tree_update.specs.declared.change.Site.{Site}
 use Rattle.tree_update.specs.declared.change.Site.TheVariants as site
 use Rattle.tree_update.specs.declared.change.Ended.{Ended}
@@ -64,20 +65,24 @@ pub record FillsLeaf (count nodes : ℕ) (before : Layer) (key : ℕ) (fill : Fi
   pub marked : IsMarkSet told m (Leaf fill.number) 1
   pub unreached : IsUnreached begun (LeafPart fill.number)
 
--- A cell is, behind the leaf.
-pub record FillsCell (count nodes : ℕ) (before : Layer) (aim : Aim) (fill : FillCell) (spot : Spot) (free : ℕ)
-    (w s : LayerWords) (m : Marks) : Type 0 where
+-- A cell is, behind the leaf. As it began the words were these in both twins, and the leaf was there, for which this
+-- cell is wanted.
+pub record CellStart (count nodes : ℕ) (before : Layer) (aim : Aim) (new : NewCell) : Type 0 where
   pub sets : aim.word ≢ 0
   pub leaf : ℕ
   pub begun : LayerWords
   pub durable : LayerWords
   pub one : Marks
   pub has : HasLeaf count nodes before (key_number aim.key) (aim.word - 1) leaf begun durable one
-  pub sure : SureFilling count nodes before begun (cell_part fill) (lines_of fill.cell.kind) (words_of fill.cell)
-      (stage_at (lines_of fill.cell.kind) fill.at) w s
-  pub wanted : IsWanted begun aim.key leaf (record { cell = fill.cell; spot = spot; free = free })
-  pub marked : IsMarkSet one m (part_reference (cell_part fill)) 1
-  pub unreached : IsUnreached begun (cell_part fill)
+  pub wanted : IsWanted begun aim.key leaf new
+
+pub record FillsCell (count nodes : ℕ) (before : Layer) (aim : Aim) (fill : FillCell) (spot : Spot) (free : ℕ)
+    (w s : LayerWords) (m : Marks) : Type 0 where
+  pub start : CellStart count nodes before aim (record { cell = fill.cell; spot = spot; free = free })
+  pub sure : SureFilling count nodes before start.begun (cell_part fill) (lines_of fill.cell.kind)
+      (words_of fill.cell) (stage_at (lines_of fill.cell.kind) fill.at) w s
+  pub marked : IsMarkSet start.one m (part_reference (cell_part fill)) 1
+  pub unreached : IsUnreached start.begun (cell_part fill)
 
 -- The marks of what is free go, one after another; then they tell what is reached.
 abbrev pub MarksEnd : ℕ → ℕ → ℕ → LayerWords → Marks → Type 0
