@@ -1,22 +1,15 @@
 -- What the parts of a version word say of the whole.
-use Rattle.std.proofs.Common.{◌≡◌, ℕ, ◌+◌, ◌<◌, ◌≤◌, ◌%◌, inl, inr, arith}
+use Rattle.std.proofs.Common.{◌≡◌, ℕ, ◌+◌, ◌<◌, ◌≤◌, inl, inr, arith}
 use Rattle.std.proofs.lemmas.Bool.{cases_lt}
 use Rattle.std.proofs.lemmas.Grind.{common_steps}
 use Rattle.version_lock.specs.declared.TheConstants.{LAST_COUNT}
-use Rattle.version_lock.specs.Versions.{generation_of, count_of, kept_count, version_word, locked_word, IsLocked, IsUnlocked, IsFree}
-
--- a word is what its parts and its lock say
-pub word_from_parts : (word : ℕ) → word ≡ version_word (generation_of word) (count_of word) + word % 2
-word_from_parts word = omega arith
+use Rattle.version_lock.specs.Versions.{generation_of, count_of, kept_count, version_word, locked_word, IsLocked, IsFree}
 
 pub generation_of-version_word : (generation count : ℕ) → count ≤ LAST_COUNT → generation_of (version_word generation count) ≡ generation
 generation_of-version_word generation count small = omega arith
 
 pub count_of-version_word : (generation count : ℕ) → count ≤ LAST_COUNT → count_of (version_word generation count) ≡ count
 count_of-version_word generation count small = omega arith
-
-pub IsUnlocked-version_word : (generation count : ℕ) → IsUnlocked (version_word generation count)
-IsUnlocked-version_word generation count = omega arith
 
 pub generation_of-locked_word : (generation count : ℕ) → count ≤ LAST_COUNT → generation_of (locked_word generation count) ≡ generation
 generation_of-locked_word generation count small = omega arith
