@@ -15,29 +15,31 @@ use Rattle.layer_map.specs.Places.{is_layer_word, is_of_layer}
 use Rattle.search_layer.specs.Rows.{LayerWords, AreEven, IsLayerMix, root_words, LayerAlike, LayerWordsStay, RowsAlike, ImagesAlike, EvenAreSame, MixesAreEven, EvictionMixes}
 use Rattle.search_layer.specs.Kept.{KeptLeadsBelow}
 
+-- what holds of each word beside the layer; and of each location
+pub off_word : (P : Word → Type 0) → ((o : ℕ) → P (Header o)) → ((n o : ℕ) → P (Node n o)) → ((c j o : ℕ) → P (Line c j o)) → (w : Word) → is_layer_word w ≡ false → P w
+off_word P header node line (Header o) e = header o
+off_word P header node line (Root o) e = absurd (false≢true (sym e))
+off_word P header node line (Node n o) e = node n o
+off_word P header node line (Line c j o) e = line c j o
+off_word P header node line (Leaf k o) e = absurd (false≢true (sym e))
+off_word P header node line (Cell kind k o) e = absurd (false≢true (sym e))
+
+pub off_layer : (P : Location → Type 0) → P Clock → P Updater → ((n o : ℕ) → P (Volatile n o)) → ((w : Word) → is_layer_word w ≡ false → P (Cached w) × P (Durable w)) → (p : Location) → is_of_layer p ≡ false → P p
+off_layer P clock updater volatile twins Clock e = clock
+off_layer P clock updater volatile twins Updater e = updater
+off_layer P clock updater volatile twins (Volatile n o) e = volatile n o
+off_layer P clock updater volatile twins (Mark kind k) e = absurd (false≢true (sym e))
+off_layer P clock updater volatile twins (Cached w) e = (twins w e).0
+off_layer P clock updater volatile twins (Durable w) e = (twins w e).1
+
 word_outside : (w : Word) → is_layer_word w ≡ false → IsOutsideWord w
-word_outside (Header o) e = tt
-word_outside (Root o) e = absurd (false≢true (sym e))
-word_outside (Node n o) e = tt
-word_outside (Line c j o) e = tt
-word_outside (Leaf k o) e = absurd (false≢true (sym e))
-word_outside (Cell kind k o) e = absurd (false≢true (sym e))
+word_outside = off_word IsOutsideWord (λ o. tt) (λ n o. tt) (λ c j o. tt)
 
 outside_layer : (p : Location) → is_of_layer p ≡ false → IsOutsideLayer p
-outside_layer Clock e = tt
-outside_layer Updater e = tt
-outside_layer (Volatile n o) e = tt
-outside_layer (Mark kind k) e = tt
-outside_layer (Cached w) e = word_outside w e
-outside_layer (Durable w) e = word_outside w e
+outside_layer = off_layer IsOutsideLayer tt tt (λ n o. tt) (λ w e. (word_outside w e, word_outside w e))
 
 no_mark : (p : Location) → is_of_layer p ≡ false → IsNoMark p
-no_mark Clock e = tt
-no_mark Updater e = tt
-no_mark (Volatile n o) e = tt
-no_mark (Mark kind k) e = absurd (false≢true (sym e))
-no_mark (Cached w) e = tt
-no_mark (Durable w) e = tt
+no_mark = off_layer IsNoMark tt tt (λ n o. tt) (λ w e. (tt, tt))
 
 -- a number that a row has under a guard
 guarded_by : (b : Bool) (x y : ℕ) → (b ≡ true → y ≡ x) → cond b y 0 ≡ cond b x 0

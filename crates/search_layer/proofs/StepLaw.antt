@@ -1,10 +1,9 @@
 -- A turn of a change as a step, and what it does to a row.
 use Rattle.std.proofs.Common.{◌≡◌, ◌≢◌, ℕ, false, List, refl, sym, subst, ap, ◌∙◌}
-use Rattle.std.proofs.lemmas.Bool.{false≢true}
 use Rattle.pm_words.specs.declared.layout.Layout.{Layout}
 use Rattle.pm_words.specs.declared.machine.Turn.{Turn}
 use Rattle.pm_words.specs.declared.machine.Turn.TheVariants.{Go, Done}
-use Rattle.pm_words.specs.Locations.{Word, Header, Root, Node, Line, Leaf, Cell, Location, Clock, Updater, Volatile, Mark, Cached, Durable}
+use Rattle.pm_words.specs.Locations.{Location, Cached, Durable}
 use Rattle.pm_words.specs.Rows.{IsRow, acted}
 use Rattle.pm_words.specs.Rows as rows
 use Rattle.layer_map.specs.Layers.{Layer, HasFew}
@@ -24,11 +23,12 @@ use Rattle.tree_update.proofs.ChangeStays.{changes_stay}
 use Rattle.tree_update.proofs.Turning.{change_acts}
 use Rattle.tree_update.proofs.Acting.{change_can_act}
 use Rattle.tree_update.proofs.OthersStay.{change_keeps_others}
-use Rattle.layer_map.specs.Places.{is_layer_word, is_of_layer}
+use Rattle.layer_map.specs.Places.{is_of_layer}
 use Rattle.search_layer.specs.ChangeStages.{Making, change_with, stage_after}
 use Rattle.search_layer.specs.Laws.{ChangesAreSteps, SoundAfter, ChangesStaySound, SetAfter, SetsStaySound, UnsetAfter, UnsetsStaySound, SureIn, ChangeKeeps, ChangeStepKeeps, ChangeCanAct}
 use Rattle.search_layer.proofs.StageLemmas.{change_is_backed}
 use Rattle.search_layer.proofs.AfterLaw.{step_after}
+use Rattle.search_layer.proofs.RowLemmas.{off_word, off_layer}
 
 pub changes_are_steps : ChangesAreSteps
 changes_are_steps change number is fits = record { part = change.at; here = refl; sound = is; fits = fits; asks = refl; next = refl }
@@ -58,21 +58,8 @@ pub step_can_act : ChangeCanAct
 step_can_act l aim words s a x t step = subst (rows.CanAct l words) (sym step.asks) (change_can_act (change_with l aim step.part) words step.sound)
 
 -- what isn't of the layer is left by a change
-other_word : (w : Word) → is_layer_word w ≡ false → (IsOfLayer w → ⊥) × (IsOfLine w → ⊥)
-other_word (Header o) e = (λ of. of, λ of. of)
-other_word (Root o) e = absurd (false≢true (sym e))
-other_word (Node n o) e = (λ of. of, λ of. of)
-other_word (Line c j o) e = (λ of. of, λ of. of)
-other_word (Leaf k o) e = absurd (false≢true (sym e))
-other_word (Cell kind k o) e = absurd (false≢true (sym e))
-
 other : (p : Location) → is_of_layer p ≡ false → IsOther p
-other Clock e = tt
-other Updater e = tt
-other (Volatile n o) e = tt
-other (Mark kind k) e = absurd (false≢true (sym e))
-other (Cached w) e = (other_word w e).0
-other (Durable w) e = (other_word w e).1
+other = off_layer IsOther tt tt (λ n o. tt) (off_word (λ w. (IsOfLayer w → ⊥) × (IsOfLine w → ⊥)) (λ o. (λ of. of, λ of. of)) (λ n o. (λ of. of, λ of. of)) (λ c j o. (λ of. of, λ of. of)))
 
 -- what the next stage knows
 sure_next : (l : Layout) (aim : Aim) (before : Layer) (words : List ℕ) → (aim.word ≢ 0 → HasFew l.nodes before) → (turn : Turn Change Ended) → SureInAfter l before aim turn words → SureIn l before aim (stage_after turn) words

@@ -1,5 +1,5 @@
 -- What the party that changes the tree has of it between its steps, and its steps.
-use Rattle.std.specs.Prelude.{◌≡◌, ℕ, ◌^◌, ◌<◌, ◌⊎◌, if◌then◌else◌, Bool, true, false}
+use Rattle.std.specs.Prelude.{◌≡◌, ℕ, ◌^◌, ◌<◌, ◌==◌, ◌⊎◌, nat_le, if◌then◌else◌, Bool, true, false}
 use Rattle.pm_words.specs.declared.layout.Layout.{Layout}
 use Rattle.pm_words.specs.declared.action.Action.{Action}
 use Rattle.pm_words.specs.declared.machine.Turn.{Turn}
@@ -51,20 +51,20 @@ abbrev pub SureChanging : ℕ → ℕ → Aim → Layer → Changing → LayerWo
 SureChanging count most aim before (Making part) w s m = SureAt count most before aim part w s m
 SureChanging count most aim before Changed w s m = Rests count most (made_of aim before) w s m
 
+-- How far the end of a change has come.
+abbrev pub finish_step : FinishAt → ℕ
+finish_step finish_at.Quiet = 0
+finish_step (finish_at.QuietFence fence) = 1
+finish_step finish_at.Switch = 2
+finish_step (finish_at.SwitchFence fence) = 3
+finish_step (finish_at.Unmark reference) = 4
+
 -- Whether the store is made by which the layer changes; and whether its word may not be durable yet.
 abbrev pub has_stored : FinishAt → Bool
-has_stored finish_at.Quiet = false
-has_stored (finish_at.QuietFence fence) = false
-has_stored finish_at.Switch = false
-has_stored (finish_at.SwitchFence fence) = true
-has_stored (finish_at.Unmark reference) = true
+has_stored finish = nat_le 3 (finish_step finish)
 
 abbrev pub drains_store : FinishAt → Bool
-drains_store finish_at.Quiet = false
-drains_store (finish_at.QuietFence fence) = false
-drains_store finish_at.Switch = false
-drains_store (finish_at.SwitchFence fence) = true
-drains_store (finish_at.Unmark reference) = false
+drains_store finish = finish_step finish == 3
 
 abbrev pub by_finish : (FinishAt → Bool) → ChangeAt → Bool
 by_finish test (at.Looking look) = false
@@ -102,11 +102,7 @@ MixAt aim before stage layer =
 
 -- What one step makes of the cached layer: the switch store makes the change, and no other step changes it.
 abbrev pub stores_switch : FinishAt → Bool
-stores_switch finish_at.Quiet = false
-stores_switch (finish_at.QuietFence fence) = false
-stores_switch finish_at.Switch = true
-stores_switch (finish_at.SwitchFence fence) = false
-stores_switch (finish_at.Unmark reference) = false
+stores_switch finish = finish_step finish == 2
 
 abbrev pub can_switch : Changing → Bool
 can_switch (Making part) = by_finish stores_switch part

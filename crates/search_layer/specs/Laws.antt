@@ -42,17 +42,20 @@ abbrev pub ChangesStaySound : Type 0
 ChangesStaySound = (change : Change) (number : ℕ) → IsChange change → number < 2 ^ 64 →
     SoundAfter change.layout (aim_of change) (change_turned change number)
 
+-- and so do sets and unsets, each of which is a change
+abbrev pub WrappedAfter : {M : Type 0} → (M → Type 0) → (M → Change) → Layout → Aim → Turn M Ended → Type 0
+WrappedAfter Is change l aim (Go next) = Is next × (aim_of (change next) ≡ aim) × ((change next).layout ≡ l)
+WrappedAfter Is change l aim (Done ended) = Unit {0}
+
 abbrev pub SetAfter : Layout → Aim → Turn Set Ended → Type 0
-SetAfter l aim (Go set) = IsSet set × (aim_of set.change ≡ aim) × (set.change.layout ≡ l)
-SetAfter l aim (Done ended) = Unit {0}
+SetAfter = WrappedAfter IsSet (λ set. set.change)
+
+abbrev pub UnsetAfter : Layout → Aim → Turn Unset Ended → Type 0
+UnsetAfter = WrappedAfter IsUnset (λ unset. unset.change)
 
 abbrev pub SetsStaySound : Type 0
 SetsStaySound = (set : Set) (number : ℕ) → IsSet set → number < 2 ^ 64 →
     SetAfter set.change.layout (aim_of set.change) (set_turned set number)
-
-abbrev pub UnsetAfter : Layout → Aim → Turn Unset Ended → Type 0
-UnsetAfter l aim (Go unset) = IsUnset unset × (aim_of unset.change ≡ aim) × (unset.change.layout ≡ l)
-UnsetAfter l aim (Done ended) = Unit {0}
 
 abbrev pub UnsetsStaySound : Type 0
 UnsetsStaySound = (unset : Unset) (number : ℕ) → IsUnset unset → number < 2 ^ 64 →
