@@ -17,17 +17,21 @@ test_no word byte apart = elim (cases_eq word 0) [
   | inr some_word ↦ ap₂ (λ a b. not a && b) (ne_eqb word 0 some_word) (ne_eqb (entry_byte word) byte (apart some_word))
 ]
 
--- the entry of a byte, where one alone has it
-pub seek_here : (c : CellWords) (first count byte i : ℕ) → i < count → fits_entry (c (first + i)) byte → ((j : ℕ) → j < count → fits_entry (c (first + j)) byte → j ≡ i) → seek c first count byte ≡ entry_reference (c (first + i))
-seek_here c first zero byte i lt fits only = absurd (omega arith)
-seek_here c first (suc count) byte i lt fits only = elim (cases_eq i count) [
+-- the last entry with the byte is found
+pub seek_last : (c : CellWords) (first count byte i : ℕ) → i < count → fits_entry (c (first + i)) byte → ((j : ℕ) → j < count → i < j → fits_entry (c (first + j)) byte → ⊥) → seek c first count byte ≡ entry_reference (c (first + i))
+seek_last c first zero byte i lt fits none = absurd (omega arith)
+seek_last c first (suc count) byte i lt fits none = elim (cases_eq i count) [
   | inl same ↦
       ap (λ b. cond b (entry_reference (c (first + count))) (seek c first count byte)) (subst (λ k. (not (c (first + k) == 0) && entry_byte (c (first + k)) == byte) ≡ true) same (test_yes (c (first + i)) byte fits.0 fits.1))
       ∙ ap (λ k. entry_reference (c (first + k))) (sym same)
   | inr apart ↦
-      ap (λ b. cond b (entry_reference (c (first + count))) (seek c first count byte)) (test_no (c (first + count)) byte (λ some_word same. apart (sym (only count (omega arith) (some_word, same)))))
-      ∙ seek_here c first count byte i (omega (arith, apart)) fits (λ j less. only j (omega arith))
+      ap (λ b. cond b (entry_reference (c (first + count))) (seek c first count byte)) (test_no (c (first + count)) byte (λ some_word same. none count (omega arith) (omega (arith, apart)) (some_word, same)))
+      ∙ seek_last c first count byte i (omega (arith, apart)) fits (λ j less. none j (omega arith))
 ]
+
+-- and where one alone has it, that one
+pub seek_here : (c : CellWords) (first count byte i : ℕ) → i < count → fits_entry (c (first + i)) byte → ((j : ℕ) → j < count → fits_entry (c (first + j)) byte → j ≡ i) → seek c first count byte ≡ entry_reference (c (first + i))
+seek_here c first count byte i lt fits only = seek_last c first count byte i lt fits (λ j less behind has. let same = only j less has in absurd (omega (arith, behind, same)))
 
 pub seek_none : (c : CellWords) (first count byte : ℕ) → ((i : ℕ) → i < count → fits_entry (c (first + i)) byte → ⊥) → seek c first count byte ≡ 0
 seek_none c first zero byte none = refl

@@ -8,6 +8,7 @@ use Rattle.pm_words.specs.declared.action.Action.TheVariants as action
 use Rattle.pm_words.specs.declared.fence.Fence.{Fence}
 use Rattle.pm_words.specs.declared.fence.FenceAt.{FenceAt}
 use Rattle.pm_words.specs.declared.fence.FenceAt.TheVariants as fence_at
+use Rattle.pm_words.specs.declared.machine.Turn.{Turn}
 use Rattle.pm_words.specs.Fences.{IsFence, fence_start, fence_asks, fence_next, FenceTurn}
 use Rattle.pm_words.specs.Fences as turn
 use Rattle.pm_words.specs.Locations.{Word, Header, Leaf, Cell, Cached, Durable, HasWord, kind_words, address_of}
@@ -19,9 +20,8 @@ use Rattle.radix_nodes.specs.declared.filling.Filling.{Filling}
 use Rattle.radix_nodes.specs.declared.filling.Filling.TheVariants.{Store, Drain}
 use Rattle.radix_nodes.specs.declared.fill_leaf.FillLeaf.{FillLeaf}
 use Rattle.radix_nodes.specs.declared.fill_cell.FillCell.{FillCell}
-use Rattle.radix_nodes.specs.Cells.{words_of}
-use Rattle.radix_nodes.specs.Fills.{filling_offset, filling_asks, filling_next, next_line, IsFilling, filling_left, leaf_value, lines_of, IsFillLeaf, fill_leaf_asks, fill_leaf_goes, IsFillCell, fill_cell_asks, fill_cell_goes}
-use Rattle.radix_nodes.specs.FillLaws.{Part, leaf_part, cell_part, Stands, IsDurable, stored_to, durable_to, IsFilledTo, IsFilled, FillsBegin, FillsStay, LeafAfter, LeavesAreFilled, CellAfter, CellsAreFilled}
+use Rattle.radix_nodes.specs.Fills.{filling_offset, filling_asks, filling_next, next_line, IsFilling, filling_left, leaf_value, lines_of, IsFillLeaf, fill_leaf_goes, IsFillCell, fill_cell_goes}
+use Rattle.radix_nodes.specs.FillLaws.{Part, leaf_part, cell_part, Stands, IsDurable, stored_to, durable_to, IsFilledTo, IsFilled, FillsBegin, FillsStay, FillAfter, FillStep, LeavesAreFilled, CellsAreFilled}
 use Rattle.radix_nodes.proofs.FillEnds.{Fewer, filling_fewer}
 
 pub fills_begin : FillsBegin
@@ -160,6 +160,10 @@ module _ (l : Layout) (part : Part) (words : List ℕ) (row : IsRow l words) (is
                 (line_ends line (slice_set words (address_of l (Durable (part.word o))) value) lt (drain_stands o value within to.stands) (λ k less. drain_durable o value within to.hand to.durable k (omega arith)));
           }
 
+  told_at : (place : ℕ) (k : FenceAt) (word : ℕ) → got l words (fence_asks place (record { word = word; at = k })) < 2 ^ 64
+  told_at place fence_at.Load word = row.fits place
+  told_at place (fence_at.Drain value) word = omega arith
+
   -- each step of a filling
   pub step_fills : (filling : Filling) → IsFilling part.lines filling → IsFilledTo l part filling words
       → StepOf l part words (filling_asks (address (filling_offset filling)) (part.value (filling_offset filling)) filling)
@@ -167,11 +171,28 @@ module _ (l : Layout) (part : Part) (words : List ℕ) (row : IsRow l words) (is
   step_fills (Store offset) sound to = record { can = store_can offset sound; after = store_goes offset sound to 0 }
   step_fills (Drain line fence) sound to =
       let asked = fence_asks (address (8 * line + fence.word)) fence in
-      drain_goes line fence (got l words asked) sound.0 sound.1 (told_fits fence.at) refl to
+      drain_goes line fence (got l words asked) sound.0 sound.1 (told_at (address (8 * line + fence.word)) fence.at fence.word) refl to
+
+  abbrev asks_for : Filling → Action
+  asks_for filling = filling_asks (address (filling_offset filling)) (part.value (filling_offset filling)) filling
+
+  told_fits : (filling : Filling) → got l words (asks_for filling) < 2 ^ 64
+  told_fits (Store offset) = omega arith
+  told_fits (Drain line fence) = told_at (address (8 * line + fence.word)) fence.at fence.word
+
+  -- and so each step of a machine that goes on as its filling does
+  pub machine_fills : {M : Type 0} (Fits : M → Type 0) (far : M → Filling) (goes : Option Filling → Turn M (Unit {0})) (filling : Filling) → IsFilling part.lines filling → IsFilledTo l part filling words
+      → ((next : Filling) (after : List ℕ) → IsFilling part.lines next → IsFilledTo l part next after → FillAfter Fits far l part (goes (Some next)) after)
+      → ((after : List ℕ) → IsFilled l part after → FillAfter Fits far l part (goes None) after)
+      → FillStep Fits far l part (asks_for filling) (λ x. goes (filling_next part.lines filling x)) words
+  machine_fills Fits far goes filling sound to on end =
+      let step = step_fills filling sound to in
+      let told = got l words (asks_for filling) in
+      record { can = step.can; after = of (filling_next part.lines filling told) step.after (filling_fewer part.lines filling told sound (told_fits filling)) }
     where
-      told_fits : (k : FenceAt) → got l words (fence_asks (address (8 * line + fence.word)) (record { word = fence.word; at = k })) < 2 ^ 64
-      told_fits fence_at.Load = row.fits (address (8 * line + fence.word))
-      told_fits (fence_at.Drain value) = omega arith
+      of : (next : Option Filling) → AfterFilling l part next (acted l words (asks_for filling)) → Fewer part.lines (filling_left part.lines filling) next → FillAfter Fits far l part (goes next) (acted l words (asks_for filling))
+      of (Some next) after fewer = on next (acted l words (asks_for filling)) fewer.0 after
+      of None after fewer = end (acted l words (asks_for filling)) after
 
 -- A leaf.
 
@@ -200,24 +221,8 @@ leaf_is_part m is =
 
 pub leaves_are_filled : LeavesAreFilled
 leaves_are_filled m words is row to =
-    let step = step_fills m.layout (leaf_part m) words row (leaf_is_part m is) m.at is.here to in
-    let told = got m.layout words (fill_leaf_asks m) in
-    record {
-      can = step.can;
-      after = of (filling_next 1 m.at told) step.after (filling_fewer 1 m.at told is.here (told_fits m.at));
-    }
-  where
-    of : (next : Option Filling) → AfterFilling m.layout (leaf_part m) next (acted m.layout words (fill_leaf_asks m)) → Fewer 1 (filling_left 1 m.at) next → LeafAfter m.layout (leaf_part m) (fill_leaf_goes m next) (acted m.layout words (fill_leaf_asks m))
-    of (Some next) after fewer = (record { layout = is.layout; number = is.number; key = is.key; node = is.node; here = fewer.0 }, after)
-    of None after fewer = after
-
-    told_at : (address : ℕ) (k : FenceAt) (word : ℕ) → got m.layout words (fence_asks address (record { word = word; at = k })) < 2 ^ 64
-    told_at address fence_at.Load word = row.fits address
-    told_at address (fence_at.Drain value) word = omega arith
-
-    told_fits : (filling : Filling) → got m.layout words (filling_asks (address_of m.layout (Cached (Leaf m.number (filling_offset filling)))) (leaf_value (slice_index m.key) m.node (filling_offset filling)) filling) < 2 ^ 64
-    told_fits (Store offset) = omega arith
-    told_fits (Drain line fence) = told_at (address_of m.layout (Cached (Leaf m.number (8 * line + fence.word)))) fence.at fence.word
+    machine_fills m.layout (leaf_part m) words row (leaf_is_part m is) IsFillLeaf (λ leaf. leaf.at) (fill_leaf_goes m) m.at is.here to
+    (λ next after here filled. (record { layout = is.layout; number = is.number; key = is.key; node = is.node; here = here }, filled)) (λ after filled. filled)
 
 -- A cell.
 
@@ -246,21 +251,5 @@ cell_is_part m is = record {
 
 pub cells_are_filled : CellsAreFilled
 cells_are_filled m words is row to =
-    let step = step_fills m.layout (cell_part m) words row (cell_is_part m is) m.at is.here to in
-    let told = got m.layout words (fill_cell_asks m) in
-    record {
-      can = step.can;
-      after = of (filling_next (lines_of m.cell.kind) m.at told) step.after (filling_fewer (lines_of m.cell.kind) m.at told is.here (told_fits m.at));
-    }
-  where
-    of : (next : Option Filling) → AfterFilling m.layout (cell_part m) next (acted m.layout words (fill_cell_asks m)) → Fewer (lines_of m.cell.kind) (filling_left (lines_of m.cell.kind) m.at) next → CellAfter m.layout (cell_part m) (fill_cell_goes m next) (acted m.layout words (fill_cell_asks m))
-    of (Some next) after fewer = (record { layout = is.layout; kind = is.kind; number = is.number; words = is.words; here = fewer.0 }, after)
-    of None after fewer = after
-
-    told_at : (address : ℕ) (k : FenceAt) (word : ℕ) → got m.layout words (fence_asks address (record { word = word; at = k })) < 2 ^ 64
-    told_at address fence_at.Load word = row.fits address
-    told_at address (fence_at.Drain value) word = omega arith
-
-    told_fits : (filling : Filling) → got m.layout words (filling_asks (address_of m.layout (Cached (Cell m.cell.kind m.number (filling_offset filling)))) (words_of m.cell (filling_offset filling)) filling) < 2 ^ 64
-    told_fits (Store offset) = omega arith
-    told_fits (Drain line fence) = told_at (address_of m.layout (Cached (Cell m.cell.kind m.number (8 * line + fence.word)))) fence.at fence.word
+    machine_fills m.layout (cell_part m) words row (cell_is_part m is) IsFillCell (λ cell. cell.at) (fill_cell_goes m) m.at is.here to
+    (λ next after here filled. (record { layout = is.layout; kind = is.kind; number = is.number; words = is.words; here = here }, filled)) (λ after filled. filled)

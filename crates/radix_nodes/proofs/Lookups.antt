@@ -1,26 +1,14 @@
 -- The entry that a look-up finds.
-use Rattle.std.proofs.Common.{◌≡◌, ◌≢◌, ℕ, zero, suc, ◌+◌, ◌-◌, ◌<◌, ◌≤◌, ◌==◌, ◌&&◌, not, true, cond, inl, inr, sym, subst, ap, ◌∙◌, arith}
+use Rattle.std.proofs.Common.{◌≡◌, ◌≢◌, ℕ, ◌+◌, ◌-◌, ◌<◌, ◌≤◌, ◌==◌, ◌&&◌, inl, inr, sym, subst, ap, ◌∙◌, arith}
 use Rattle.std.proofs.lemmas.Bool.{cases_eq}
-use Rattle.radix_nodes.specs.Cells.{CellWords, Children, entry_byte, entry_reference, seek, index_of, indexed, IsBelow, HasNoneBelow}
+use Rattle.radix_nodes.specs.Cells.{CellWords, Children, entry_byte, entry_reference, index_of, indexed, IsBelow, HasNoneBelow}
 use Rattle.radix_nodes.specs.Entries.{FitsEntry, IsEntryOf, HasNoEntry}
-use Rattle.radix_nodes.proofs.EntryForms.{test_yes, test_no, seek_none}
+use Rattle.radix_nodes.proofs.EntryForms.{seek_last, seek_none}
 use Rattle.radix_nodes.proofs.IndexForm.{child_at, child_none}
 
 -- no entry from so many on has the byte
 abbrev pub NoneBehind : CellWords → ℕ → ℕ → ℕ → ℕ → Type 0
 NoneBehind c first count passed byte = (i : ℕ) → i < count → count ≤ i + passed → FitsEntry (c (first + i)) byte → ⊥
-
--- the last entry with the byte is found
-pub seek_last : (c : CellWords) (first count byte i : ℕ) → i < count → FitsEntry (c (first + i)) byte → ((j : ℕ) → j < count → i < j → FitsEntry (c (first + j)) byte → ⊥) → seek c first count byte ≡ entry_reference (c (first + i))
-seek_last c first zero byte i lt fits none = absurd (omega arith)
-seek_last c first (suc count) byte i lt fits none = elim (cases_eq i count) [
-  | inl same ↦
-      ap (λ b. cond b (entry_reference (c (first + count))) (seek c first count byte)) (subst (λ k. (not (c (first + k) == 0) && entry_byte (c (first + k)) == byte) ≡ true) same (test_yes (c (first + i)) byte fits.0 fits.1))
-      ∙ ap (λ k. entry_reference (c (first + k))) (sym same)
-  | inr apart ↦
-      ap (λ b. cond b (entry_reference (c (first + count))) (seek c first count byte)) (test_no (c (first + count)) byte (λ some_word same. none count (omega arith) (omega (arith, apart)) (some_word, same)))
-      ∙ seek_last c first count byte i (omega (arith, apart)) fits (λ j less. none j (omega arith))
-]
 
 pub found_entry : (c : CellWords) (first count passed byte offset : ℕ) → passed < count → offset ≡ first + count - 1 - passed → c offset ≢ 0 → entry_byte (c offset) ≡ byte → NoneBehind c first count passed byte → IsEntryOf c first count byte offset
 found_entry c first count passed byte offset lt is some_word same none =

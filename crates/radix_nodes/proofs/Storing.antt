@@ -123,20 +123,13 @@ module _ (cell : Cell) (store : CellStore) (whole : length cell.words ≡ 264) (
 
 -- Forms 4 and 16.
 
+form_within : (kind form offset : ℕ) → kind ≡ form → (kind ≢ 4) → offset < kind_words form → (kind ≢ 4) × (offset < kind_words kind)
+form_within kind form offset is apart small = (apart, subst (λ k. offset < kind_words k) (sym is) small)
+
 entry_within : (kind first count offset : ℕ) → IsEntryForm kind first count → offset < first + count → (kind ≢ 4) × (offset < kind_words kind)
 entry_within kind first count offset is lt = elim is.is [
-  | inl four ↦
-      let k : kind ≡ 2 = four.0 in
-      let f : first ≡ 4 = four.1 in
-      let n : count ≡ 4 = four.2 in
-      let small : offset < 8 = omega arith in
-      ((λ e. omega arith), subst (λ k. offset < kind_words k) (sym k) small)
-  | inr sixteen ↦
-      let k : kind ≡ 3 = sixteen.0 in
-      let f : first ≡ 8 = sixteen.1 in
-      let n : count ≡ 16 = sixteen.2 in
-      let small : offset < 24 = omega arith in
-      ((λ e. omega arith), subst (λ k. offset < kind_words k) (sym k) small)
+  | inl four ↦ form_within kind 2 offset four.0 (λ e. let k = four.0 in omega arith) (let f = four.1 in let n = four.2 in let small : offset < 8 = omega arith in small)
+  | inr sixteen ↦ form_within kind 3 offset sixteen.0 (λ e. let k = sixteen.0 in omega arith) (let f = sixteen.1 in let n = sixteen.2 in let small : offset < 24 = omega arith in small)
 ]
 
 pub adds_entry : (cell : Cell) (first count offset byte reference : ℕ) → length cell.words ≡ 264 → IsEntryForm cell.kind first count → IsFreeEntry (words_of cell) first count offset → byte < 256 → IsReference reference → children_of cell byte ≡ 0 → IsCell cell

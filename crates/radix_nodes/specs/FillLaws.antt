@@ -1,6 +1,7 @@
 -- What stands of a part while it is filled, in the cached and in the durable words.
 use Rattle.std.specs.Prelude.{◌≡◌, ℕ, ◌+◌, ◌*◌, ◌<◌, ◌⊎◌, List, slice_index}
 use Rattle.pm_words.specs.declared.layout.Layout.{Layout}
+use Rattle.pm_words.specs.declared.action.Action.{Action}
 use Rattle.pm_words.specs.declared.machine.Turn.{Turn}
 use Rattle.pm_words.specs.declared.machine.Turn.TheVariants.{Go, Done}
 use Rattle.pm_words.specs.declared.fence.FenceAt.{FenceAt}
@@ -85,29 +86,23 @@ FillsStay = (l : Layout) (part : Part) (filling : Filling) (words words' : List 
     IsFilledTo l part filling words'
 
 -- Each step of a machine can be made, and leaves the part filled further; after the last one it is filled: both twins
--- of each of its words are as asked for.
-abbrev pub LeafAfter : Layout → Part → Turn FillLeaf (Unit {0}) → List ℕ → Type 0
-LeafAfter l part (Go m) words = IsFillLeaf m × IsFilledTo l part m.at words
-LeafAfter l part (Done answer) words = IsFilled l part words
+-- of each of its words are as asked for. Of a machine count what its fields keep, and how far its filling is.
+abbrev pub FillAfter : {M : Type 0} → (M → Type 0) → (M → Filling) → Layout → Part → Turn M (Unit {0}) → List ℕ →
+    Type 0
+FillAfter Fits far l part (Go m) words = Fits m × IsFilledTo l part (far m) words
+FillAfter Fits far l part (Done answer) words = IsFilled l part words
 
-pub record LeafStep (m : FillLeaf) (words : List ℕ) : Type 0 where
-  pub can : CanAct m.layout words (fill_leaf_asks m)
-  pub after : LeafAfter m.layout (leaf_part m) (fill_leaf_turned m (got m.layout words (fill_leaf_asks m)))
-      (acted m.layout words (fill_leaf_asks m))
+pub record FillStep {M : Type 0} (Fits : M → Type 0) (far : M → Filling) (l : Layout) (part : Part) (asked : Action)
+    (turned : ℕ → Turn M (Unit {0})) (words : List ℕ) : Type 0 where
+  pub can : CanAct l words asked
+  pub after : FillAfter Fits far l part (turned (got l words asked)) (acted l words asked)
 
 abbrev pub LeavesAreFilled : Type 0
 LeavesAreFilled = (m : FillLeaf) (words : List ℕ) → IsFillLeaf m → IsRow m.layout words →
-    IsFilledTo m.layout (leaf_part m) m.at words → LeafStep m words
-
-abbrev pub CellAfter : Layout → Part → Turn FillCell (Unit {0}) → List ℕ → Type 0
-CellAfter l part (Go m) words = IsFillCell m × IsFilledTo l part m.at words
-CellAfter l part (Done answer) words = IsFilled l part words
-
-pub record CellStep (m : FillCell) (words : List ℕ) : Type 0 where
-  pub can : CanAct m.layout words (fill_cell_asks m)
-  pub after : CellAfter m.layout (cell_part m) (fill_cell_turned m (got m.layout words (fill_cell_asks m)))
-      (acted m.layout words (fill_cell_asks m))
+    IsFilledTo m.layout (leaf_part m) m.at words →
+    FillStep IsFillLeaf (λ leaf. leaf.at) m.layout (leaf_part m) (fill_leaf_asks m) (fill_leaf_turned m) words
 
 abbrev pub CellsAreFilled : Type 0
 CellsAreFilled = (m : FillCell) (words : List ℕ) → IsFillCell m → IsRow m.layout words →
-    IsFilledTo m.layout (cell_part m) m.at words → CellStep m words
+    IsFilledTo m.layout (cell_part m) m.at words →
+    FillStep IsFillCell (λ cell. cell.at) m.layout (cell_part m) (fill_cell_asks m) (fill_cell_turned m) words
