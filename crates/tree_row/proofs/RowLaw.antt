@@ -140,21 +140,19 @@ load_leaves l words address whole = (
 
 -- one word of the layer is another in this twin
 module _ (l : Layout) (words : List ℕ) (p : LayerWord) (word : ℕ) (whole : length words ≡ row_words l) (has : HasLayerWord l p) where
-  cached_set : Stored (layer_words l words Cached) (layer_words l (slice_set words (address_of l (Cached (image_word p))) word) Cached) p word
-  cached_set =
-      let words' = slice_set words (address_of l (Cached (image_word p))) word in
+  twin_set : (twin : Word → Location) → ((w : Word) → HasWord l w → HasLocation l (twin w)) → ((v w : Word) → twin v ≡ twin w → v ≡ w) → Stored (layer_words l words twin) (layer_words l (slice_set words (address_of l (twin (image_word p))) word) twin) p word
+  twin_set twin has_it one =
+      let words' = slice_set words (address_of l (twin (image_word p))) word in
       record {
-        here = reads_words l words' Cached p has ∙ at-set_same l words (Cached (image_word p)) word whole has;
-        others = λ q apart. same_at l words words' Cached q (λ has_q. at-set_other l words (Cached (image_word p)) (Cached (image_word q)) word has has_q (λ e. named_apart p q apart (let same : image_word q ≡ image_word p = cc in same)));
+        here = reads_words l words' twin p has ∙ at-set_same l words (twin (image_word p)) word whole (has_it (image_word p) has);
+        others = λ q apart. same_at l words words' twin q (λ has_q. at-set_other l words (twin (image_word p)) (twin (image_word q)) word (has_it (image_word p) has) (has_it (image_word q) has_q) (λ e. named_apart p q apart (one (image_word q) (image_word p) e)));
       }
 
+  cached_set : Stored (layer_words l words Cached) (layer_words l (slice_set words (address_of l (Cached (image_word p))) word) Cached) p word
+  cached_set = twin_set Cached (λ w has_w. has_w) (λ v w e. cc)
+
   durable_set : Stored (layer_words l words Durable) (layer_words l (slice_set words (address_of l (Durable (image_word p))) word) Durable) p word
-  durable_set =
-      let words' = slice_set words (address_of l (Durable (image_word p))) word in
-      record {
-        here = reads_words l words' Durable p has ∙ at-set_same l words (Durable (image_word p)) word whole has;
-        others = λ q apart. same_at l words words' Durable q (λ has_q. at-set_other l words (Durable (image_word p)) (Durable (image_word q)) word has has_q (λ e. named_apart p q apart (let same : image_word q ≡ image_word p = cc in same)));
-      }
+  durable_set = twin_set Durable (λ w has_w. has_w) (λ v w e. cc)
 
   durable_stays : layer_words l (slice_set words (address_of l (Cached (image_word p))) word) Durable ≡ layer_words l words Durable
   durable_stays = rows_alike l words (slice_set words (address_of l (Cached (image_word p))) word) Durable (λ q has_q. at-set_other l words (Cached (image_word p)) (Durable (image_word q)) word has has_q (λ e. cc))
