@@ -83,13 +83,16 @@ abbrev pub unmarks : Finish → Turn Finish (Unit {0})
 unmarks f =
     if f.free == 0 then Done tt else Go (record f { free = f.next; next = 0; at = at.Unmark f.free })
 
+-- on in its fence, or behind it
+abbrev pub fenced : Finish → (Fence → FinishAt) → Turn Finish (Unit {0}) → Option Fence → Turn Finish (Unit {0})
+fenced f inside behind (Some fence) = finish_to f (inside fence)
+fenced f inside behind None = behind
+
 abbrev pub quiet_drained : Finish → Option Fence → Turn Finish (Unit {0})
-quiet_drained f (Some fence) = finish_to f (at.QuietFence fence)
-quiet_drained f None = finish_to f at.Switch
+quiet_drained f = fenced f (λ fence. at.QuietFence fence) (finish_to f at.Switch)
 
 abbrev pub switch_drained : Finish → Option Fence → Turn Finish (Unit {0})
-switch_drained f (Some fence) = finish_to f (at.SwitchFence fence)
-switch_drained f None = unmarks f
+switch_drained f = fenced f (λ fence. at.SwitchFence fence) (unmarks f)
 
 abbrev pub finish_at_turned : Finish → FinishAt → ℕ → Turn Finish (Unit {0})
 finish_at_turned f at.Quiet got = finish_to f (at.QuietFence fence_start)
