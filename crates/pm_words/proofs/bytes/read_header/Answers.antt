@@ -1,4 +1,4 @@
-use Rattle.std.proofs.Common.{◌≡◌, ℕ, ◌<◌, ◌∙◌, arith, get_or, sym, subst, Err}
+use Rattle.std.proofs.Common.{◌≡◌, ◌∙◌, arith, sym, subst, Err}
 use Rattle.std.proofs.lemmas.Result.{err_from_is_err_and}
 use Rattle.pm_words.specs.declared.layout.Layout.{Layout}
 use Rattle.pm_words.specs.Layouts.{IsLayout}
@@ -8,15 +8,13 @@ use Rattle.pm_words.proofs.bytes.read_header.Goals as goal
 
 pub returns-then-format-ne-FORMAT-clause-fault : goal.returns-then-format-ne-FORMAT-clause-fault
 returns-then-format-ne-FORMAT-clause-fault c =
-    let small : (i : ℕ) → get_or c.args.bytes.now i 0 < 256 = λ i. omega (arith, c.type_inv.bytes i) in
-    let magic = magic_stands c.args.bytes.now c.if-bytes-lt-HEADER_BYTES.false small (sym c.word_in.ensures ∙ c.if-word_in-from_le_bytes.false ∙ c.from_le_bytes.ensures) in
+    let magic = magic_stands c.args.bytes.now c.if-bytes-lt-HEADER_BYTES.false (λ i. omega (arith, c.type_inv.bytes i)) (sym c.word_in.ensures ∙ c.if-word_in-from_le_bytes.false ∙ c.from_le_bytes.ensures) in
     ((c.if-bytes-lt-HEADER_BYTES.false, magic), c.word_in-format.ensures, c.if-format-ne-FORMAT.true)
 
 pub returns-in_err-new-clause-fault : goal.returns-in_err-new-clause-fault
 returns-in_err-new-clause-fault c =
     let bytes = c.args.bytes.now in
-    let small : (i : ℕ) → get_or bytes i 0 < 256 = λ i. omega (arith, c.type_inv.bytes i) in
-    let magic = magic_stands bytes c.if-bytes-lt-HEADER_BYTES.false small (sym c.word_in.ensures ∙ c.if-word_in-from_le_bytes.false ∙ c.from_le_bytes.ensures) in
+    let magic = magic_stands bytes c.if-bytes-lt-HEADER_BYTES.false (λ i. omega (arith, c.type_inv.bytes i)) (sym c.word_in.ensures ∙ c.if-word_in-from_le_bytes.false ∙ c.from_le_bytes.ensures) in
     let format = sym c.word_in-format.ensures ∙ c.if-format-ne-FORMAT.false in
     let same : record { nodes = c.word_in-nodes.result; slots = c.word_in-slots.result; callers = c.word_in-callers.result } ≡ layout_in bytes =
     λ x. record { nodes = c.word_in-nodes.ensures x; slots = c.word_in-slots.ensures x; callers = c.word_in-callers.ensures x } in
@@ -32,8 +30,7 @@ returns-in_err-new-clause-fault c =
 pub returns-clause-layout : goal.returns-clause-layout
 returns-clause-layout c =
     let bytes = c.args.bytes.now in
-    let small : (i : ℕ) → get_or bytes i 0 < 256 = λ i. omega (arith, c.type_inv.bytes i) in
-    let magic = magic_stands bytes c.if-bytes-lt-HEADER_BYTES.false small (sym c.word_in.ensures ∙ c.if-word_in-from_le_bytes.false ∙ c.from_le_bytes.ensures) in
+    let magic = magic_stands bytes c.if-bytes-lt-HEADER_BYTES.false (λ i. omega (arith, c.type_inv.bytes i)) (sym c.word_in.ensures ∙ c.if-word_in-from_le_bytes.false ∙ c.from_le_bytes.ensures) in
     let format = sym c.word_in-format.ensures ∙ c.if-format-ne-FORMAT.false in
     let same : record { nodes = c.word_in-nodes.result; slots = c.word_in-slots.result; callers = c.word_in-callers.result } ≡ layout_in bytes =
     λ x. record { nodes = c.word_in-nodes.ensures x; slots = c.word_in-slots.ensures x; callers = c.word_in-callers.ensures x } in
