@@ -11,30 +11,13 @@ use Rattle.pm_words.specs.Locations.{Location, Volatile, HasLocation, address_of
 use Rattle.pm_words.specs.Rows.{IsRow, acted}
 use Rattle.pm_words.specs.Offsets.{stamp_offset, status_offset}
 use Rattle.call_stages.specs.Kinds.{status_address}
-use Rattle.pm_alloc.specs.declared.gone.Retire.{Retire}
 use Rattle.pm_alloc.specs.declared.gone.Release.{Release}
 use Rattle.pm_alloc.specs.declared.gone.ReleaseAt.{ReleaseAt}
 use Rattle.pm_alloc.specs.declared.gone.ReleaseAt.TheVariants.{Stamp, Status}
 
-abbrev pub retire_from : Layout → ℕ → Retire
-retire_from layout node = record { layout = layout; node = node }
-
-abbrev pub retire_asks : Retire → Action
-retire_asks retire = Store (status_address retire.layout retire.node) gone_status
-
-abbrev pub retire_turned : Retire → ℕ → Turn Retire (Unit {0})
-retire_turned retire got = Done tt
-
--- what its fields keep
-pub record IsRetire (retire : Retire) : Type 0 where
-  pub layout : IsLayout retire.layout
-  pub node : retire.node < retire.layout.nodes
-
-abbrev pub retire_takes : Retire → ℕ → Type 0
-retire_takes retire got = IsRetire retire
-
-abbrev pub retire_left : Retire → ℕ
-retire_left retire = 1
+-- the store that retires a node
+abbrev pub retires : Layout → ℕ → Action
+retires l n = Store (status_address l n) gone_status
 
 -- the address of a node's stamp, and the stamp of a node that has none
 abbrev pub stamp_address : Layout → ℕ → ℕ
@@ -83,7 +66,7 @@ pub record IsRetired (l : Layout) (n : ℕ) (words after : List ℕ) : Type 0 wh
 -- So it is where a node is retired with no other party about.
 abbrev pub RetiresAlone : Type 0
 RetiresAlone = (l : Layout) (n : ℕ) (words : List ℕ) → IsRow l words → n < l.nodes →
-    IsRetired l n words (acted l words (retire_asks (retire_from l n)))
+    IsRetired l n words (acted l words (retires l n))
 
 -- The node is FREE, without a stamp, and every other word is as it was.
 pub record IsReleased (l : Layout) (n : ℕ) (words after : List ℕ) : Type 0 where

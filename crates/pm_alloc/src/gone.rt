@@ -1,5 +1,9 @@
 //! The end of a merged node, and its way back.
 
+ghost use Rattle.std.specs.Prelude.{◌≡◌, ◌<◌};
+ghost use Rattle.pm_words.specs.Layouts.{IsLayout};
+ghost use Rattle.pm_alloc.specs.Gone.{retires};
+
 use pm_words::codes::status::{FREE, GONE};
 use pm_words::offsets::volatile;
 use pm_words::{Action, Layout, Machine, Turn};
@@ -7,51 +11,13 @@ use pm_words::{Action, Layout, Machine, Turn};
 /// The stamp of a node that has none.
 const NO_STAMP: u64 = 0;
 
-/// It stores the status GONE of a node, which its party holds and has merged into the node before.
-#[derive(Clone, Copy)]
-pub struct Retire {
-    pub layout: Layout,
-    pub node: u64,
-}
-
-impl Machine for Retire {
-    ghost use Rattle.pm_alloc.specs.Gone.{IsRetire, retire_asks, retire_turned, retire_takes, retire_left};
-
-    type Answer = ();
-
-    ghost fits = { IsRetire };
-
-    ghost asks = { retire_asks };
-
-    ghost turned = { retire_turned };
-
-    ghost takes = { retire_takes };
-
-    ghost left = { retire_left };
-
-    fn action(&self) -> Action {
-        Action::Store(self.layout.node_volatile(self.node, volatile::STATUS), GONE)
-    }
-
-    fn resume(self, _got: u64) -> Turn<Retire, ()> {
-        Turn::Done(())
-    }
-}
-
-impl Retire {
-    ghost use Rattle.std.specs.Prelude.{◌≡◌, ◌<◌};
-    ghost use Rattle.pm_words.specs.Layouts.{IsLayout};
-    ghost use Rattle.pm_alloc.specs.Gone.{IsRetire, retire_from};
-
-    /// It retires this node.
-    pub fn new(layout: Layout, node: u64) -> Retire
-        requires layout { IsLayout layout }
-        requires node { node < layout.nodes }
-        ensures new { result ≡ retire_from layout node }
-        ensures sound { IsRetire result }
-    {
-        Retire { layout, node }
-    }
+/// The store of the status GONE of a node, which its party holds and has merged into the node before.
+pub fn retire(layout: &Layout, node: u64) -> Action
+    requires layout { IsLayout layout.now }
+    requires node { node < layout.now.nodes }
+    ensures { result ≡ retires layout.now node }
+{
+    Action::Store(layout.node_volatile(node, volatile::STATUS), GONE)
 }
 
 /// It makes a GONE node FREE: it stores that the node has no stamp, and then the status. Its party has seen that the

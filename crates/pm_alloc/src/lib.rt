@@ -1,4 +1,5 @@
-//! Nodes that are not in use: the claim of a free one, the end of a merged one, and its way back, as machines.
+//! Nodes that are not in use: the claim of a free one and the way back of a merged one, as machines, and the store
+//! that ends it.
 #![tactic(auto)]
 
 mod claim;
@@ -6,4 +7,4 @@ mod gone;
 pub mod laws;
 
 pub use claim::{Claim, ClaimAt, Claimed};
-pub use gone::{Release, ReleaseAt, Retire};
+pub use gone::{Release, ReleaseAt, retire};
