@@ -11,9 +11,7 @@ use Rattle.pm_words.specs.declared.machine.Turn.TheVariants.{Go, Done}
 use Rattle.pm_words.specs.Locations.{Cached}
 use Rattle.pm_words.specs.Rows.{acted, got}
 use Rattle.pm_words.specs.Turns.{GoesBelow}
-use Rattle.updater.specs.Takings.{taking_from, taking_asks, took_of}
-use Rattle.updater.specs.declared.taking.TakeTurn.{TakeTurn}
-use Rattle.updater.specs.declared.taking.Took.{Took}
+use Rattle.updater.specs.Takings.{taking_asks, took_of}
 use Rattle.updater.specs.declared.taking.Took.TheVariants.{Taken, Held}
 use Rattle.index_law.specs.Lines.{line_in}
 use Rattle.index_law.specs.Footings.{NeedsNoParty, IsInHand}
@@ -189,11 +187,11 @@ pub turned_same : {a b : Turned} → reply.Turned a ≡ reply.Turned b → a ≡
 turned_same e = cc
 
 -- The lock is free, so the turn gets it.
-takes_lock : (word : ℕ) → Path (Turn TakeTurn Took) (Done (took_of word)) (Done Taken) → word ≡ 0
+takes_lock : (word : ℕ) → took_of word ≡ Taken → word ≡ 0
 takes_lock word took = ⊎_elim
     (λ (e : word ≡ 0). e)
     (λ (other : word ≢ 0). absurd (
-    let held : Path (Turn TakeTurn Took) (Done (Held word)) (Done Taken) = sym (ap {B = Turn TakeTurn Took} (λ b. Done (cond b Taken (Held word))) (ne_eqb word 0 other)) ∙ took in
+    let held : Held word ≡ Taken = sym (ap (λ b. cond b Taken (Held word)) (ne_eqb word 0 other)) ∙ took in
     cc))
     (cases_eq word 0)
 
@@ -317,10 +315,10 @@ module _ (s0 s s' : Index) (i stamp release : ℕ) (o : LoneTurn s0 s i stamp re
       let work : Work = work_from terms.layout terms.generation terms.stamp terms.release in
       let work_is : work_from s0.layout s0.generation stamp release ≡ work = ap (λ (t : Terms). work_from t.layout t.generation t.stamp t.release) (sym terms_is) in
       let next : turn_after turn ≡ Some (Working work) = ap turn_after (turn_by (Taking terms) same) ∙ ap (λ n. turn_after (lock_found terms n)) zero in
-      let end : s'.words ≡ acted s0.layout s0.words (taking_asks (taking_from s0.layout)) =
+      let end : s'.words ≡ acted s0.layout s0.words (taking_asks s0.layout) =
       ap (λ (v : Index). v.words) stepped ∙ sym (asks_by (Taking terms) same) ∙ (λ k. acted (layout k) (words k) (making_asks (from k))) in
-      let path = (λ k. record { whole = record (footed s0) { world = record (world s0) { words = acted s0.layout s0.words (taking_asks (taking_from s0.layout)) } }; turns = set (layered s0).turns i (turning_of (Some (Working (work_is k)))) })
-      ∙ layered_end (acted s0.layout s0.words (taking_asks (taking_from s0.layout))) (Some (Working work)) end next in
+      let path = (λ k. record { whole = record (footed s0) { world = record (world s0) { words = acted s0.layout s0.words (taking_asks s0.layout) } }; turns = set (layered s0).turns i (turning_of (Some (Working (work_is k)))) })
+      ∙ layered_end (acted s0.layout s0.words (taking_asks s0.layout)) (Some (Working work)) end next in
       subst (λ n. StandsAfter (lock_found terms n)) (sym zero)
       (subst (λ (q : Work × Layered). LoneTurning z stamp release i q.0 q.1) (λ k. (work_is k, path k)) begins.turning)
 

@@ -6,7 +6,6 @@ use Rattle.std.proofs.lemmas.List.{set-set}
 use mathlib.Core.Option.{some}
 use lib.ListN.{get_elem?}
 use Rattle.pm_words.specs.declared.action.Action.{Action}
-use Rattle.pm_words.specs.declared.machine.Turn.TheVariants.{Done}
 use Rattle.pm_words.specs.Locations.{Updater, at}
 use Rattle.pm_words.specs.Rows.{CanAct, acted, got}
 use Rattle.pm_words.specs.Codes.{untaken_lock, taken_lock}
@@ -18,7 +17,7 @@ use Rattle.index_layer_law.specs.updater_row_law.specs.Columns.{RowTerms, Ghosts
 use Rattle.index_layer_law.specs.updater_row_law.specs.RowStages.{Resting, Between}
 use Rattle.index_layer_law.specs.updater_row_law.specs.Turnings.{Turning, TurnFoot}
 use Rattle.index_layer_law.specs.updater_row_law.proofs.RowStores.{lock_stored}
-use Rattle.updater.specs.Takings.{taking_from, taking_asks, took_of}
+use Rattle.updater.specs.Takings.{taking_asks, took_of}
 use Rattle.updater.specs.Works.{IsWork, work_from}
 use Rattle.updater.specs.Steps.{row_terms}
 use Rattle.updater.specs.Watches.{turning_at}
@@ -38,10 +37,10 @@ module _ (z : Layered) (i : ℕ) (t : Turning) (stamp release : ℕ) (is : IsIdl
   w = z.whole.world
 
   abbrev asks : Action
-  asks = taking_asks (taking_from z.whole.world.layout)
+  asks = taking_asks z.whole.world.layout
 
   abbrev after : List ℕ
-  after = acted z.whole.world.layout z.whole.world.words (taking_asks (taking_from z.whole.world.layout))
+  after = acted z.whole.world.layout z.whole.world.words (taking_asks z.whole.world.layout)
 
   abbrev terms : RowTerms
   terms = row_terms (terms_in z.whole.world stamp release)
@@ -75,7 +74,7 @@ module _ (z : Layered) (i : ℕ) (t : Turning) (stamp release : ℕ) (is : IsIdl
   foot = takings_are_feet terms 0
 
   -- the lock is no mark
-  marks_same : marks_in (record (z.whole.world) { words = acted z.whole.world.layout z.whole.world.words (taking_asks (taking_from z.whole.world.layout)) }) ≡ marks_in w
+  marks_same : marks_in (record (z.whole.world) { words = acted z.whole.world.layout z.whole.world.words (taking_asks z.whole.world.layout) }) ≡ marks_in w
   marks_same =
       let ghosts : Ghosts = record { listed = λ n. false; holder = λ n. 0 } in
       let word : ℕ = at w.layout w.words Updater in
@@ -119,8 +118,8 @@ module _ (z : Layered) (i : ℕ) (t : Turning) (stamp release : ℕ) (is : IsIdl
 pub turns_begin : TurnsBegin
 turns_begin z i t stamp release is there positive small = record {
   can = can_take z i t stamp release is there positive small;
-  takes = (record { layout = is.layered.whole.joint.lawful.row.layout }, is.layered.whole.joint.lawful.row.fits _);
-  taken = ap (λ x. Done (took_of x)) (unlocked z i t stamp release is there positive small);
+  takes = is.layered.whole.joint.lawful.row.fits _;
+  taken = ap took_of (unlocked z i t stamp release is there positive small);
   turning = subst (λ (turns : List Turning). LoneTurning z stamp release i (work_from z.whole.world.layout z.whole.world.generation stamp release)
       (record { whole = (turned (about z i t stamp release is there positive small) i (asks z i t stamp release is there positive small) (next z i t stamp release is there positive small)).whole; turns = turns }))
       (set-set z.turns i (first z i t stamp release is there positive small) (next z i t stamp release is there positive small))

@@ -21,7 +21,7 @@ use Rattle.updater.specs.declared.terms.Turned.{Turned}
 use Rattle.updater.specs.declared.work.Work.{Work}
 use Rattle.updater.specs.declared.work.WorkAt.{WorkAt}
 use Rattle.updater.specs.declared.work.WorkAt.TheVariants as at
-use Rattle.updater.specs.Takings.{taking_from, taking_asks, taking_turned, taking_takes}
+use Rattle.updater.specs.Takings.{taking_asks, took_of}
 use Rattle.updater.specs.Works.{IsWork, work_from, work_asks, work_turned, work_takes}
 use Rattle.updater.specs.Events.{Heard, HasHeard}
 use Rattle.updater.specs.Steps.{row_terms, work_stage}
@@ -94,16 +94,14 @@ pub record LoneTurning (before : Layered) (stamp release i : ℕ) (work : Work) 
 -- The index once a party whose turn rests has taken the updater lock for another one.
 abbrev pub turn_taken : Layered → ℕ → ℕ → ℕ → Layered
 turn_taken z i stamp release =
-    turned z i (taking_asks (taking_from z.whole.world.layout))
+    turned z i (taking_asks z.whole.world.layout)
     (turning_at (row_terms (terms_in z.whole.world stamp release)) (Between 0) Nothing)
 
 -- With nothing in flight a party takes the updater lock, and is in its turn then.
 pub record TurnBegins (z : Layered) (stamp release i : ℕ) : Type 0 where
-  pub can : CanAct z.whole.world.layout z.whole.world.words (taking_asks (taking_from z.whole.world.layout))
-  pub takes : taking_takes (taking_from z.whole.world.layout)
-      (got z.whole.world.layout z.whole.world.words (taking_asks (taking_from z.whole.world.layout)))
-  pub taken : taking_turned (taking_from z.whole.world.layout)
-      (got z.whole.world.layout z.whole.world.words (taking_asks (taking_from z.whole.world.layout))) ≡ Done Taken
+  pub can : CanAct z.whole.world.layout z.whole.world.words (taking_asks z.whole.world.layout)
+  pub takes : got z.whole.world.layout z.whole.world.words (taking_asks z.whole.world.layout) < 2 ^ 64
+  pub taken : took_of (got z.whole.world.layout z.whole.world.words (taking_asks z.whole.world.layout)) ≡ Taken
   pub turning : LoneTurning z stamp release i
       (work_from z.whole.world.layout z.whole.world.generation stamp release) (turn_taken z i stamp release)
 

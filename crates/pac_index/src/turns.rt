@@ -26,7 +26,7 @@ use epochs::{Advance, EpochSeat};
 use pm_words::Machine;
 use pm_words::codes::updater_lock::UNTAKEN;
 use std::marker::Brand;
-use updater::{TakeTurn, Turned, Work};
+use updater::{Turned, Work, take_turn};
 
 impl Shared {
     /// One try of a turn of the updater, beside the calls of the others: it takes the READY log lines to the search
@@ -146,7 +146,7 @@ impl Shared {
             (party seat.new.me) }
     {
         pace.step();
-        self.act::<FirstTurnStep>(seat, TakeTurn::new(self.about.layout).action())
+        self.act::<FirstTurnStep>(seat, take_turn())
     }
 
     /// Tries once to advance the epoch, and loads it, for a turn that has the updater lock and has done nothing under

@@ -6,7 +6,6 @@ use Rattle.call_stages.specs.Watches.{lets_go}
 use Rattle.updater_row_law.specs.RowStages.{RowLine, RowTarget, Resting, Between, HasTarget}
 use Rattle.updater_row_law.specs.RowSteps.{RowStep}
 use Rattle.updater_row_law.specs.Turnings.{SeesTarget, TurnFoot}
-use Rattle.updater.specs.declared.taking.TakeTurn.{TakeTurn}
 use Rattle.updater.specs.declared.taking.Took.{Took}
 use Rattle.updater.specs.declared.taking.Took.TheVariants.{Taken, Held}
 use Rattle.updater.specs.declared.terms.Terms.{Terms}
@@ -14,7 +13,7 @@ use Rattle.updater.specs.declared.terms.Turned.{Turned}
 use Rattle.updater.specs.declared.work.Work.{Work}
 use Rattle.updater.specs.Laws.{WorkStays}
 use Rattle.updater.specs.Steps.{row_terms, work_stage, stage_after, stage_taken}
-use Rattle.updater.specs.Takings.{taking_from, taking_turned}
+use Rattle.updater.specs.Takings.{took_of}
 use Rattle.updater.specs.Watches.{work_watching, WorkWatches, work_turning, turning_after, TakingsAreFeet, WorksAreFeet}
 use Rattle.updater.specs.Works.{work_asks, work_turned}
 use Rattle.updater.proofs.StepLaw.{takings_are_steps, works_are_steps}
@@ -39,12 +38,11 @@ pub takings_are_feet : TakingsAreFeet
 takings_are_feet terms x = record {
   row = takings_are_steps terms x;
   watch = lets_go;
-  found = λ e target is. none (taking_turned (taking_from terms.layout) x) e target is;
+  found = λ e target is. none (took_of x) e target is;
   stamp = refl;
   release = refl;
 }
   where
-    none : {A : Type 0} (turn : Turn TakeTurn Took) (e : RowLine) (target : RowTarget) → stage_taken turn ≡ HasTarget e target → A
-    none (Done Taken) e target is = absurd (let no : Between 0 ≡ HasTarget e target = is in cc)
-    none (Done (Held word)) e target is = absurd (let no : Resting ≡ HasTarget e target = is in cc)
-    none (Go next) e target is = absurd (let no : Resting ≡ HasTarget e target = is in cc)
+    none : {A : Type 0} (took : Took) (e : RowLine) (target : RowTarget) → stage_taken took ≡ HasTarget e target → A
+    none Taken e target is = absurd (let no : Between 0 ≡ HasTarget e target = is in cc)
+    none (Held word) e target is = absurd (let no : Resting ≡ HasTarget e target = is in cc)

@@ -12,7 +12,7 @@ use Rattle.updater.specs.declared.terms.Turned.{Turned}
 use Rattle.updater.specs.declared.work.Work.{Work}
 use Rattle.updater.specs.Laws.{WorkStays}
 use Rattle.updater.specs.Steps.{row_terms, stage_taken}
-use Rattle.updater.specs.Takings.{taking_from, taking_asks, taking_turned}
+use Rattle.updater.specs.Takings.{taking_asks, took_of}
 use Rattle.updater.specs.Works.{IsTerms, work_from, work_asks, work_turned}
 use Rattle.updater.specs.Watches.{turning_at, work_turning, turning_after}
 use Rattle.updater.specs.Makings.{worked, lock_found, turning_made, MakingStays, MakingsStaySound, MakingsAreFeet}
@@ -39,9 +39,9 @@ found_stays terms word is = elim (cases_eq word 0) [
   | inr other ↦ rw (ne_eqb word 0 other) tt
 ]
 
-found_turning : (terms : Terms) (word : ℕ) → turning_at (row_terms terms) (stage_taken (taking_turned (taking_from terms.layout) word)) Nothing ≡ turning_made terms (lock_found terms word)
+found_turning : (terms : Terms) (word : ℕ) → turning_at (row_terms terms) (stage_taken (took_of word)) Nothing ≡ turning_made terms (lock_found terms word)
 found_turning terms word = elim (cases_eq word 0) [
-  | inl e ↦ subst (λ k. turning_at (row_terms terms) (stage_taken (taking_turned (taking_from terms.layout) k)) Nothing ≡ turning_made terms (lock_found terms k)) (sym e) refl
+  | inl e ↦ subst (λ k. turning_at (row_terms terms) (stage_taken (took_of k)) Nothing ≡ turning_made terms (lock_found terms k)) (sym e) refl
   | inr other ↦ rw (ne_eqb word 0 other) refl
 ]
 
@@ -51,7 +51,7 @@ makings_stay_sound (Working work) x takes = worked_stays work.terms (work_turned
 
 pub makings_are_feet : MakingsAreFeet
 makings_are_feet (Taking terms) x takes =
-    subst (λ (t : Turning). TurnFoot (row_terms terms) (turning_at (row_terms terms) Resting Nothing) (taking_asks (taking_from terms.layout)) x t) (found_turning terms x)
+    subst (λ (t : Turning). TurnFoot (row_terms terms) (turning_at (row_terms terms) Resting Nothing) (taking_asks terms.layout) x t) (found_turning terms x)
     (takings_are_feet (row_terms terms) x)
 makings_are_feet (Working work) x takes =
     subst (λ (t : Turning). TurnFoot (row_terms work.terms) (work_turning work) (work_asks work) x t) (worked_turning work.terms (work_turned work x)) (works_are_feet work x takes)

@@ -56,7 +56,7 @@ use Rattle.updater.specs.declared.terms.Found.{Found}
 use Rattle.updater.specs.declared.work.Work.{Work}
 use Rattle.updater.specs.declared.work.WorkAt.{WorkAt}
 use Rattle.updater.specs.declared.work.WorkAt.TheVariants as at
-use Rattle.updater.specs.Takings.{taking_asks, taking_from}
+use Rattle.updater.specs.Takings.{taking_asks}
 use Rattle.updater_row_law.specs.Columns.{line_count}
 use Rattle.updater_row_law.specs.RowStages.{are_same}
 use Rattle.updater.specs.Works.{work_at_asks, after_line, reads_fields, saw_state, changes, clears, changed}
@@ -68,7 +68,7 @@ use Rattle.updater.specs.Steps.{row_terms, line_of, target_of, release_stage, wo
 use Rattle.updater.specs.Steps.{stage_taken, TakingsAreSteps, WorksStart, WorksAreSteps}
 
 pub takings_are_steps : TakingsAreSteps
-takings_are_steps terms x = elim (x == untaken_lock) as (λ b. (x == untaken_lock) ≡ b → RowStep terms Resting (taking_asks (taking_from terms.layout)) x (stage_taken (Done (cond b took.Taken (took.Held x))))) [
+takings_are_steps terms x = elim (x == untaken_lock) as (λ b. (x == untaken_lock) ≡ b → RowStep terms Resting (taking_asks terms.layout) x (stage_taken (cond b took.Taken (took.Held x)))) [
   | true ↦ λ e. steps.takes_lock (eqb-true x 0 e)
   | false ↦ λ e. steps.finds_held (eqb-false x 0 e)
 ] refl

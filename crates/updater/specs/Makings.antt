@@ -15,7 +15,7 @@ use Rattle.updater.specs.declared.making.TurnReply.TheVariants as reply
 use Rattle.updater.specs.declared.terms.Terms.{Terms}
 use Rattle.updater.specs.declared.terms.Turned.{Turned}
 use Rattle.updater.specs.declared.work.Work.{Work}
-use Rattle.updater.specs.Takings.{taking_from, taking_asks}
+use Rattle.updater.specs.Takings.{taking_asks}
 use Rattle.updater.specs.Works.{IsTerms, IsWork, work_from, work_asks, work_turned, work_left, work_takes}
 use Rattle.updater.specs.Steps.{row_terms}
 use Rattle.updater.specs.Watches.{turning_at, work_turning}
@@ -30,7 +30,7 @@ making_from layout generation stamp release =
     Taking (record { layout = layout; generation = generation; stamp = stamp; release = release })
 
 abbrev pub making_asks : MakeTurn → Action
-making_asks (Taking terms) = taking_asks (taking_from terms.layout)
+making_asks (Taking terms) = taking_asks terms.layout
 making_asks (Working work) = work_asks work
 
 -- it works if it found this word, that of a lock which no party has

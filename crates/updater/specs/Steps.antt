@@ -11,7 +11,6 @@ use Rattle.updater_row_law.specs.RowStages.{RowLine, RowTarget, RowStage, Restin
 use Rattle.updater_row_law.specs.RowStages.{Changes}
 use Rattle.updater_row_law.specs.RowStages.{Stamps, Clears, Sweeps, Gone, HasStamp, IsUnworn, Frees, Counts}
 use Rattle.updater_row_law.specs.RowSteps.{RowStep}
-use Rattle.updater.specs.declared.taking.TakeTurn.{TakeTurn}
 use Rattle.updater.specs.declared.taking.Took.{Took}
 use Rattle.updater.specs.declared.taking.Took.TheVariants.{Taken}
 use Rattle.updater.specs.declared.terms.Terms.{Terms}
@@ -20,7 +19,7 @@ use Rattle.updater.specs.declared.terms.Found.{Found}
 use Rattle.updater.specs.declared.work.Work.{Work}
 use Rattle.updater.specs.declared.work.WorkAt.{WorkAt}
 use Rattle.updater.specs.declared.work.WorkAt.TheVariants as at
-use Rattle.updater.specs.Takings.{taking_from, taking_asks, taking_turned}
+use Rattle.updater.specs.Takings.{taking_asks, took_of}
 use Rattle.updater.specs.Works.{work_from, work_asks, work_turned, work_takes}
 
 abbrev pub row_terms : Terms → RowTerms
@@ -69,15 +68,14 @@ stage_after (Go work) = work_stage work
 stage_after (Done answer) = Resting
 
 -- where it has the lock, its work begins at the first line
-abbrev pub stage_taken : Turn TakeTurn Took → RowStage
-stage_taken (Done Taken) = Between 0
+abbrev pub stage_taken : Took → RowStage
+stage_taken Taken = Between 0
 stage_taken _ = Resting
 
 -- An attempt at the updater lock is a step, whatever it finds, and a turn's work begins where that leads.
 abbrev pub TakingsAreSteps : Type 0
 TakingsAreSteps = (terms : RowTerms) (x : ℕ) →
-    RowStep terms Resting (taking_asks (taking_from terms.layout)) x
-    (stage_taken (taking_turned (taking_from terms.layout) x))
+    RowStep terms Resting (taking_asks terms.layout) x (stage_taken (took_of x))
 
 abbrev pub WorksStart : Type 0
 WorksStart = (terms : Terms) →

@@ -21,7 +21,7 @@ use Rattle.updater.specs.declared.work.WorkAt.{WorkAt}
 use Rattle.updater.specs.declared.work.WorkAt.TheVariants as at
 use Rattle.updater.specs.Works.{IsWork, work_asks, work_turned, work_takes}
 use Rattle.updater.specs.Steps.{row_terms, line_of, target_of, work_stage, stage_after, stage_taken}
-use Rattle.updater.specs.Takings.{taking_from, taking_asks, taking_turned}
+use Rattle.updater.specs.Takings.{taking_asks, took_of}
 
 -- while it walks, what its walk relies on
 abbrev pub work_at_watching : WorkAt → Watching
@@ -80,8 +80,8 @@ turning_after terms (Done answer) = turning_at (row_terms terms) Resting Nothing
 -- So an attempt at the updater lock, and each turn of the work, is a step of the row and a watch at once.
 abbrev pub TakingsAreFeet : Type 0
 TakingsAreFeet = (terms : RowTerms) (x : ℕ) →
-    TurnFoot terms (turning_at terms Resting Nothing) (taking_asks (taking_from terms.layout)) x
-    (turning_at terms (stage_taken (taking_turned (taking_from terms.layout) x)) Nothing)
+    TurnFoot terms (turning_at terms Resting Nothing) (taking_asks terms.layout) x
+    (turning_at terms (stage_taken (took_of x)) Nothing)
 
 abbrev pub WorksAreFeet : Type 0
 WorksAreFeet = (work : Work) (x : ℕ) → work_takes work x →

@@ -1,6 +1,6 @@
 ghost use Rattle.std.specs.Prelude.{◌≡◌, ◌≤◌};
 
-use crate::taking::{TakeTurn, Took};
+use crate::taking::{Took, take_turn};
 use crate::terms::{Terms, Turned};
 use crate::work::Work;
 use pm_words::{Action, Layout, Machine, Memory, Steps, Turn};
@@ -39,7 +39,7 @@ impl Machine for MakeTurn {
 
     fn action(&self) -> Action {
         match self {
-            MakeTurn::Taking { terms } => TakeTurn::new(terms.layout).action(),
+            MakeTurn::Taking { .. } => take_turn(),
             MakeTurn::Working { work } => work.action(),
         }
     }
@@ -100,9 +100,9 @@ impl MakeTurn {
         match self {
             MakeTurn::Taking { terms } => {
                 let terms = *terms;
-                match TakeTurn::new(terms.layout).resume(got) {
-                    Turn::Done(Took::Held { word }) => return Some(TurnReply::Held { word }),
-                    _ => {
+                match Took::of(got) {
+                    Took::Held { word } => return Some(TurnReply::Held { word }),
+                    Took::Taken => {
                         *self = MakeTurn::Working {
                             work: Work::new(
                                 terms.layout,

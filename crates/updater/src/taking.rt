@@ -1,8 +1,10 @@
-ghost use Rattle.std.specs.Prelude.{◌≡◌, ◌^◌, ◌<◌};
+ghost use Rattle.std.specs.Prelude.{◌≡◌};
+ghost use Rattle.pm_words.specs.declared.layout.Layout.{Layout};
+ghost use Rattle.updater.specs.Takings.{taking_asks, took_of};
 
+use pm_words::Action;
 use pm_words::codes::updater_lock::{TAKEN, UNTAKEN};
 use pm_words::offsets::shared::UPDATER;
-use pm_words::{Action, Layout, Machine, Turn};
 
 /// How an attempt at the updater lock ended.
 #[derive(Clone, Copy, PartialEq, Eq, Debug)]
@@ -13,51 +15,22 @@ pub enum Took {
     Held { word: u64 },
 }
 
-/// It takes the updater lock by one exchange, if no party has it.
-#[derive(Clone, Copy)]
-pub struct TakeTurn {
-    pub layout: Layout,
+/// The exchange that takes the updater lock, if no party has it.
+pub fn take_turn() -> Action
+    ensures { (layout : Layout) → result ≡ taking_asks layout }
+{
+    Action::Exchange(UPDATER, UNTAKEN, TAKEN)
 }
 
-impl Machine for TakeTurn {
-    ghost use Rattle.updater.specs.Takings.{IsTakeTurn, taking_asks, taking_turned, taking_takes, taking_left};
-
-    type Answer = Took;
-
-    ghost fits = { IsTakeTurn };
-
-    ghost asks = { taking_asks };
-
-    ghost turned = { taking_turned };
-
-    ghost takes = { taking_takes };
-
-    ghost left = { taking_left };
-
-    fn action(&self) -> Action {
-        Action::Exchange(UPDATER, UNTAKEN, TAKEN)
-    }
-
-    fn resume(self, got: u64) -> Turn<TakeTurn, Took> {
-        Turn::Done(if got == UNTAKEN {
+impl Took {
+    /// How the attempt ended whose exchange found this word.
+    pub fn of(word: u64) -> Took
+        ensures { result ≡ took_of word }
+    {
+        if word == UNTAKEN {
             Took::Taken
         } else {
-            Took::Held { word: got }
-        })
-    }
-}
-
-impl TakeTurn {
-    ghost use Rattle.std.specs.Prelude.{◌≡◌};
-    ghost use Rattle.pm_words.specs.Layouts.{IsLayout};
-    ghost use Rattle.updater.specs.Takings.{IsTakeTurn, taking_from};
-
-    /// An attempt at the updater lock of this layout.
-    pub fn new(layout: Layout) -> TakeTurn
-        requires { IsLayout layout }
-        ensures new { result ≡ taking_from layout }
-        ensures sound { IsTakeTurn result }
-    {
-        TakeTurn { layout }
+            Took::Held { word }
+        }
     }
 }

@@ -4,7 +4,6 @@ use Rattle.pm_words.specs.Locations.{Updater, row_words, address_of}
 use Rattle.pm_words.specs.Rows.{given, action_address}
 use Rattle.pm_words.proofs.Apart.{addresses_within}
 use Rattle.updater.specs.Makings.{making_asks}
-use Rattle.updater.specs.Takings.{taking_asks, taking_from}
 use Rattle.epochs.specs.Kept.{first_epoch}
 use Rattle.pac_index.specs.declared.rule.About.{About}
 use Rattle.pac_index.specs.Kept.{May, party}
@@ -20,7 +19,7 @@ act-requires-clause-allowed g c =
     let t = s.table.shared in
     let v = party seat.me in
     let asks = making_asks (turn_in v first_epoch) in
-    let action : c.action.result ≡ asks = c.action.ensures ∙ ap taking_asks c.new.ensures.new ∙ ap (λ (b : About). taking_asks (taking_from b.layout)) (sym c.requires.about) in
+    let action : c.take_turn.result ≡ asks = c.take_turn.ensures v.about.layout in
     let within : address_of s.about.layout Updater < row_words s.about.layout = addresses_within s.about.layout Updater tt in
     let inside : action_address t.key.layout asks < t.table_id.words =
     inside_table s.about t.key t.table_id.words asks s.key s.words
@@ -35,7 +34,7 @@ returns g c =
     let told = c.act.ensures.told in
     let asks = making_asks (turn_in v first_epoch) in
     let got : c.act.result ≡ given asks told.found =
-    told.is ∙ ap (λ (a : Action). given a told.found) (c.action.ensures ∙ ap taking_asks c.new.ensures.new ∙ ap (λ (b : About). taking_asks (taking_from b.layout)) (sym c.requires.about)) in
+    told.is ∙ ap (λ (a : Action). given a told.found) (c.take_turn.ensures v.about.layout) in
     record {
       seat = c.act.ensures.seat;
       lone = told.heard.0;
