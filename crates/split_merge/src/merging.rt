@@ -102,24 +102,25 @@ impl Machine for Merge {
     ghost left = { merge_left };
 
     fn action(&self) -> Action {
-        let own = self.node;
-        match self.at {
-            MergeAt::Bitmap => Action::Load(self.address(own, node::BITMAP)),
-            MergeAt::Next { .. } => Action::Load(self.address(own, node::NEXT)),
+        match &self.at {
+            MergeAt::Bitmap => Action::Load(self.address(self.node, node::BITMAP)),
+            MergeAt::Next { .. } => Action::Load(self.address(self.node, node::NEXT)),
             MergeAt::Version { near } => Action::Load(self.address(near.right, node::VERSION)),
             MergeAt::Lock {
                 near,
                 version,
                 locked,
-            } => { Action::Exchange(self.address(near.right, node::VERSION), version, locked) }
-            MergeAt::Head { near, count, .. } => Action::Load(self.address(near.right, count)),
-            MergeAt::Prints { count, .. } => Action::Load(self.address(own, node::PRINTS + count)),
+            } => { Action::Exchange(self.address(near.right, node::VERSION), *version, *locked) }
+            MergeAt::Head { near, count, .. } => Action::Load(self.address(near.right, *count)),
+            MergeAt::Prints { count, .. } => {
+                Action::Load(self.address(self.node, node::PRINTS + *count))
+            }
             MergeAt::Join { join } => join.action(),
             MergeAt::Part { near, locked, .. } => {
-                Action::Store(self.address(near.right, node::VERSION), freed_of(locked))
+                Action::Store(self.address(near.right, node::VERSION), freed_of(*locked))
             }
             MergeAt::Leave { .. } => {
-                Action::Store(self.address(own, node::VERSION), freed_of(self.word))
+                Action::Store(self.address(self.node, node::VERSION), freed_of(self.word))
             }
         }
     }
