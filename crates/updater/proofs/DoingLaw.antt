@@ -4,9 +4,6 @@ use Rattle.pm_words.specs.declared.layout.Layout.{Layout}
 use Rattle.pm_words.specs.declared.action.Action.TheVariants.{Store}
 use Rattle.pm_words.specs.Codes.{empty_state}
 use Rattle.pm_words.specs.Offsets.{state_offset}
-use Rattle.data_list.specs.declared.walk.WalkAt.{WalkAt}
-use Rattle.data_list.specs.declared.walk.WalkAt.TheVariants as walk_at
-use Rattle.data_list.specs.Walks.{walk_at_asks}
 use Rattle.pm_alloc.specs.declared.gone.ReleaseAt.{ReleaseAt}
 use Rattle.pm_alloc.specs.declared.gone.ReleaseAt.TheVariants as release_at
 use Rattle.pm_alloc.specs.Gone.{stamp_address, release_at_asks}
@@ -19,20 +16,9 @@ use Rattle.updater.specs.declared.work.WorkAt.TheVariants as at
 use Rattle.updater.specs.Works.{work_at_asks, IsWorkAt}
 use Rattle.updater.specs.Events.{Heard, is_freed, HasHeard}
 use Rattle.updater.specs.Doings.{Does, loads, leads, stamps, empties, unstamps, frees, gives_back, WorksDo}
+use Rattle.updater.proofs.WalkLoads.{walk_place}
 
 module _ (t : Terms) (h : Heard) where
-  walk_loads : (l : Layout) (node : ℕ) (at : WalkAt) → Does t h (walk_at_asks l node at)
-  walk_loads l node walk_at.Version = loads
-  walk_loads l node (walk_at.Status version) = loads
-  walk_loads l node (walk_at.First version) = loads
-  walk_loads l node (walk_at.Second version first) = loads
-  walk_loads l node (walk_at.Third version first second) = loads
-  walk_loads l node (walk_at.Next version low) = loads
-  walk_loads l node (walk_at.HighFirst version low next) = loads
-  walk_loads l node (walk_at.HighSecond version low next first) = loads
-  walk_loads l node (walk_at.HighThird version low next first second) = loads
-  walk_loads l node walk_at.Prev = loads
-
   releases : (l : Layout) (node : ℕ) (at : ReleaseAt) → l ≡ t.layout → node < t.layout.nodes → is_freed t h node ≡ true → Does t h (release_at_asks l node at)
   releases l node release_at.Stamp same within is = subst (λ (k : Layout). Does t h (release_at_asks k node release_at.Stamp)) (sym same) (unstamps within is)
   releases l node release_at.Status same within is = subst (λ (k : Layout). Does t h (release_at_asks k node release_at.Status)) (sym same) (frees within is)
@@ -41,7 +27,7 @@ module _ (t : Terms) (h : Heard) where
   does_at tally (at.State line) here heard = loads
   does_at tally (at.Reading read) here heard = loads
   does_at tally (at.Landing line entry floor) here heard = loads
-  does_at tally (at.Walking line entry walk) here heard = walk_loads walk.layout walk.node walk.at
+  does_at tally (at.Walking line entry walk) here heard = let place = walk_place walk here.2.sound in subst (Does t h) (sym place.loads) loads
   does_at tally (at.Seeing line entry found) here heard = loads
   does_at tally (at.Setting line entry set) here heard = leads set.change here.0.within heard.1 here.3 (here.4 ∙ ap (λ (e : Entry). e.anchor) heard.2) heard.3
   does_at tally (at.Unsetting line entry unset) here heard = leads unset.change here.0.within heard.1 here.3 (here.4 ∙ ap (λ (e : Entry). e.anchor) heard.2) heard.3

@@ -51,27 +51,29 @@ changed_below work line entry =
       | false ↦ omega arith
     ]
 
+-- with a turn of its change of the layer it has less left, in whichever state it makes that
+changing_below : (work : Work) (line : ℕ) (entry : Entry) (left : ℕ) (after : Turn Change Ended → Work)
+    → ((next : Change) → work_left (after (Go next)) ≡ lines_left work.terms.layout line + 10 + change_left next)
+    → ((ended : Ended) → after (Done ended) ≡ on work (changed work.terms line entry))
+    → (t : Turn Change Ended) → GoesBelow change_left left t → work_left (after t) < lines_left work.terms.layout line + 10 + left
+changing_below work line entry left after goes ends (Go next) fewer = subst (λ n. n < lines_left work.terms.layout line + 10 + left) (sym (goes next)) (omega (arith, fewer))
+changing_below work line entry left after goes ends (Done ended) fewer =
+    let below = changed_below work line entry in
+    subst (λ (w : Work). work_left w < lines_left work.terms.layout line + 10 + left) (sym (ends ended)) (omega (arith, below))
+
 pub setting_fewer : (work : Work) (line : ℕ) (entry : Entry) (set : Set) (x : ℕ) → IsWork work → work.at ≡ at.Setting line entry set → x < 2 ^ 64
     → GoesBelow work_left (work_left work) (work_turned work x)
 setting_fewer work line entry set x is place fits =
-    let here = here_at work (at.Setting line entry set) is place in
-    let is_set : IsSet set = here.2 in
-    whole work (at.Setting line entry set) x place (below (change_turned set.change x) (change_fewer set.change x (is_set.change, fits)))
-  where
-    below : (t : Turn Change Ended) → GoesBelow change_left (set_left set) t → work_left (has_set work line entry (set_of t)) < work_at_left work.terms.layout (at.Setting line entry set)
-    below (Go next) fewer = omega (arith, fewer)
-    below (Done ended) fewer = let after = changed_below work line entry in omega (arith, after)
+    let is_set : IsSet set = (here_at work (at.Setting line entry set) is place).2 in
+    whole work (at.Setting line entry set) x place (changing_below work line entry (set_left set) (λ t. has_set work line entry (set_of t)) (λ next. refl) (λ ended. refl)
+    (change_turned set.change x) (change_fewer set.change x (is_set.change, fits)))
 
 pub unsetting_fewer : (work : Work) (line : ℕ) (entry : Entry) (unset : Unset) (x : ℕ) → IsWork work → work.at ≡ at.Unsetting line entry unset → x < 2 ^ 64
     → GoesBelow work_left (work_left work) (work_turned work x)
 unsetting_fewer work line entry unset x is place fits =
-    let here = here_at work (at.Unsetting line entry unset) is place in
-    let is_unset : IsUnset unset = here.2 in
-    whole work (at.Unsetting line entry unset) x place (below (change_turned unset.change x) (change_fewer unset.change x (is_unset.change, fits)))
-  where
-    below : (t : Turn Change Ended) → GoesBelow change_left (unset_left unset) t → work_left (has_unset work line entry (unset_of t)) < work_at_left work.terms.layout (at.Unsetting line entry unset)
-    below (Go next) fewer = omega (arith, fewer)
-    below (Done ended) fewer = let after = changed_below work line entry in omega (arith, after)
+    let is_unset : IsUnset unset = (here_at work (at.Unsetting line entry unset) is place).2 in
+    whole work (at.Unsetting line entry unset) x place (changing_below work line entry (unset_left unset) (λ t. has_unset work line entry (unset_of t)) (λ next. refl) (λ ended. refl)
+    (change_turned unset.change x) (change_fewer unset.change x (is_unset.change, fits)))
 
 pub status_fewer : (work : Work) (node x : ℕ) → work.at ≡ at.Status node
     → GoesBelow work_left (work_left work) (work_turned work x)

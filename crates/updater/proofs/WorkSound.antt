@@ -75,21 +75,18 @@ set_has P words offset x k within added before small =
       | inr apart ↦ subst P (sym (get_or-set_other words offset k x 0 apart)) (before (omega arith))
     ]
 
-first_fits : (x k : ℕ) → x < 2 ^ 64 → slice_index (x ∷ 0 ∷ 0 ∷ 0 ∷ 0 ∷ 0 ∷ 0 ∷ []) k < 2 ^ 64
-first_fits x zero fits = fits
-first_fits x (suc zero) fits = omega arith
-first_fits x (suc (suc zero)) fits = omega arith
-first_fits x (suc (suc (suc zero))) fits = omega arith
-first_fits x (suc (suc (suc (suc zero)))) fits = omega arith
-first_fits x (suc (suc (suc (suc (suc zero))))) fits = omega arith
-first_fits x (suc (suc (suc (suc (suc (suc zero)))))) fits = omega arith
-first_fits x (suc (suc (suc (suc (suc (suc (suc k))))))) fits = omega arith
+-- each of these words fits
+abbrev AllFit : List ℕ → Type 0
+AllFit [] = Unit {0}
+AllFit (x ∷ rest) = (x < 2 ^ 64) × AllFit rest
 
-three_fit : (a b c k : ℕ) → a < 2 ^ 64 → b < 2 ^ 64 → c < 2 ^ 64 → slice_index (a ∷ b ∷ c ∷ []) k < 2 ^ 64
-three_fit a b c zero one two three = one
-three_fit a b c (suc zero) one two three = two
-three_fit a b c (suc (suc zero)) one two three = three
-three_fit a b c (suc (suc (suc k))) one two three = omega arith
+fits_at : (words : List ℕ) → AllFit words → (k : ℕ) → slice_index words k < 2 ^ 64
+fits_at [] all k = omega arith
+fits_at (x ∷ rest) all zero = all.0
+fits_at (x ∷ rest) all (suc k) = fits_at rest all.1 k
+
+no_words : AllFit (0 ∷ 0 ∷ 0 ∷ 0 ∷ 0 ∷ 0 ∷ [])
+no_words = let none : 0 < 2 ^ 64 = omega arith in (none, (none, (none, (none, (none, (none, tt))))))
 
 -- a key whose first word isn't 0 isn't zero
 nonzero_key : (a b c : ℕ) → a ≢ 0 → key_of a b c ≢ 0
@@ -143,7 +140,7 @@ module _ (work : Work) (terms : IsTerms work.terms) where
             layout = refl;
             some = omega arith;
             size = refl;
-            fits = λ k. first_fits x k fits;
+            fits = fits_at (x ∷ 0 ∷ 0 ∷ 0 ∷ 0 ∷ 0 ∷ 0 ∷ []) (fits, no_words);
             node = λ more. absurd (let no : 2 < 1 = more in omega arith);
             named = λ more. absurd (let no : 3 < 1 = more in omega arith);
           },
@@ -179,7 +176,7 @@ module _ (work : Work) (terms : IsTerms work.terms) where
     entry_known : read.offset ≡ left_offset → IsEntry l (seen_in words).entry
     entry_known last = record {
       node = node_within (omega arith);
-      key = record { whole = refl; fits = λ k. three_fit (slice_index words anchor_offset) (slice_index words (anchor_offset + 1)) (slice_index words (anchor_offset + 2)) k (words_fit anchor_offset) (words_fit (anchor_offset + 1)) (words_fit (anchor_offset + 2)) };
+      key = record { whole = refl; fits = fits_at (slice_index words anchor_offset ∷ slice_index words (anchor_offset + 1) ∷ slice_index words (anchor_offset + 2) ∷ []) (words_fit anchor_offset, (words_fit (anchor_offset + 1), (words_fit (anchor_offset + 2), tt))) };
       named = nonzero_key (slice_index words anchor_offset) (slice_index words (anchor_offset + 1)) (slice_index words (anchor_offset + 2)) (first_some (omega arith));
     }
 
