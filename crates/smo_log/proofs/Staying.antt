@@ -13,11 +13,8 @@ use Rattle.smo_log.specs.Takes.{IsTake, take_asks, take_turned, take_held, TakeN
 use Rattle.smo_log.specs.Opens.{IsOpen, open_asks, open_turned, open_held, OpenNotes}
 use Rattle.smo_log.specs.States.{IsReady, ready_asks, ready_turned, ready_held, ReadyNotes}
 use Rattle.smo_log.specs.Reads.{IsRead, read_asks, read_turned, ReadNotes}
+pub use Rattle.smo_log.specs.Laws.{StaysSo}
 use Rattle.smo_log.proofs.LineLaw.{takes_are_notes, opens_are_notes, readies_are_notes, reads_are_notes}
-
-abbrev pub StaysSo : {M A : Type 0} → (M → Type 0) → Turn M A → Type 0
-StaysSo fits (Go machine) = fits machine
-StaysSo fits (Done answer) = Unit {0}
 
 abbrev pub turn_left : {M A : Type 0} → (M → ℕ) → Turn M A → ℕ
 turn_left left (Go machine) = left machine + 1

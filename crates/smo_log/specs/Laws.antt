@@ -74,3 +74,8 @@ ReadsHeed = (read : ReadLine) (told : ℕ → ℕ) → IsRead read → HasRead t
 abbrev pub NotesAreBeside : Type 0
 NotesAreBeside = (l : Layout) (line after : Option HeldLine) (action : Action) (x : ℕ) →
     IfSome line (λ e. (e.caller < l.callers) × (e.number < 8)) → Notes l line action x after → IsBeside l action
+
+-- A machine that goes on after a turn is one of which this holds.
+abbrev pub StaysSo : {M A : Type 0} → (M → Type 0) → Turn M A → Type 0
+StaysSo fits (Go machine) = fits machine
+StaysSo fits (Done answer) = Unit {0}

@@ -11,6 +11,7 @@ use Rattle.call_stages.specs.Kinds.{IsStill, MayMerge, Told, LeadsWithin}
 use Rattle.call_stages.specs.Footings.{Footing}
 use Rattle.permutation.specs.Sparing.{SparingStep}
 use Rattle.smo_log.specs.LogLines.{caller_of}
+use Rattle.smo_log.specs.Laws.{StaysSo}
 use Rattle.split_merge.specs.declared.uniting.Union.{Union}
 use Rattle.split_merge.specs.declared.joining.Join.{Join}
 use Rattle.split_merge.specs.declared.merging.Merge.{Merge}
@@ -80,8 +81,7 @@ MergesAreSteps = (merge : Merge) (h : Held) (answer : Once Placed) (x : ℕ) →
 
 -- A merge goes on as one whose fields keep the same.
 abbrev pub MergeStays : Merge → Turn Merge Merged → Type 0
-MergeStays merge (Go next) = IsMerge next × IsSameMerge merge next
-MergeStays merge (Done merged) = Unit {0}
+MergeStays merge = StaysSo (λ next. IsMerge next × IsSameMerge merge next)
 
 abbrev pub MergesStay : Type 0
 MergesStay = (merge : Merge) (x : ℕ) → merge_takes merge x → MergeStays merge (merge_turned merge x)

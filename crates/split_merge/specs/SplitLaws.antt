@@ -10,6 +10,7 @@ use Rattle.call_stages.specs.declared.once.Once.TheVariants as once
 use Rattle.call_stages.specs.Stages.{Held, Tells, Filling, Stage, Splits}
 use Rattle.call_stages.specs.Kinds.{Told, LeadsWithin}
 use Rattle.pm_alloc.specs.Laws.{MayClaim}
+use Rattle.smo_log.specs.Laws.{StaysSo}
 use Rattle.split_merge.specs.declared.splitting.Share.{Share}
 use Rattle.split_merge.specs.declared.splitting.Split.{Split}
 use Rattle.split_merge.specs.declared.splitting.SplitDone.{SplitDone}
@@ -66,8 +67,7 @@ SplitsAreSteps = (split : Split) (h : Held) (x : ℕ) → IsSplit split → MayB
 
 -- A split goes on as one whose fields keep the same.
 abbrev pub SplitStays : Split → Turn Split SplitDone → Type 0
-SplitStays split (Go next) = IsSplit next × IsSameSplit split next
-SplitStays split (Done answer) = Unit {0}
+SplitStays split = StaysSo (λ next. IsSplit next × IsSameSplit split next)
 
 abbrev pub SplitsStay : Type 0
 SplitsStay = (split : Split) (x : ℕ) → split_takes split x → SplitStays split (split_turned split x)
