@@ -187,10 +187,7 @@ module _ (machine : Open) (sound : IsOpen machine) where
   abbrev entry : Entry
   entry = machine.entry
 
-  abbrev Opened : HeldLine → Action → ℕ → Turn Open (Unit {0}) → Type 0
-  Opened = OpenNotes l number entry
-
-  on : (held : HeldLine) (action : Action) (x : ℕ) (at : OpenAt) → Notes l (Some held) action x (Some (open_at_held number entry at)) → IsOpenAt at → Opened held action x (opens_on machine at)
+  on : (held : HeldLine) (action : Action) (x : ℕ) (at : OpenAt) → Notes l (Some held) action x (Some (open_at_held number entry at)) → IsOpenAt at → OpenNotes l number entry held action x (opens_on machine at)
   on held action x at note is = (note, record { layout = sound.layout; line = sound.line; entry = sound.entry; here = is }, refl, refl, refl)
 
   field_fits : (n : ℕ) → field_of entry (suc n) < 2 ^ 64
@@ -226,17 +223,17 @@ module _ (machine : Open) (sound : IsOpen machine) where
       subst (λ k. Notes l (Some (filled_line number entry n)) (field_store n) x (Some (fenced false number ((state_offset, empty_state) ∷ fields entry k) fence_start))) last
       (notes (omega arith) (field_fits n) (fills (λ z. omega arith) refl (λ s told. told.0)) (last_soils n (omega arith)) (field_told n) (field_fit n))
 
-  at_field : (n x : ℕ) → suc n < 8 → Opened (filled_line number entry n) (field_store n) x (open_at_turned machine (open_at.Field (suc n)) x)
+  at_field : (n x : ℕ) → suc n < 8 → OpenNotes l number entry (filled_line number entry n) (field_store n) x (open_at_turned machine (open_at.Field (suc n)) x)
   at_field n x small =
-      elim (ltb (suc n + 1) 8) as (λ b. ltb (suc n + 1) 8 ≡ b → Opened (filled_line number entry n) (field_store n) x
+      elim (ltb (suc n + 1) 8) as (λ b. ltb (suc n + 1) 8 ≡ b → OpenNotes l number entry (filled_line number entry n) (field_store n) x
       (cond b (opens_on machine (open_at.Field (suc n + 1))) (opens_on machine (open_at.FenceFields fence_start)))) [
         | true ↦ λ more. let next : suc n + 1 ≡ suc (suc n) = omega arith in
-            subst (λ k. Opened (filled_line number entry n) (field_store n) x (opens_on machine (open_at.Field k))) (sym next)
+            subst (λ k. OpenNotes l number entry (filled_line number entry n) (field_store n) x (opens_on machine (open_at.Field k))) (sym next)
             (on (filled_line number entry n) (field_store n) x (open_at.Field (suc (suc n))) (field_note n x small) (omega arith, let small : suc n + 1 < 8 = ltb-true _ _ more in omega arith))
         | false ↦ λ last. on (filled_line number entry n) (field_store n) x (open_at.FenceFields fence_start) (last_note n x (let end : 8 ≤ suc n + 1 = ltb-false _ _ last in omega arith)) start_is
       ] refl
 
-  at_open : (x : ℕ) → Opened (settled false number ((state_offset, empty_state) ∷ fields entry 7)) (Store (numbered_address l number state_offset) open_state) x (opens_on machine (open_at.FenceState fence_start))
+  at_open : (x : ℕ) → OpenNotes l number entry (settled false number ((state_offset, empty_state) ∷ fields entry 7)) (Store (numbered_address l number state_offset) open_state) x (opens_on machine (open_at.FenceState fence_start))
   at_open x = on (settled false number ((state_offset, empty_state) ∷ fields entry 7)) (Store (numbered_address l number state_offset) open_state) x (open_at.FenceState fence_start)
       (notes (omega arith) (omega arith) (opens refl (λ s told. told.0)) (record { stored = inl (omega arith, omega arith); others = λ other among. absurd among })
       (λ s told. (updated-same s state_offset open_state, fields_stay entry 7 state_offset open_state s (λ k low high z. omega arith) told.1))
@@ -244,20 +241,20 @@ module _ (machine : Open) (sound : IsOpen machine) where
       (fields_stay entry 7 state_offset open_state s (λ k low high z. omega arith) (durable_fields entry 7 s told.1)))))
       start_is
 
-  open_leads : (at : OpenAt) (x : ℕ) → IsOpenAt at → x < 2 ^ 64 → Opened (open_at_held number entry at) (open_at_asks l number entry at) x (open_at_turned machine at x)
+  open_leads : (at : OpenAt) (x : ℕ) → IsOpenAt at → x < 2 ^ 64 → OpenNotes l number entry (open_at_held number entry at) (open_at_asks l number entry at) x (open_at_turned machine at x)
   open_leads (open_at.Field zero) x is fits = let low : 1 ≤ 0 = is.0 in absurd (omega arith)
   open_leads (open_at.Field (suc n)) x is fits = at_field n x is.1
   open_leads (open_at.FenceFields fence) x is fits = after (fence_next fence x) (fence_leads l false number ((state_offset, empty_state) ∷ fields entry 7) fence x (λ e. cc) is fits)
     where
       after : (next : Option Fence) → Fences l false number ((state_offset, empty_state) ∷ fields entry 7) (fence_asks (numbered_address l number fence.word) fence) x fence next
-          → Opened (fenced false number ((state_offset, empty_state) ∷ fields entry 7) fence) (fence_asks (numbered_address l number fence.word) fence) x (fields_fenced machine next)
+          → OpenNotes l number entry (fenced false number ((state_offset, empty_state) ∷ fields entry 7) fence) (fence_asks (numbered_address l number fence.word) fence) x (fields_fenced machine next)
       after (Some next) leads = on (fenced false number ((state_offset, empty_state) ∷ fields entry 7) fence) (fence_asks (numbered_address l number fence.word) fence) x (open_at.FenceFields next) leads.0 leads.1
       after None leads = on (fenced false number ((state_offset, empty_state) ∷ fields entry 7) fence) (fence_asks (numbered_address l number fence.word) fence) x open_at.State leads tt
   open_leads open_at.State x is fits = at_open x
   open_leads (open_at.FenceState fence) x is fits = after (fence_next fence x) (fence_leads l false number ((state_offset, open_state) ∷ fields entry 7) fence x (λ e. cc) is fits)
     where
       after : (next : Option Fence) → Fences l false number ((state_offset, open_state) ∷ fields entry 7) (fence_asks (numbered_address l number fence.word) fence) x fence next
-          → Opened (fenced false number ((state_offset, open_state) ∷ fields entry 7) fence) (fence_asks (numbered_address l number fence.word) fence) x (state_fenced machine next)
+          → OpenNotes l number entry (fenced false number ((state_offset, open_state) ∷ fields entry 7) fence) (fence_asks (numbered_address l number fence.word) fence) x (state_fenced machine next)
       after (Some next) leads = on (fenced false number ((state_offset, open_state) ∷ fields entry 7) fence) (fence_asks (numbered_address l number fence.word) fence) x (open_at.FenceState next) leads.0 leads.1
       after None leads = leads
 

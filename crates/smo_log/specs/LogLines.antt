@@ -1,12 +1,14 @@
 -- Log lines by their numbers, and what they say.
 use Rattle.std.specs.Prelude.{◌≡◌, ℕ, ◌+◌, zero, suc, ◌-◌, ◌/◌, ◌%◌, ◌<◌, ◌≤◌, ◌==◌, ◌⊎◌, if◌then◌else◌, Bool, true, false}
 use Rattle.std.specs.Prelude.{List, [], ◌∷◌}
-use Rattle.std.specs.Prelude.{slice_index, None}
+use Rattle.std.specs.Prelude.{slice_index, Option, Some, None}
 use Rattle.pm_words.specs.declared.layout.Layout.{Layout}
 use Rattle.cat_key.specs.Names.{IsName, words_of}
 use Rattle.call_stages.specs.Lines.{HeldLine, line_address}
 use Rattle.smo_log.specs.declared.line.Entry.{Entry}
 use Rattle.pm_words.specs.declared.fence.Fence.{Fence}
+use Rattle.pm_words.specs.declared.machine.Turn.{Turn}
+use Rattle.pm_words.specs.declared.machine.Turn.TheVariants.{Go}
 use Rattle.pm_words.specs.Fences.{hand_of}
 use Rattle.pm_words.specs.Codes.{merge_kind, split_kind, empty_state, open_state}
 use Rattle.pm_words.specs.Offsets.{anchor_offset, state_offset, kind_offset, line_node_offset, left_offset}
@@ -78,3 +80,8 @@ open_line line entry = settled false line ((state_offset, open_state) ∷ fields
 
 abbrev pub ready_line : ℕ → Entry → HeldLine
 ready_line line entry = settled true line (fields entry 7)
+
+-- After a turn of a fence it goes on with that, or so, where it is done.
+abbrev pub fenced_to : {M A : Type 0} → (Fence → M) → Turn M A → Option Fence → Turn M A
+fenced_to goes done (Some fence) = Go (goes fence)
+fenced_to goes done None = done

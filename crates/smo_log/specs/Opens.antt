@@ -19,7 +19,7 @@ use Rattle.pm_words.specs.Fences.{fence_start, IsFence, fence_asks, fence_next, 
 use Rattle.pm_words.specs.Codes.{open_state, empty_state}
 use Rattle.pm_words.specs.Offsets.{state_offset, kind_offset}
 use Rattle.smo_log.specs.LogLines.{caller_of, index_of, numbered_address, field_of, IsEntryOf, fields, settled, fenced}
-use Rattle.smo_log.specs.LogLines.{open_line}
+use Rattle.smo_log.specs.LogLines.{open_line, fenced_to}
 
 abbrev pub open_from : Layout → ℕ → Entry → Open
 open_from layout line entry = record { layout = layout; line = line; entry = entry; at = at.Field kind_offset }
@@ -39,12 +39,10 @@ opens_on open_ at = Go (record open_ { at = at })
 
 -- the fields are durable once the fence is done
 abbrev pub fields_fenced : Open → Option Fence → Turn Open (Unit {0})
-fields_fenced open_ (Some fence) = opens_on open_ (at.FenceFields fence)
-fields_fenced open_ None = opens_on open_ at.State
+fields_fenced open_ = fenced_to (λ fence. record open_ { at = at.FenceFields fence }) (opens_on open_ at.State)
 
 abbrev pub state_fenced : Open → Option Fence → Turn Open (Unit {0})
-state_fenced open_ (Some fence) = opens_on open_ (at.FenceState fence)
-state_fenced open_ None = Done tt
+state_fenced open_ = fenced_to (λ fence. record open_ { at = at.FenceState fence }) (Done tt)
 
 abbrev pub open_at_turned : Open → OpenAt → ℕ → Turn Open (Unit {0})
 open_at_turned open_ (at.Field offset) got =

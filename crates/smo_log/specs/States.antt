@@ -16,7 +16,7 @@ use Rattle.smo_log.specs.declared.state.Clear.{Clear}
 use Rattle.pm_words.specs.Fences.{fence_start, IsFence, fence_asks, fence_next, fence_left}
 use Rattle.pm_words.specs.Codes.{empty_state, ready_state}
 use Rattle.pm_words.specs.Offsets.{state_offset}
-use Rattle.smo_log.specs.LogLines.{numbered_address, fields, fenced, open_line, ready_line}
+use Rattle.smo_log.specs.LogLines.{numbered_address, fields, fenced, fenced_to, open_line, ready_line}
 
 abbrev pub ready_from : Layout → ℕ → Ready
 ready_from layout line = record { layout = layout; line = line; at = at.State }
@@ -33,8 +33,7 @@ abbrev pub readies_on : Ready → ReadyAt → Turn Ready (Unit {0})
 readies_on ready at = Go (record ready { at = at })
 
 abbrev pub ready_fenced : Ready → Option Fence → Turn Ready (Unit {0})
-ready_fenced ready (Some fence) = readies_on ready (at.Fence fence)
-ready_fenced ready None = Done tt
+ready_fenced ready = fenced_to (λ fence. record ready { at = at.Fence fence }) (Done tt)
 
 abbrev pub ready_at_turned : Ready → ReadyAt → ℕ → Turn Ready (Unit {0})
 ready_at_turned ready at.State got = readies_on ready (at.Fence fence_start)

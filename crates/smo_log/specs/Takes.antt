@@ -18,7 +18,7 @@ use Rattle.smo_log.specs.declared.take.TakeAt.TheVariants as at
 use Rattle.pm_words.specs.Fences.{fence_start, IsFence, fence_asks, fence_next, fence_left}
 use Rattle.pm_words.specs.Codes.{empty_state}
 use Rattle.pm_words.specs.Offsets.{state_offset}
-use Rattle.smo_log.specs.LogLines.{caller_of, numbered_address, fenced, empty_line}
+use Rattle.smo_log.specs.LogLines.{caller_of, numbered_address, fenced, fenced_to, empty_line}
 
 abbrev pub take_from : Layout → ℕ → Take
 take_from layout caller = record { layout = layout; caller = caller; index = 0; at = at.State }
@@ -44,8 +44,7 @@ saw_state take state =
     else (if nat_lt (take.index + 1) LOG_LINES then Go (record take { index = take.index + 1 }) else Done Full)
 
 abbrev pub take_fenced : Take → Option Fence → Turn Take Taken
-take_fenced take (Some fence) = takes_on take (at.Fence fence)
-take_fenced take None = Done (Line (take_line take))
+take_fenced take = fenced_to (λ fence. record take { at = at.Fence fence }) (Done (Line (take_line take)))
 
 abbrev pub take_at_turned : Take → TakeAt → ℕ → Turn Take Taken
 take_at_turned take at.State got = saw_state take got
