@@ -13,8 +13,8 @@ use Rattle.updater_row_law.specs.tree_update.specs.declared.change.Change.{Chang
 use Rattle.updater_row_law.specs.tree_update.specs.declared.change.Ended.{Ended}
 use Rattle.updater_row_law.specs.tree_update.specs.declared.set.Set.{Set}
 use Rattle.updater_row_law.specs.tree_update.specs.declared.set.Unset.{Unset}
-use Rattle.updater_row_law.specs.tree_update.specs.Changes.{change_left, change_turned}
-use Rattle.updater_row_law.specs.tree_update.specs.Sets.{IsSet, IsUnset, set_of, set_left, unset_of, unset_left}
+use Rattle.updater_row_law.specs.tree_update.specs.Changes.{IsChange, change_left, change_turned}
+use Rattle.updater_row_law.specs.tree_update.specs.Sets.{set_of, unset_of}
 use Rattle.updater_row_law.specs.tree_update.proofs.ChangeStays.{change_fewer}
 use Rattle.smo_log.specs.declared.line.Entry.{Entry}
 use Rattle.updater.specs.declared.work.Work.{Work}
@@ -52,28 +52,29 @@ changed_below work line entry =
     ]
 
 -- with a turn of its change of the layer it has less left, in whichever state it makes that
-changing_below : (work : Work) (line : ℕ) (entry : Entry) (left : ℕ) (after : Turn Change Ended → Work)
+changing_fewer : (work : Work) (line : ℕ) (entry : Entry) (change : Change) (x : ℕ) (after : Turn Change Ended → Work)
     → ((next : Change) → work_left (after (Go next)) ≡ lines_left work.terms.layout line + 10 + change_left next)
-    → ((ended : Ended) → after (Done ended) ≡ on work (changed work.terms line entry))
-    → (t : Turn Change Ended) → GoesBelow change_left left t → work_left (after t) < lines_left work.terms.layout line + 10 + left
-changing_below work line entry left after goes ends (Go next) fewer = subst (λ n. n < lines_left work.terms.layout line + 10 + left) (sym (goes next)) (omega (arith, fewer))
-changing_below work line entry left after goes ends (Done ended) fewer =
-    let below = changed_below work line entry in
-    subst (λ (w : Work). work_left w < lines_left work.terms.layout line + 10 + left) (sym (ends ended)) (omega (arith, below))
+    → ((ended : Ended) → after (Done ended) ≡ on work (changed work.terms line entry)) → IsChange change → x < 2 ^ 64
+    → work_left (after (change_turned change x)) < lines_left work.terms.layout line + 10 + change_left change
+changing_fewer work line entry change x after goes ends sound fits = below (change_turned change x) (change_fewer change x (sound, fits))
+  where
+    below : (t : Turn Change Ended) → GoesBelow change_left (change_left change) t → work_left (after t) < lines_left work.terms.layout line + 10 + change_left change
+    below (Go next) fewer = subst (λ n. n < lines_left work.terms.layout line + 10 + change_left change) (sym (goes next)) (omega (arith, fewer))
+    below (Done ended) fewer =
+        let less = changed_below work line entry in
+        subst (λ (w : Work). work_left w < lines_left work.terms.layout line + 10 + change_left change) (sym (ends ended)) (omega (arith, less))
 
 pub setting_fewer : (work : Work) (line : ℕ) (entry : Entry) (set : Set) (x : ℕ) → IsWork work → work.at ≡ at.Setting line entry set → x < 2 ^ 64
     → GoesBelow work_left (work_left work) (work_turned work x)
 setting_fewer work line entry set x is place fits =
-    let is_set : IsSet set = (here_at work (at.Setting line entry set) is place).2 in
-    whole work (at.Setting line entry set) x place (changing_below work line entry (set_left set) (λ t. has_set work line entry (set_of t)) (λ next. refl) (λ ended. refl)
-    (change_turned set.change x) (change_fewer set.change x (is_set.change, fits)))
+    whole work (at.Setting line entry set) x place
+    (changing_fewer work line entry set.change x (λ t. has_set work line entry (set_of t)) (λ next. refl) (λ ended. refl) (here_at work (at.Setting line entry set) is place).2.change fits)
 
 pub unsetting_fewer : (work : Work) (line : ℕ) (entry : Entry) (unset : Unset) (x : ℕ) → IsWork work → work.at ≡ at.Unsetting line entry unset → x < 2 ^ 64
     → GoesBelow work_left (work_left work) (work_turned work x)
 unsetting_fewer work line entry unset x is place fits =
-    let is_unset : IsUnset unset = (here_at work (at.Unsetting line entry unset) is place).2 in
-    whole work (at.Unsetting line entry unset) x place (changing_below work line entry (unset_left unset) (λ t. has_unset work line entry (unset_of t)) (λ next. refl) (λ ended. refl)
-    (change_turned unset.change x) (change_fewer unset.change x (is_unset.change, fits)))
+    whole work (at.Unsetting line entry unset) x place
+    (changing_fewer work line entry unset.change x (λ t. has_unset work line entry (unset_of t)) (λ next. refl) (λ ended. refl) (here_at work (at.Unsetting line entry unset) is place).2.change fits)
 
 pub status_fewer : (work : Work) (node x : ℕ) → work.at ≡ at.Status node
     → GoesBelow work_left (work_left work) (work_turned work x)
