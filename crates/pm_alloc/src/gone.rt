@@ -52,16 +52,11 @@ impl Machine for Release {
     ghost left = { release_left };
 
     fn action(&self) -> Action {
-        match self.at {
-            ReleaseAt::Stamp => Action::Store(
-                self.layout.node_volatile(self.node, volatile::STAMP),
-                NO_STAMP,
-            ),
-            ReleaseAt::Status => Action::Store(
-                self.layout.node_volatile(self.node, volatile::STATUS),
-                FREE,
-            ),
-        }
+        let (offset, value) = match self.at {
+            ReleaseAt::Stamp => (volatile::STAMP, NO_STAMP),
+            ReleaseAt::Status => (volatile::STATUS, FREE),
+        };
+        Action::Store(self.layout.node_volatile(self.node, offset), value)
     }
 
     fn resume(self, _got: u64) -> Turn<Release, ()> {
