@@ -287,7 +287,7 @@ split_told split (split_at.Read share full count) told x here has =
     ]
 split_told split (split_at.Move moving) told x here has = on (move_turned moving x)
   where
-    on : (turn : Turn Move (Unit {0})) → SplitTold split.view.layout split.view.generation (told ++ x ∷ []) (moved split moving.plan.fresh turn)
+    on : (turn : Turn Move (Unit {0})) → SplitTold split.view.layout split.view.generation (told ++ x ∷ []) (moved split moving.plan.share.fresh turn)
     on (Go moving) = tt
     on (Done nothing) = tt
 split_told split (split_at.Refuse next why) told x here has = longer split.view.layout split.view.generation told x why has

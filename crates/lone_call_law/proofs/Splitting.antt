@@ -252,7 +252,7 @@ module _ (split : Split) (sound : IsSplit split) (words0 words : List ℕ) (read
       elim (ltb (count + 1) (word_count split.view)) as (λ b. Goes now (cond b (splits_on split (at.Read share read (count + 1))) (splits_on split (at.Move (move_from (plan_of split share read)))))) [ true ↦ stands | false ↦ stands ]
   splits_there (at.Move moving) is stands tells mine loads = moved_on (move_turned moving x)
     where
-      moved_on : (turn : Turn Move (Unit {0})) → Goes (acted layout words (move_asks moving)) (moved split moving.plan.fresh turn)
+      moved_on : (turn : Turn Move (Unit {0})) → Goes (acted layout words (move_asks moving)) (moved split moving.plan.share.fresh turn)
       moved_on (Go moving') = stands
       moved_on (Done nothing) = stands
   splits_there (at.Refuse next why) is stands tells mine loads = (stored_unmoved layout words0 words n (w + 1) sound.node stands.0, stands.1)

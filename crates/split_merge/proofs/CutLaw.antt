@@ -484,9 +484,9 @@ module _ (plan : Plan) (sound : IsPlan plan) (is : IsHalf plan) (words : AreWord
       cut = λ range s t m told fresh means stays.
           cut s (row s told) range m (all_live s (bits_told s told)) means t fresh stays (fresh.0 ∙ word_next plan ∙ sym (rest s told).0);
       linked = λ s told.
-          tells_row f 8 (8 + 4 * slots) ((bitmap_offset, bitmap_in h.known.seen) ∷ []) (updated s next_offset plan.fresh)
-          (λ k within. updated-other s next_offset plan.fresh (8 + k) (λ e. omega arith) ∙ row s told k within)
-          (updated-other s next_offset plan.fresh bitmap_offset (λ e. omega arith) ∙ bits_told s told, tt);
+          tells_row f 8 (8 + 4 * slots) ((bitmap_offset, bitmap_in h.known.seen) ∷ []) (updated s next_offset plan.share.fresh)
+          (λ k within. updated-other s next_offset plan.share.fresh (8 + k) (λ e. omega arith) ∙ row s told k within)
+          (updated-other s next_offset plan.share.fresh bitmap_offset (λ e. omega arith) ∙ bits_told s told, tt);
       trims = λ range s m told means stays.
           let same = told_at f 8 (8 + 4 * slots) ((bitmap_offset, bitmap_in h.known.seen) ∷ []) s told in
           let full = all_live s (told_past f 8 (8 + 4 * slots) ((bitmap_offset, bitmap_in h.known.seen) ∷ []) s told).0 in

@@ -72,11 +72,11 @@ module _ (split : Split) (sound : IsSplit split) (heard : SplitHeard) where
       of (Done was.NoFree) heeds = (some, heeds)
       of (Done (was.Again why)) heeds = refused why some heeds
 
-  at_move : (moving : Move) (x : ℕ) → IsMove moving → x < 2 ^ 64 → SplitTells split.view heard (answer.Done moving.plan.fresh) → Heed (moved split moving.plan.fresh (move_turned moving x))
+  at_move : (moving : Move) (x : ℕ) → IsMove moving → x < 2 ^ 64 → SplitTells split.view heard (answer.Done moving.plan.share.fresh) → Heed (moved split moving.plan.share.fresh (move_turned moving x))
   at_move moving x is fits has = of (move_turned moving x) (move_goes_on moving x is fits)
     where
-      of : (turn : Turn Move (Unit {0})) → StaysSo (λ next. IsMove next × (next.plan ≡ moving.plan)) turn → Heed (moved split moving.plan.fresh turn)
-      of (Go moving') stays = subst (λ n. SplitTells split.view heard (answer.Done n)) (sym (ap (λ (p : Plan). p.fresh) stays.1)) has
+      of : (turn : Turn Move (Unit {0})) → StaysSo (λ next. IsMove next × (next.plan ≡ moving.plan)) turn → Heed (moved split moving.plan.share.fresh turn)
+      of (Go moving') stays = subst (λ n. SplitTells split.view heard (answer.Done n)) (sym (ap (λ (p : Plan). p.share.fresh) stays.1)) has
       of (Done nothing) stays = has
 
   -- a look for a line begins with none loaded

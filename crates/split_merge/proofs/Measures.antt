@@ -15,7 +15,7 @@ pub fresh_fewer : (move : Move) (first : ℕ) (fence : Fence) (x : ℕ) → firs
     → GoesBelow {A = Unit {0}} move_left (3 * (272 - first) + fence_at_left fence.word fence.at + 160) (moves_on move (after_fence move.plan first (fence_next fence x)))
 fresh_fewer move first fence x inside most is = fence_goes (λ (next : Option Fence). GoesBelow {A = Unit {0}} move_left (3 * (272 - first) + fence_left fence + 160) (moves_on move (after_fence move.plan first next))) fence x is
     (λ next fewer fits. omega (arith, fewer))
-    (λ some. line_ends (filled_end move.plan) first (at.FenceFresh (first + 8) fence_start) (at.Open (record { layout = move.plan.layout; line = move.plan.line; entry = entry_in move.plan; at = open_at.Field kind_offset }))
+    (λ some. line_ends (filled_end move.plan) first (at.FenceFresh (first + 8) fence_start) (at.Open (record { layout = move.plan.layout; line = move.plan.share.line; entry = entry_in move.plan; at = open_at.Field kind_offset }))
     (λ to. GoesBelow {A = Unit {0}} move_left (3 * (272 - first) + fence_left fence + 160) (moves_on move to)) (λ below. omega (arith, some, below, most)) (λ past. omega arith))
 
 pub switch_fewer : (move : Move) (fence : Fence) (x : ℕ) → IsFence fence

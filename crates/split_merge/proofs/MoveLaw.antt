@@ -97,7 +97,7 @@ module _ (move : Move) (sound : IsMove move) (g : ℕ) (known : Known) (cuts : C
   abbrev footing : MoveAt → Footing
   footing at = record { stage = move_at_stage plan known at; line = move_at_line plan at; debt = move_at_debt plan at }
 
-  on : (before : Footing) (action : Action) (x : ℕ) (at : MoveAt) → SparingStep l g (caller_of plan.line) before action x (footing at) None → IsMoveAt plan at → Leads_to before action x (moves_on move at)
+  on : (before : Footing) (action : Action) (x : ℕ) (at : MoveAt) → SparingStep l g (caller_of plan.share.line) before action x (footing at) None → IsMoveAt plan at → Leads_to before action x (moves_on move at)
   on before action x at step here = (step, record { plan = sound.plan; here = here }, refl)
 
   sizes : (2 ≤ moved_in plan) × (moved_in plan ≤ 32) × (filled_end plan ≤ 16 + 4 * l.slots) × (print_count plan ≤ 8)
@@ -231,22 +231,22 @@ module _ (move : Move) (sound : IsMove move) (g : ℕ) (known : Known) (cuts : C
   deals_fencing dirty dirty' hand hand' =
       deals_on (full_left plan known) (fresh_of plan (fresh_seen plan) dirty hand) (full_left plan known) (fresh_of plan (fresh_seen plan) dirty' hand') (Filling false) (Filling false) no_debt (λ e e'. cc) tt tt
 
-  open_is : IsOpen (record { layout = plan.layout; line = plan.line; entry = entry_in plan; at = open_at.Field kind_offset })
+  open_is : IsOpen (record { layout = plan.layout; line = plan.share.line; entry = entry_in plan; at = open_at.Field kind_offset })
   open_is = record { layout = sound.plan.layout; line = sound.plan.line; entry = sound.plan.entry; here = (omega arith, omega arith) }
 
   at_fence_fresh : (first : ℕ) (fence : Fence) (x : ℕ) → first < filled_end plan → first % 8 ≡ 0 → IsFence fence → x < 2 ^ 64
-      → Leads_to (footing (at.FenceFresh first fence)) (fence_asks (word_address l plan.fresh (first + fence.word)) fence) x (moves_on move (after_fence plan first (fence_next fence x)))
+      → Leads_to (footing (at.FenceFresh first fence)) (fence_asks (word_address l plan.share.fresh (first + fence.word)) fence) x (moves_on move (after_fence plan first (fence_next fence x)))
   at_fence_fresh first fence x inside whole is fits =
-      each_turn_of (filled_end plan) first (λ word. word_address l plan.fresh (first + word)) (after_fence plan first) (at.FenceFresh (first + 8) fence_start) (at.Open (record { layout = plan.layout; line = plan.line; entry = entry_in plan; at = open_at.Field kind_offset }))
+      each_turn_of (filled_end plan) first (λ word. word_address l plan.share.fresh (first + word)) (after_fence plan first) (at.FenceFresh (first + 8) fence_start) (at.Open (record { layout = plan.layout; line = plan.share.line; entry = entry_in plan; at = open_at.Field kind_offset }))
       (λ before action to. Leads_to (footing (at.FenceFresh first before)) action x (moves_on move to)) fence x is fits refl
-      (λ word small. on (before word fence_at.Load) (Load (word_address l plan.fresh (first + word))) x (at.FenceFresh first (record { word = word; at = fence_at.Drain x }))
+      (λ word small. on (before word fence_at.Load) (Load (word_address l plan.share.fresh (first + word))) x (at.FenceFresh first (record { word = word; at = fence_at.Drain x }))
       (on_nodes tt (inl refl) (splits (glances_fresh (within word small))) (deals_fencing (rest word) (rest word) None (Some (first + word, x)))) (inside, whole, record { word = small; value = fits }))
-      (λ word y more value cleans. on (before word (fence_at.Drain y)) (Drain (word_address l plan.fresh (first + word)) y) x (at.FenceFresh first (record { word = word + 1; at = fence_at.Load }))
+      (λ word y more value cleans. on (before word (fence_at.Drain y)) (Drain (word_address l plan.share.fresh (first + word)) y) x (at.FenceFresh first (record { word = word + 1; at = fence_at.Load }))
       (on_nodes tt (inl refl) (splits (drains_fresh (within word (omega arith)) value refl cleans)) (deals_fencing (rest word) (rest (word + 1)) (Some (first + word, y)) None)) (inside, whole, record { word = more; value = tt }))
-      (λ word y small value another cleans. on (before word (fence_at.Drain y)) (Drain (word_address l plan.fresh (first + word)) y) x (at.FenceFresh (first + 8) fence_start)
+      (λ word y small value another cleans. on (before word (fence_at.Drain y)) (Drain (word_address l plan.share.fresh (first + word)) y) x (at.FenceFresh (first + 8) fence_start)
       (on_nodes tt (inl refl) (splits (drains_fresh (within word small) value refl cleans)) (deals_fencing (rest word) ((first + 8 + 0, filled_end plan - (first + 8 + 0)) ∷ []) (Some (first + word, y)) None))
       (another, omega arith, record { word = omega arith; value = tt }))
-      (λ word y small value cleans. on (before word (fence_at.Drain y)) (Drain (word_address l plan.fresh (first + word)) y) x (at.Open (record { layout = plan.layout; line = plan.line; entry = entry_in plan; at = open_at.Field kind_offset }))
+      (λ word y small value cleans. on (before word (fence_at.Drain y)) (Drain (word_address l plan.share.fresh (first + word)) y) x (at.Open (record { layout = plan.layout; line = plan.share.line; entry = entry_in plan; at = open_at.Field kind_offset }))
       (on_nodes tt (inl refl) (splits (drains_fresh (within word small) value refl cleans)) (deals_fencing (rest word) [] (Some (first + word, y)) None)) (open_is, refl, refl, refl))
     where
       before : ℕ → FenceAt → Footing
@@ -256,16 +256,16 @@ module _ (move : Move) (sound : IsMove move) (g : ℕ) (known : Known) (cuts : C
       rest : ℕ → List (ℕ × ℕ)
       rest word = (first + word, filled_end plan - (first + word)) ∷ []
 
-      within : (word : ℕ) → word < 8 → HasWordAt l plan.fresh (first + word)
+      within : (word : ℕ) → word < 8 → HasWordAt l plan.share.fresh (first + word)
       within word small =
           let even : l.slots % 2 ≡ 0 = sound.plan.layout.slots.2 in
           let low : 4 ≤ l.slots = sound.plan.layout.slots.0 in
           (sound.plan.fresh, omega arith)
 
-  at_open : (machine : Open) (x : ℕ) → IsOpen machine → machine.layout ≡ l → machine.line ≡ plan.line → machine.entry ≡ entry_in plan → x < 2 ^ 64
+  at_open : (machine : Open) (x : ℕ) → IsOpen machine → machine.layout ≡ l → machine.line ≡ plan.share.line → machine.entry ≡ entry_in plan → x < 2 ^ 64
       → Leads_to (footing (at.Open machine)) (open_asks machine) x (opened move (open_turned machine x))
   at_open machine x is layout line entry fits =
-      opens_lead l g (filled plan known false) no_debt plan.line (entry_in plan) refl (λ turn. Leads_to (footing (at.Open machine)) (open_asks machine) x (opened move turn)) machine x is layout line entry fits
+      opens_lead l g (filled plan known false) no_debt plan.share.line (entry_in plan) refl (λ turn. Leads_to (footing (at.Open machine)) (open_asks machine) x (opened move turn)) machine x is layout line entry fits
       (λ next step here. on (footing (at.Open machine)) (open_asks machine) x (at.Open next) step here) (λ step nothing. on (footing (at.Open machine)) (open_asks machine) x at.Prev step tt)
 
   at_prev : (x : ℕ) → Leads_to (footing at.Prev) (move_at_asks plan at.Prev) x (moves_on move at.Light)
@@ -284,7 +284,7 @@ module _ (move : Move) (sound : IsMove move) (g : ℕ) (known : Known) (cuts : C
   at_switch : (x : ℕ) → Leads_to (footing at.Switch) (move_at_asks plan at.Switch) x (moves_on move (at.FenceSwitch fence_start))
   at_switch x = on (footing at.Switch) (move_at_asks plan at.Switch) x (at.FenceSwitch fence_start)
       (on_nodes (record { unready = refl; durable = refl; open_state = λ s told. told.0; anchor = line_anchored }) (inl refl)
-      (splits (switches sound.plan.node (let small : plan.fresh < l.nodes = sound.plan.fresh in let most : l.nodes ≤ 4096 = sound.plan.layout.nodes.1 in omega arith) refl (inl (omega arith, omega arith)) cuts.cut cuts.linked (λ range s m means. means_beside l.slots range s (updated s next_offset plan.fresh) m (λ other apart. updated-other s next_offset plan.fresh other apart) means)))
+      (splits (switches sound.plan.node (let small : plan.share.fresh < l.nodes = sound.plan.fresh in let most : l.nodes ≤ 4096 = sound.plan.layout.nodes.1 in omega arith) refl (inl (omega arith, omega arith)) cuts.cut cuts.linked (λ range s m means. means_beside l.slots range s (updated s next_offset plan.share.fresh) m (λ other apart. updated-other s next_offset plan.share.fresh other apart) means)))
       (deals_switch refl refl refl)) (record { word = omega arith; value = tt })
 
   at_next_prev : (x : ℕ) → next_in plan ≢ 0 → Leads_to (footing at.NextPrev) (move_at_asks plan at.NextPrev) x (moves_on move at.Trim)
@@ -330,7 +330,7 @@ module _ (move : Move) (sound : IsMove move) (g : ℕ) (known : Known) (cuts : C
   has_left word small = (sound.plan.node, omega arith)
 
   abbrev linked_on : List (ℕ × ℕ) → List (ℕ × ℕ) → Option (ℕ × ℕ) → Phase → Debt → Footing
-  linked_on seen dirty hand phase d = record { stage = linked plan known seen dirty hand phase; line = Some (open_line plan.line (entry_in plan)); debt = d }
+  linked_on seen dirty hand phase d = record { stage = linked plan known seen dirty hand phase; line = Some (open_line plan.share.line (entry_in plan)); debt = d }
 
   at_fence_left : (to : Option Fence → MoveAt) (seen : List (ℕ × ℕ)) (phase : Phase) (d : Debt) (fence : Fence) (x : ℕ) → IsFence fence → x < 2 ^ 64 → (phase ≡ Filling true → phase ≡ Linked → ⊥)
       → IfSome d.known (λ k. HoldsNode (Splits (grip seen [] None) fresh_grip phase) k.0) → IfSome d.owes (HoldsNode (Splits (grip seen [] None) fresh_grip phase))
@@ -349,8 +349,8 @@ module _ (move : Move) (sound : IsMove move) (g : ℕ) (known : Known) (cuts : C
           → Step l g (linked plan known seen ((before.word, 8 - before.word) ∷ []) (hand_of before.word before.at) phase) action x (linked plan known seen ((after.word, 8 - after.word) ∷ []) (hand_of after.word after.at) phase) None
           → IsFence after → Leads_to (footing (to (Some before))) action x (moves_on move (to (Some after)))
       goes before after action step there = on (footing (to (Some before))) action x (to (Some after))
-          (subst (λ (p : Footing × Footing). SparingStep l g (caller_of plan.line) p.0 action x p.1 None) (λ i. (sym (same before) i, sym (same after) i))
-          (on_nodes (minds_same (grip seen ((before.word, 8 - before.word) ∷ []) (hand_of before.word before.at)) (grip seen ((after.word, 8 - after.word) ∷ []) (hand_of after.word after.at)) fresh_grip phase (Some (open_line plan.line (entry_in plan)))) (inl refl) step
+          (subst (λ (p : Footing × Footing). SparingStep l g (caller_of plan.share.line) p.0 action x p.1 None) (λ i. (sym (same before) i, sym (same after) i))
+          (on_nodes (minds_same (grip seen ((before.word, 8 - before.word) ∷ []) (hand_of before.word before.at)) (grip seen ((after.word, 8 - after.word) ∷ []) (hand_of after.word after.at)) fresh_grip phase (Some (open_line plan.share.line (entry_in plan)))) (inl refl) step
           (deals_left seen ((before.word, 8 - before.word) ∷ []) ((after.word, 8 - after.word) ∷ []) (hand_of before.word before.at) (hand_of after.word after.at) phase d never knows owes))) (here after there)
 
   at_fence_switch : (fence : Fence) (x : ℕ) → IsFence fence → x < 2 ^ 64
@@ -364,7 +364,7 @@ module _ (move : Move) (sound : IsMove move) (g : ℕ) (known : Known) (cuts : C
       elim (next_in plan == 0) as (λ b. (next_in plan == 0) ≡ b → Leads_to before action x (moves_on move (cond b at.Trim at.NextPrev))) [
         | true ↦ λ none. on before action x at.Trim
             (on_nodes tt (inl refl) (splits (drains_left (has_left word (omega arith)) value refl gone))
-            (ends {n = plan.fresh}
+            (ends {n = plan.share.fresh}
             (no_switch (grip known.linked ((word, 8 - word) ∷ []) (Some (word, y))) fresh_grip (grip known.linked [] None) fresh_grip Linked Linked (λ e e'. cc))
             (no_join (grip known.linked ((word, 8 - word) ∷ []) (Some (word, y))) fresh_grip Linked (Splits (grip known.linked [] None) fresh_grip Linked))
             (no_retire (grip known.linked ((word, 8 - word) ∷ []) (Some (word, y))) fresh_grip Linked (Splits (grip known.linked [] None) fresh_grip Linked))
@@ -379,15 +379,15 @@ module _ (move : Move) (sound : IsMove move) (g : ℕ) (known : Known) (cuts : C
       → Leads_to (footing (at.FenceTrim fence)) (fence_asks (word_address l plan.node fence.word) fence) x (moves_on move (after_trim plan (fence_next fence x)))
   at_fence_trim fence x is fits =
       at_fence_left (after_trim plan) [] Parted no_debt fence x is fits (λ e e'. cc) tt tt (λ f. refl) (λ f here. here)
-      (λ word y end value. on (linked_on [] ((word, 8 - word) ∷ []) (Some (word, y)) Parted no_debt) (Drain (word_address l plan.node word) y) x (at.Ready (record { layout = plan.layout; line = plan.line; at = ready_at.State }))
+      (λ word y end value. on (linked_on [] ((word, 8 - word) ∷ []) (Some (word, y)) Parted no_debt) (Drain (word_address l plan.node word) y) x (at.Ready (record { layout = plan.layout; line = plan.share.line; at = ready_at.State }))
       (on_nodes tt (inl refl) (splits (drains_left (has_left word (omega arith)) value refl (vanishes 8 word (omega arith)))) (deals_left [] ((word, 8 - word) ∷ []) [] (Some (word, y)) None Parted no_debt (λ e e'. cc) tt tt))
       (record { layout = sound.plan.layout; line = sound.plan.line; here = tt }, refl, refl))
 
   -- the switch is durable, and it is the line of a split
-  at_ready : (ready : Ready) (x : ℕ) → IsReady ready → ready.layout ≡ l → ready.line ≡ plan.line → x < 2 ^ 64
+  at_ready : (ready : Ready) (x : ℕ) → IsReady ready → ready.layout ≡ l → ready.line ≡ plan.share.line → x < 2 ^ 64
       → Leads_to (footing (at.Ready ready)) (ready_asks ready) x (readied move (ready_turned ready x))
   at_ready ready x is layout line fits =
-      readies_lead l g (linked plan known [] [] None Parted) no_debt plan.line (entry_in plan) refl
+      readies_lead l g (linked plan known [] [] None Parted) no_debt plan.share.line (entry_in plan) refl
       (λ n none. none, inl (λ s told two. let one : s kind_offset ≡ split_kind = told.1.1.1.1.1.1.1.0 in omega arith))
       (λ turn. Leads_to (footing (at.Ready ready)) (ready_asks ready) x (readied move turn)) ready x is layout line fits
       (λ next step here. on (footing (at.Ready ready)) (ready_asks ready) x (at.Ready next) step here) (λ step nothing. on (footing (at.Ready ready)) (ready_asks ready) x at.UnlockFresh step tt)

@@ -308,13 +308,13 @@ module _ (split : Split) (sound : IsSplit split) (h : Held) (may : MayBegin spli
           (splits_far (read_grip split h full count) (fresh_grip share.fresh share.locked))))
 
   at_move : (moving : Move) (x : ℕ) → IsMove moving → IsPlanOf split.view n w moving.plan → x < 2 ^ 64
-      → Leads (footing (at.Move moving)) (move_asks moving) x (moved split moving.plan.fresh (move_turned moving x))
+      → Leads (footing (at.Move moving)) (move_asks moving) x (moved split moving.plan.share.fresh (move_turned moving x))
   at_move moving x is made fits =
       of (move_turned moving x) (moves_are_steps moving g (known_by h moving.plan) x is
       (plan_cuts moving.plan is.plan made.half made.words h (subst (λ (k : Layout). AreAllLive (bitmap_in h.known.seen) k.slots) (sym made.layout) may.full)) fits)
     where
       of : (turn : Turn Move (Unit {0})) → Moves g moving.plan (known_by h moving.plan) (move_footing (known_by h moving.plan) moving) (move_asks moving) x turn
-          → Leads (footing (at.Move moving)) (move_asks moving) x (moved split moving.plan.fresh turn)
+          → Leads (footing (at.Move moving)) (move_asks moving) x (moved split moving.plan.share.fresh turn)
       of (Go moving') step =
           subst (λ (p : Plan). Steps (footing (at.Move moving)) (move_asks moving) x (move_footing (known_by h p) moving') None) (sym step.2)
           (subst (λ (p : Layout × ℕ). SparingStep p.0 g p.1 (footing (at.Move moving)) (move_asks moving) x (move_footing (known_by h moving.plan) moving') None) (λ i. (made.layout i, made.caller i)) step.0)

@@ -232,10 +232,10 @@ module _ (split : Split) (sound : IsSplit split) where
         )
       ] refl
 
-  at_move : (moving : Move) (x : ℕ) → IsMove moving → IsPlanOf split.view split.node split.word moving.plan → x < 2 ^ 64 → SplitStays split (moved split moving.plan.fresh (move_turned moving x))
+  at_move : (moving : Move) (x : ℕ) → IsMove moving → IsPlanOf split.view split.node split.word moving.plan → x < 2 ^ 64 → SplitStays split (moved split moving.plan.share.fresh (move_turned moving x))
   at_move moving x is of_split fits = of (move_turned moving x) (move_goes_on moving x is fits)
     where
-      of : (turn : Turn Move (Unit {0})) → StaysSo (λ next. IsMove next × (next.plan ≡ moving.plan)) turn → SplitStays split (moved split moving.plan.fresh turn)
+      of : (turn : Turn Move (Unit {0})) → StaysSo (λ next. IsMove next × (next.plan ≡ moving.plan)) turn → SplitStays split (moved split moving.plan.share.fresh turn)
       of (Go moving') stays = on (at.Move moving') (stays.0, subst (IsPlanOf split.view split.node split.word) (sym stays.1) of_split)
       of (Done answer) stays = tt
 

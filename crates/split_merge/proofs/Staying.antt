@@ -56,7 +56,7 @@ module _ (move : Move) (sound : IsMove move) where
   starts : IsFence fence_start
   starts = record { word = omega arith; value = tt }
 
-  open_is : IsOpen (record { layout = plan.layout; line = plan.line; entry = entry_in plan; at = open_at.Field kind_offset })
+  open_is : IsOpen (record { layout = plan.layout; line = plan.share.line; entry = entry_in plan; at = open_at.Field kind_offset })
   open_is = record { layout = sound.plan.layout; line = sound.plan.line; entry = sound.plan.entry; here = (omega arith, omega arith) }
 
   at_fence_fresh : (first : ℕ) (fence : Fence) (x : ℕ) → first < filled_end plan → first % 8 ≡ 0 → IsFence fence → x < 2 ^ 64
@@ -64,11 +64,11 @@ module _ (move : Move) (sound : IsMove move) where
   at_fence_fresh first fence x inside whole is fits =
       fence_goes (λ (next : Option Fence). Stays (moves_on move (after_fence plan first next))) fence x is
       (λ next fewer holds. on (at.FenceFresh first next) (inside, whole, holds fits))
-      (λ some. line_ends (filled_end plan) first (at.FenceFresh (first + 8) fence_start) (at.Open (record { layout = plan.layout; line = plan.line; entry = entry_in plan; at = open_at.Field kind_offset })) (λ to. Stays (moves_on move to))
+      (λ some. line_ends (filled_end plan) first (at.FenceFresh (first + 8) fence_start) (at.Open (record { layout = plan.layout; line = plan.share.line; entry = entry_in plan; at = open_at.Field kind_offset })) (λ to. Stays (moves_on move to))
       (λ another. on (at.FenceFresh (first + 8) fence_start) (another, omega arith, starts))
-      (λ past. on (at.Open (record { layout = plan.layout; line = plan.line; entry = entry_in plan; at = open_at.Field kind_offset })) (open_is, refl, refl, refl)))
+      (λ past. on (at.Open (record { layout = plan.layout; line = plan.share.line; entry = entry_in plan; at = open_at.Field kind_offset })) (open_is, refl, refl, refl)))
 
-  at_open : (machine : Open) (x : ℕ) → IsOpen machine → machine.layout ≡ plan.layout → machine.line ≡ plan.line → machine.entry ≡ entry_in plan → x < 2 ^ 64
+  at_open : (machine : Open) (x : ℕ) → IsOpen machine → machine.layout ≡ plan.layout → machine.line ≡ plan.share.line → machine.entry ≡ entry_in plan → x < 2 ^ 64
       → Stays (opened move (open_turned machine x))
   at_open machine x is layout line entry fits = after (open_turned machine x) (opens_are_notes machine x is fits)
     where
@@ -90,10 +90,10 @@ module _ (move : Move) (sound : IsMove move) where
   at_fence_trim fence x is fits =
       fence_goes (λ (next : Option Fence). Stays (moves_on move (after_trim plan next))) fence x is
       (λ next fewer holds. on (at.FenceTrim next) (holds fits))
-      (λ some. on (at.Ready (record { layout = plan.layout; line = plan.line; at = ready_at.State }))
+      (λ some. on (at.Ready (record { layout = plan.layout; line = plan.share.line; at = ready_at.State }))
       (record { layout = sound.plan.layout; line = sound.plan.line; here = tt }, refl, refl))
 
-  at_ready : (ready : Ready) (x : ℕ) → IsReady ready → ready.layout ≡ plan.layout → ready.line ≡ plan.line → x < 2 ^ 64 → Stays (readied move (ready_turned ready x))
+  at_ready : (ready : Ready) (x : ℕ) → IsReady ready → ready.layout ≡ plan.layout → ready.line ≡ plan.share.line → x < 2 ^ 64 → Stays (readied move (ready_turned ready x))
   at_ready ready x is layout line fits = after (ready_turned ready x) (readies_are_notes ready (entry_in plan) x is fits)
     where
       after : (turn : Turn Ready (Unit {0})) → ReadyNotes ready.layout ready.line (entry_in plan) (ready_held (entry_in plan) ready) (ready_asks ready) x turn → Stays (readied move turn)

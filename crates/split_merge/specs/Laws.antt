@@ -26,7 +26,7 @@ pub record Cuts (plan : Plan) (known : Known) : Type 0 where
   pub cut : (range : List ℕ → Bool) (s t : Spot) (m : Map) → Tells known.full s → Tells (fresh_seen plan) t →
       Means plan.layout.slots range s m → StaysIn plan.layout.slots range s →
       IsCut plan.layout.slots range s t m
-  pub linked : (s : Spot) → Tells known.full s → Tells known.linked (updated s next_offset plan.fresh)
+  pub linked : (s : Spot) → Tells known.full s → Tells known.linked (updated s next_offset plan.share.fresh)
   pub trims : (range : List ℕ → Bool) (s : Spot) (m : Map) → Tells known.linked s → Means plan.layout.slots range s m →
       StaysIn plan.layout.slots range s →
       Means plan.layout.slots (below_key range (cut_key plan)) (updated s bitmap_offset plan.keep) m ×
@@ -36,10 +36,10 @@ pub record Cuts (plan : Plan) (known : Known) : Type 0 where
 -- again.
 abbrev pub Moves : ℕ → Plan → Known → Footing → Action → ℕ → Turn Move (Unit {0}) → Type 0
 Moves g plan known footing action x (Go move) =
-    SparingStep plan.layout g (caller_of plan.line) footing action x (move_footing known move) None × IsMove move ×
+    SparingStep plan.layout g (caller_of plan.share.line) footing action x (move_footing known move) None × IsMove move ×
     (move.plan ≡ plan)
 Moves g plan known footing action x (Done answer) =
-    SparingStep plan.layout g (caller_of plan.line) footing action x (record {
+    SparingStep plan.layout g (caller_of plan.share.line) footing action x (record {
       stage = Idle;
       line = None;
       debt =

@@ -49,7 +49,7 @@ fresh_seen plan = (next_offset, plan_word plan next_offset) ∷ anchor_seen plan
 
 abbrev pub fresh_of : Plan → List (ℕ × ℕ) → List (ℕ × ℕ) → Option (ℕ × ℕ) → Grip
 fresh_of plan seen dirty hand =
-    record (fresh_grip plan.fresh plan.fresh_locked) { seen = seen; dirty = dirty; hand = hand }
+    record (fresh_grip plan.share.fresh plan.share.locked) { seen = seen; dirty = dirty; hand = hand }
 
 abbrev pub left_of : Plan → Known → List (ℕ × ℕ) → List (ℕ × ℕ) → Option (ℕ × ℕ) → Grip
 left_of plan known seen dirty hand =
@@ -110,24 +110,24 @@ move_at_stage plan known at.Unlock = Leaves (left_of plan known [] [] None)
 
 -- the line is EMPTY, is opened, and is READY as it is left to a turn
 abbrev pub move_at_line : Plan → MoveAt → Option HeldLine
-move_at_line plan (at.Slot word) = Some (empty_line plan.line)
-move_at_line plan (at.Print word) = Some (empty_line plan.line)
-move_at_line plan at.Bitmap = Some (empty_line plan.line)
-move_at_line plan (at.Anchor word) = Some (empty_line plan.line)
-move_at_line plan at.Next = Some (empty_line plan.line)
-move_at_line plan (at.FenceFresh first fence) = Some (empty_line plan.line)
+move_at_line plan (at.Slot word) = Some (empty_line plan.share.line)
+move_at_line plan (at.Print word) = Some (empty_line plan.share.line)
+move_at_line plan at.Bitmap = Some (empty_line plan.share.line)
+move_at_line plan (at.Anchor word) = Some (empty_line plan.share.line)
+move_at_line plan at.Next = Some (empty_line plan.share.line)
+move_at_line plan (at.FenceFresh first fence) = Some (empty_line plan.share.line)
 move_at_line plan (at.Open machine) = Some (open_held machine)
 move_at_line plan (at.Ready ready) = Some (ready_held (entry_in plan) ready)
-move_at_line plan at.UnlockFresh = Some (ready_line plan.line (entry_in plan))
+move_at_line plan at.UnlockFresh = Some (ready_line plan.share.line (entry_in plan))
 move_at_line plan at.Unlock = None
-move_at_line plan _ = Some (open_line plan.line (entry_in plan))
+move_at_line plan _ = Some (open_line plan.share.line (entry_in plan))
 
 -- the prev of the fresh node is known until the switch; then that of the node behind it is owed
 abbrev pub knows_prev : Plan → Debt
-knows_prev plan = record { known = Some (plan.fresh, plan.node); owes = None }
+knows_prev plan = record { known = Some (plan.share.fresh, plan.node); owes = None }
 
 abbrev pub owes_prev : Plan → Debt
-owes_prev plan = record { known = None; owes = Some plan.fresh }
+owes_prev plan = record { known = None; owes = Some plan.share.fresh }
 
 abbrev pub move_at_debt : Plan → MoveAt → Debt
 move_at_debt plan at.Light = knows_prev plan

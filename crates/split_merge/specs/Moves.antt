@@ -32,7 +32,7 @@ filled_end plan = 16 + slot_count plan
 
 -- the store of a word of the fresh node
 abbrev pub fills : Plan → ℕ → Action
-fills plan offset = Store (word_address plan.layout plan.fresh offset) (plan_word plan offset)
+fills plan offset = Store (word_address plan.layout plan.share.fresh offset) (plan_word plan offset)
 
 abbrev pub after_slot : Plan → ℕ → MoveAt
 after_slot plan word = if nat_lt (word + 1) (slot_count plan) then at.Slot (word + 1) else at.Print 0
@@ -47,7 +47,7 @@ after_anchor word = if nat_lt (word + 1) 3 then at.Anchor (word + 1) else at.Nex
 abbrev pub after_line : Plan → ℕ → MoveAt
 after_line plan first =
     if nat_lt (first + 8) (filled_end plan) then at.FenceFresh (first + 8) fence_start else at.Open
-    (open_from plan.layout plan.line (entry_in plan))
+    (open_from plan.layout plan.share.line (entry_in plan))
 
 abbrev pub after_fence : Plan → ℕ → Option Fence → MoveAt
 after_fence plan first (Some fence) = at.FenceFresh first fence
@@ -61,7 +61,7 @@ after_switch plan None = if next_in plan == 0 then at.Trim else at.NextPrev
 -- the full node's bitmap is durable
 abbrev pub after_trim : Plan → Option Fence → MoveAt
 after_trim plan (Some fence) = at.FenceTrim fence
-after_trim plan None = at.Ready (ready_from plan.layout plan.line)
+after_trim plan None = at.Ready (ready_from plan.layout plan.share.line)
 
 abbrev pub move_at_asks : Plan → MoveAt → Action
 move_at_asks plan (at.Slot word) = fills plan (16 + word)
@@ -70,17 +70,17 @@ move_at_asks plan at.Bitmap = fills plan bitmap_offset
 move_at_asks plan (at.Anchor word) = fills plan (3 + word)
 move_at_asks plan at.Next = fills plan next_offset
 move_at_asks plan (at.FenceFresh first fence) =
-    fence_asks (word_address plan.layout plan.fresh (first + fence.word)) fence
+    fence_asks (word_address plan.layout plan.share.fresh (first + fence.word)) fence
 move_at_asks plan (at.Open machine) = open_asks machine
-move_at_asks plan at.Prev = Store (prev_address plan.layout plan.fresh) plan.node
-move_at_asks plan at.Light = Store (status_address plan.layout plan.fresh) live_status
-move_at_asks plan at.Switch = Store (word_address plan.layout plan.node next_offset) plan.fresh
+move_at_asks plan at.Prev = Store (prev_address plan.layout plan.share.fresh) plan.node
+move_at_asks plan at.Light = Store (status_address plan.layout plan.share.fresh) live_status
+move_at_asks plan at.Switch = Store (word_address plan.layout plan.node next_offset) plan.share.fresh
 move_at_asks plan (at.FenceSwitch fence) = fence_asks (word_address plan.layout plan.node fence.word) fence
-move_at_asks plan at.NextPrev = Store (prev_address plan.layout (next_in plan)) plan.fresh
+move_at_asks plan at.NextPrev = Store (prev_address plan.layout (next_in plan)) plan.share.fresh
 move_at_asks plan at.Trim = Store (word_address plan.layout plan.node bitmap_offset) plan.keep
 move_at_asks plan (at.FenceTrim fence) = fence_asks (word_address plan.layout plan.node fence.word) fence
 move_at_asks plan (at.Ready ready) = ready_asks ready
-move_at_asks plan at.UnlockFresh = Store (version_address plan.layout plan.fresh) (plan.fresh_locked + 1)
+move_at_asks plan at.UnlockFresh = Store (version_address plan.layout plan.share.fresh) (plan.share.locked + 1)
 move_at_asks plan at.Unlock = Store (version_address plan.layout plan.node) (plan.locked + 1)
 
 abbrev pub move_asks : Move → Action
@@ -131,12 +131,12 @@ IsMoveAt plan (at.Slot word) = word < slot_count plan
 IsMoveAt plan (at.Print word) = word < print_count plan
 IsMoveAt plan (at.Anchor word) = word < 3
 IsMoveAt plan (at.FenceFresh first fence) = (first < filled_end plan) × (first % 8 ≡ 0) × IsFence fence
-IsMoveAt plan (at.Open machine) = IsOpen machine × (machine.layout ≡ plan.layout) × (machine.line ≡ plan.line) ×
+IsMoveAt plan (at.Open machine) = IsOpen machine × (machine.layout ≡ plan.layout) × (machine.line ≡ plan.share.line) ×
     (machine.entry ≡ entry_in plan)
 IsMoveAt plan (at.FenceSwitch fence) = IsFence fence
 IsMoveAt plan at.NextPrev = next_in plan ≢ 0
 IsMoveAt plan (at.FenceTrim fence) = IsFence fence
-IsMoveAt plan (at.Ready ready) = IsReady ready × (ready.layout ≡ plan.layout) × (ready.line ≡ plan.line)
+IsMoveAt plan (at.Ready ready) = IsReady ready × (ready.layout ≡ plan.layout) × (ready.line ≡ plan.share.line)
 IsMoveAt plan _ = Unit {0}
 
 pub record IsMove (move : Move) : Type 0 where

@@ -105,7 +105,7 @@ next_in plan = plan_word plan next_offset
 abbrev pub entry_in : Plan → Entry
 entry_in plan = record {
   kind = split_kind;
-  node = plan.fresh;
+  node = plan.share.fresh;
   anchor = anchor_words (plan_word plan);
   left = plan.node;
 }
@@ -114,10 +114,10 @@ entry_in plan = record {
 pub record IsPlan (plan : Plan) : Type 0 where
   pub layout : IsLayout plan.layout
   pub node : plan.node < plan.layout.nodes
-  pub fresh : plan.fresh < plan.layout.nodes
+  pub fresh : plan.share.fresh < plan.layout.nodes
   pub lock : IsLockWord plan.locked
-  pub fresh_lock : IsLockWord plan.fresh_locked
-  pub line : plan.line < 8 * plan.layout.callers
+  pub fresh_lock : IsLockWord plan.share.locked
+  pub line : plan.share.line < 8 * plan.layout.callers
   pub next : next_in plan < plan.layout.nodes
   pub entry : IsEntryOf plan.layout (entry_in plan)
   pub moved : (slot : ℕ) → slot < 32 → source_in plan slot < 64

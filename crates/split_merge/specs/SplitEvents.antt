@@ -42,7 +42,7 @@ SplitHas view heard (at.Take next take) = HasLooked heard.lines take.index take.
 SplitHas view heard (at.Claim next line claim) = SomeEmpty heard.lines ×
     HasHeard view.layout view.generation heard.claim claim.node claim.at
 SplitHas view heard (at.Read share full count) = SplitTells view heard (answer.Done share.fresh)
-SplitHas view heard (at.Move moving) = SplitTells view heard (answer.Done moving.plan.fresh)
+SplitHas view heard (at.Move moving) = SplitTells view heard (answer.Done moving.plan.share.fresh)
 SplitHas view heard (at.Refuse next why) = SplitTells view heard (answer.Again why)
 
 -- The number that it is told next is one of these, if it loads a state of a line, or goes on with its claim.

@@ -49,9 +49,7 @@ plan_of split share full = record {
   layout = split.view.layout;
   node = split.node;
   locked = split.word;
-  fresh = share.fresh;
-  fresh_locked = share.locked;
-  line = share.line;
+  share = share;
   full = full;
   moved = moved_of (order_of full split.view.layout.slots) (split.view.layout.slots / 2);
   anchor = anchor_of (least_words full split.view.layout.slots);
@@ -106,7 +104,7 @@ split_at_turned split at.Next got =
 split_at_turned split (at.Take next take) got = taken split next (take_turned take got)
 split_at_turned split (at.Claim next line claim) got = claimed split next line (claim_turned claim got)
 split_at_turned split (at.Read share full count) got = has_read split share full count got
-split_at_turned split (at.Move moving) got = moved split moving.plan.fresh (move_turned moving got)
+split_at_turned split (at.Move moving) got = moved split moving.plan.share.fresh (move_turned moving got)
 split_at_turned split (at.Refuse next why) got = Done (answer.Again why)
 
 abbrev pub split_turned : Split → ℕ → Turn Split SplitDone
@@ -133,7 +131,7 @@ pub record IsPlanOf (view : View) (node word : ℕ) (plan : Plan) : Type 0 where
   pub layout : plan.layout ≡ view.layout
   pub node_is : plan.node ≡ node
   pub locked : plan.locked ≡ word
-  pub caller : caller_of plan.line ≡ view.caller
+  pub caller : caller_of plan.share.line ≡ view.caller
   pub half : IsHalf plan
   pub words : AreWords plan.full
 

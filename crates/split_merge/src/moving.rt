@@ -62,32 +62,33 @@ impl Machine for Move {
             MoveAt::Anchor { word } => plan.fill(node::ANCHOR + word),
             MoveAt::Next => plan.fill(node::NEXT),
             MoveAt::FenceFresh { first, fence } => {
-                fence.action(plan.address(plan.fresh, first + fence.word))
+                fence.action(plan.address(plan.share.fresh, first + fence.word))
             }
             MoveAt::Open { open } => open.action(),
             MoveAt::Prev => Action::Store(
-                plan.layout.node_volatile(plan.fresh, volatile::PREV),
+                plan.layout.node_volatile(plan.share.fresh, volatile::PREV),
                 plan.node,
             ),
             MoveAt::Light => {
                 Action::Store(
-                    plan.layout.node_volatile(plan.fresh, volatile::STATUS),
+                    plan.layout
+                        .node_volatile(plan.share.fresh, volatile::STATUS),
                     LIVE,
                 )
             }
-            MoveAt::Switch => Action::Store(plan.address(plan.node, node::NEXT), plan.fresh),
+            MoveAt::Switch => Action::Store(plan.address(plan.node, node::NEXT), plan.share.fresh),
             MoveAt::FenceSwitch { fence } | MoveAt::FenceTrim { fence } => {
                 fence.action(plan.address(plan.node, fence.word))
             }
             MoveAt::NextPrev => Action::Store(
                 plan.layout.node_volatile(plan.next(), volatile::PREV),
-                plan.fresh,
+                plan.share.fresh,
             ),
             MoveAt::Trim => Action::Store(plan.address(plan.node, node::BITMAP), plan.keep),
             MoveAt::Ready { ready } => ready.action(),
             MoveAt::UnlockFresh => Action::Store(
-                plan.address(plan.fresh, node::VERSION),
-                freed_of(plan.fresh_locked),
+                plan.address(plan.share.fresh, node::VERSION),
+                freed_of(plan.share.locked),
             ),
             MoveAt::Unlock => {
                 Action::Store(
@@ -182,7 +183,7 @@ impl Plan {
         requires offset { offset < filled_end self.now }
         ensures { result ≡ fills self.now offset }
     {
-        Action::Store(self.address(self.fresh, offset), self.word(offset))
+        Action::Store(self.address(self.share.fresh, offset), self.word(offset))
     }
 
     /// After this word of the slots.
@@ -227,7 +228,7 @@ impl Plan {
                     }
                 } else {
                     MoveAt::Open {
-                        open: Open::new(self.layout, self.line, self.entry()),
+                        open: Open::new(self.layout, self.share.line, self.entry()),
                     }
                 }
             }
@@ -259,7 +260,7 @@ impl Plan {
         match fence {
             Some(fence) => MoveAt::FenceTrim { fence },
             None => MoveAt::Ready {
-                ready: Ready::new(self.layout, self.line),
+                ready: Ready::new(self.layout, self.share.line),
             },
         }
     }

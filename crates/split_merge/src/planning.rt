@@ -6,6 +6,7 @@ ghost use Rattle.data_node.specs.Orders.{listed};
 ghost use Rattle.data_node.specs.Spots.{name_words};
 ghost use Rattle.split_merge.specs.Plans.{spot_of, entries_of, order_of, moved_of, anchor_of};
 
+use crate::splitting::Share;
 use cat_key::Name;
 use data_node::{Order, print_at, sort_order};
 use pm_words::codes::kind::SPLIT;
@@ -22,17 +23,15 @@ pub const MAX_MOVED: usize = 32;
 /// The words of the name `!`, which stand in a plan where those that were loaded are no name's.
 const SOME_NAME: [u64; KEY] = [0x21 << 56, 0, 0];
 
-/// What a split does: the full node and the fresh one with their locked words, the line that was taken, the words of
-/// the full node by offset, the slots of the names that move, in rising order of names, the words of the fresh node's
+/// What a split does: the full node with its locked word, the line and the fresh node that it has, the words of the
+/// full node by offset, the slots of the names that move, in rising order of names, the words of the fresh node's
 /// anchor, and the bitmap that the full node keeps.
 #[derive(Clone, Copy)]
 pub struct Plan {
     pub layout: Layout,
     pub node: u64,
     pub locked: u64,
-    pub fresh: u64,
-    pub fresh_locked: u64,
-    pub line: u64,
+    pub share: Share,
     pub full: [u64; NODE_WORDS],
     pub moved: [u8; MAX_MOVED],
     pub anchor: [u64; KEY],
@@ -122,7 +121,7 @@ impl Plan {
     {
         Entry {
             kind: SPLIT,
-            node: self.fresh,
+            node: self.share.fresh,
             anchor: [
                 self.word(node::ANCHOR),
                 self.word(node::ANCHOR + 1),

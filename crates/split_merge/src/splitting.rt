@@ -180,7 +180,7 @@ impl Split {
                 Some(at) => moving.at = at,
                 None => {
                     return Some(SplitDone::Done {
-                        fresh: moving.plan.fresh,
+                        fresh: moving.plan.share.fresh,
                     });
                 }
             },
@@ -277,9 +277,7 @@ fn plan(view: &View, node: u64, word: u64, share: Share, full: &[u64; NODE_WORDS
         layout,
         node,
         locked: word,
-        fresh: share.fresh,
-        fresh_locked: share.locked,
-        line: share.line,
+        share,
         full: *full,
         moved: upper_in(&order, (slots / 2) as usize),
         anchor: anchor_in(full, halves.first),
