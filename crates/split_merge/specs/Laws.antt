@@ -36,8 +36,8 @@ pub record Cuts (plan : Plan) (known : Known) : Type 0 where
 -- again.
 abbrev pub Moves : ℕ → Plan → Known → Footing → Action → ℕ → Turn Move (Unit {0}) → Type 0
 Moves g plan known footing action x (Go move) =
-    SparingStep plan.layout g (caller_of plan.share.line) footing action x (move_footing known move) None × IsMove move ×
-    (move.plan ≡ plan)
+    SparingStep plan.layout g (caller_of plan.share.line) footing action x (move_footing known move) None ×
+    IsMove move × (move.plan ≡ plan)
 Moves g plan known footing action x (Done answer) =
     SparingStep plan.layout g (caller_of plan.share.line) footing action x (record {
       stage = Idle;
