@@ -15,14 +15,14 @@ use Rattle.pm_words.specs.declared.machine.Turn.{Turn}
 use Rattle.pm_words.specs.Offsets.{anchor_offset}
 use Rattle.data_node.specs.Lists.{number_of}
 use Rattle.call_stages.specs.Kinds.{word_address, version_address}
-use Rattle.machine_runs.specs.Runs.{begins}
+use Rattle.machine_runs.specs.Runs.{begins, Bursts, IsOnRun, MayGo}
 use Rattle.machine_runs.proofs.Running.{turn_bursts, third_can, thrice_bursts, burst_goes, burst_behind, run_may}
 use Rattle.data_list.specs.declared.target.Walked.{Walked}
 use Rattle.data_list.specs.declared.target.Walked.TheVariants as walked
 use Rattle.data_list.specs.declared.walk.Walk.{Walk}
 use Rattle.data_list.specs.declared.walk.WalkAt.{WalkAt}
 use Rattle.data_list.specs.declared.walk.WalkAt.TheVariants as at
-use Rattle.data_list.specs.Walks.{walk_at_asks, walk_at_turned, walk_takes, IsWalk}
+use Rattle.data_list.specs.Walks.{walk_asks, walk_turned, walk_left, walk_at_asks, walk_at_turned, walk_takes, IsWalk}
 use Rattle.data_list.specs.Walks.{landing, loads_at, hops_to, saw_version, saw_status, saw_anchor, saw_next, saw_high, target, target_at}
 use Rattle.data_list.specs.declared.target.Next.{Next}
 use Rattle.data_list.specs.Arrivals.{MayWalk, WalkBursts, Arrives, Leads, anchor_loaded, anchor_at}
@@ -214,7 +214,7 @@ pub version_bursts : {old after : Row} (walk : Walk) {address number begun later
 version_bursts walk may asked acts given ticks =
     load_bursts walk at.Version may (ap (λ (a : ℕ). Load a) asked) acts given ticks
 
-pub free_bursts : {old after : Row} (walk : Walk) {address number begun later : ℕ} → MayWalk old walk at.Version
+free_bursts : {old after : Row} (walk : Walk) {address number begun later : ℕ} → MayWalk old walk at.Version
     → address ≡ version_address walk.layout walk.node
     → after ≡ record old { words = acted old.layout old.words (Load address) }
     → number ≡ got old.layout old.words (Load address) → later ≡ begun + 1
@@ -223,6 +223,29 @@ pub free_bursts : {old after : Row} (walk : Walk) {address number begun later : 
 free_bursts {old} {after} walk {number = number} {begun} {later} may asked acts given ticks free told so =
     subst (λ (t : Turn Walk Walked). WalkBursts old after walk at.Version t begun later)
     (version_free walk number free told so) (version_bursts walk may asked acts given ticks)
+
+-- a run that has come to a version word
+module _ {old now : Row} {first : Walk} (walk : Walk) {begun steps : ℕ}
+    (may : MayGo walk_asks walk_turned walk_left walk_takes old.layout old.words first)
+    (on : IsOnRun walk_asks walk_turned walk_left old now first (record walk { at = at.Version }) begun steps) where
+  pub hop_is : IsWalk (record walk { at = at.Version })
+  hop_is = walk_is now walk at.Version (run_may walk_takes may on)
+
+  module _ {after : Row} {address number middle : ℕ} (asked : address ≡ version_address walk.layout walk.node)
+      (acts : after ≡ record now { words = acted now.layout now.words (Load address) })
+      (given : number ≡ got now.layout now.words (Load address)) (ticks : middle ≡ steps + 1) (free : Bool)
+      (told : IsTrue free ↔ IsFree number walk.generation) (so : free ≡ true) where
+    loads : WalkBursts now after walk at.Version (Go (record walk { at = at.Status number })) steps middle
+    loads = free_bursts walk (run_may walk_takes may on) asked acts given ticks free told so
+
+    -- it may go on where that is free, and comes to what it comes to from there
+    pub free_may : MayWalk after walk (at.Status number)
+    free_may = goes_may walk at.Version (at.Status number) (run_may walk_takes may on) loads refl
+
+    pub free_behind : {last : Row} {turn : Turn Walk Walked} {later : ℕ}
+        → (MayWalk after walk (at.Status number) → WalkBursts after last walk (at.Status number) turn middle later)
+        → Bursts walk_asks walk_turned walk_left old last first turn begun later
+    free_behind more = burst_behind on (goes_on walk at.Version (at.Status number) loads refl (more free_may))
 
 -- a hop begins at the version word
 abbrev hop_at : Turn Walk Walked → WalkAt

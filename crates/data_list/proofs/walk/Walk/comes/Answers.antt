@@ -9,8 +9,7 @@ use Rattle.data_list.specs.declared.walk.Walk.{Walk}
 use Rattle.data_list.specs.declared.walk.WalkAt.TheVariants as at
 use Rattle.data_list.specs.Walks.{walk_asks, walk_turned, walk_left, walk_takes}
 use Rattle.data_list.proofs.Loading.{hop_fewer}
-use Rattle.data_list.proofs.Arriving.{walk_is, walk_can, goes_on, goes_may, version_taken, version_bursts, free_bursts}
-use Rattle.data_list.proofs.Arriving.{hop_begins}
+use Rattle.data_list.proofs.Arriving.{walk_can, version_taken, version_bursts, hop_is, free_may, free_behind, hop_begins}
 use Rattle.data_list.proofs.walk.Walk.comes.Goals as goal
 
 pub hops-init : goal.hops-init
@@ -21,12 +20,10 @@ hops-init g c =
     (run_begins c.args.memory.now c.args.self.now c.args.steps.now)
 
 pub address-requires-clause-layout : goal.address-requires-clause-layout
-address-requires-clause-layout g c =
-    (walk_is c.hops.memory c.hops.self at.Version (run_may walk_takes c.requires.may c.hops.invariant)).layout
+address-requires-clause-layout g c = (hop_is c.hops.self c.requires.may c.hops.invariant).layout
 
 pub address-requires-clause-node : goal.address-requires-clause-node
-address-requires-clause-node g c =
-    (walk_is c.hops.memory c.hops.self at.Version (run_may walk_takes c.requires.may c.hops.invariant)).node
+address-requires-clause-node g c = (hop_is c.hops.self c.requires.may c.hops.invariant).node
 
 pub act-version-requires : goal.act-version-requires
 act-version-requires g c =
@@ -43,36 +40,30 @@ returns-then-not-is_free g c =
 
 pub leads-requires : goal.leads-requires
 leads-requires g c =
-    let may = run_may walk_takes c.requires.may c.hops.invariant in
-    let loads =
-    free_bursts c.hops.self (run_may walk_takes c.requires.may c.hops.invariant) c.address.ensures c.act-version.ensures.row
-    c.act-version.ensures.got c.act-version.ensures.tick c.is_free.result c.is_free.ensures c.if-not-is_free.false in
-    (c.act-version.result, goes_may c.hops.self at.Version (at.Status c.act-version.result) may loads refl)
+    (c.act-version.result,
+    free_may c.hops.self c.requires.may c.hops.invariant c.address.ensures c.act-version.ensures.row
+    c.act-version.ensures.got c.act-version.ensures.tick c.is_free.result c.is_free.ensures c.if-not-is_free.false)
 
 pub returns-in_default : goal.returns-in_default
 returns-in_default g c =
-    let may = run_may walk_takes c.requires.may c.hops.invariant in
-    let loads =
-    free_bursts c.hops.self (run_may walk_takes c.requires.may c.hops.invariant) c.address.ensures c.act-version.ensures.row
+    let may =
+    free_may c.hops.self c.requires.may c.hops.invariant c.address.ensures c.act-version.ensures.row
     c.act-version.ensures.got c.act-version.ensures.tick c.is_free.result c.is_free.ensures c.if-not-is_free.false in
-    let here =
-    c.in_default.ensures c.act-version.result
-    (goes_may c.hops.self at.Version (at.Status c.act-version.result) may loads refl) in
+    let here = c.in_default.ensures c.act-version.result may in
     record {
       target = here.target;
       here = here.here;
       burst =
-          burst_behind c.hops.invariant
-          (goes_on c.hops.self at.Version (at.Status c.act-version.result) loads refl here.burst);
+          free_behind c.hops.self c.requires.may c.hops.invariant c.address.ensures c.act-version.ensures.row
+          c.act-version.ensures.got c.act-version.ensures.tick c.is_free.result c.is_free.ensures c.if-not-is_free.false
+          (λ _. here.burst);
     }
 
 pub hops_on-requires-clause-layout : goal.hops_on-requires-clause-layout
-hops_on-requires-clause-layout g c =
-    (walk_is c.hops.memory c.hops.self at.Version (run_may walk_takes c.requires.may c.hops.invariant)).layout
+hops_on-requires-clause-layout g c = (hop_is c.hops.self c.requires.may c.hops.invariant).layout
 
 pub hops_on-requires-clause-hops : goal.hops_on-requires-clause-hops
-hops_on-requires-clause-hops g c =
-    (walk_is c.hops.memory c.hops.self at.Version (run_may walk_takes c.requires.may c.hops.invariant)).hops
+hops_on-requires-clause-hops g c = (hop_is c.hops.self c.requires.may c.hops.invariant).hops
 
 pub hops-smaller : goal.hops-smaller
 hops-smaller g c =
@@ -81,28 +72,18 @@ hops-smaller g c =
 
 pub hops-preserved : goal.hops-preserved
 hops-preserved g c =
-    let may = run_may walk_takes c.requires.may c.hops.invariant in
-    let loads =
-    free_bursts c.hops.self (run_may walk_takes c.requires.may c.hops.invariant) c.address.ensures c.act-version.ensures.row
-    c.act-version.ensures.got c.act-version.ensures.tick c.is_free.result c.is_free.ensures c.if-not-is_free.false in
     burst_goes
-    (burst_behind c.hops.invariant
-    (goes_on c.hops.self at.Version (at.Status c.act-version.result) loads refl
-    (c.in-Some.ensures c.act-version.result
-    (goes_may c.hops.self at.Version (at.Status c.act-version.result) may loads refl))))
+    (free_behind c.hops.self c.requires.may c.hops.invariant c.address.ensures c.act-version.ensures.row
+    c.act-version.ensures.got c.act-version.ensures.tick c.is_free.result c.is_free.ensures c.if-not-is_free.false
+    (c.in-Some.ensures c.act-version.result))
     (hop_begins c.hops.self c.hops_on.new.self c.in-Some.to c.in_ok-hops_on.ensures)
 
 pub returns-in_err-hops_on : goal.returns-in_err-hops_on
 returns-in_err-hops_on g c =
-    let may = run_may walk_takes c.requires.may c.hops.invariant in
-    let loads =
-    free_bursts c.hops.self (run_may walk_takes c.requires.may c.hops.invariant) c.address.ensures c.act-version.ensures.row
-    c.act-version.ensures.got c.act-version.ensures.tick c.is_free.result c.is_free.ensures c.if-not-is_free.false in
     let p = err_from_is_err_and c.from_residual.result c.from_residual.ensures.1 in
     rw (p.1, p.2)
-    (burst_behind c.hops.invariant
     (same_bursts refl
-    (goes_on c.hops.self at.Version (at.Status c.act-version.result) loads refl
-    (c.in-Some.ensures c.act-version.result
-    (goes_may c.hops.self at.Version (at.Status c.act-version.result) may loads refl)))
-    c.in_err-hops_on.ensures))
+    (free_behind c.hops.self c.requires.may c.hops.invariant c.address.ensures c.act-version.ensures.row
+    c.act-version.ensures.got c.act-version.ensures.tick c.is_free.result c.is_free.ensures c.if-not-is_free.false
+    (c.in-Some.ensures c.act-version.result))
+    c.in_err-hops_on.ensures)
