@@ -101,14 +101,12 @@ plan_word plan offset =
 abbrev pub next_in : Plan → ℕ
 next_in plan = plan_word plan next_offset
 
--- What the line is to say.
+-- What a line is to say of a change of this kind: this node, with this anchor, stands behind that one.
+abbrev pub says_behind : ℕ → ℕ → List ℕ → ℕ → Entry
+says_behind kind node anchor left = record { kind = kind; node = node; anchor = anchor; left = left }
+
 abbrev pub entry_in : Plan → Entry
-entry_in plan = record {
-  kind = split_kind;
-  node = plan.share.fresh;
-  anchor = anchor_words (plan_word plan);
-  left = plan.node;
-}
+entry_in plan = says_behind split_kind plan.share.fresh (anchor_words (plan_word plan)) plan.node
 
 -- What a plan keeps.
 pub record IsPlan (plan : Plan) : Type 0 where

@@ -11,7 +11,7 @@ use Rattle.data_node.specs.Slots.{prints_of}
 use Rattle.smo_log.specs.declared.line.Entry.{Entry}
 use Rattle.smo_log.specs.LogLines.{IsEntryOf}
 use Rattle.split_merge.specs.declared.uniting.Union.{Union}
-use Rattle.split_merge.specs.Plans.{anchor_of}
+use Rattle.split_merge.specs.Plans.{anchor_of, says_behind}
 use Rattle.split_merge.specs.Pairs.{pairs_of}
 
 -- The right node's word at an offset before its slots.
@@ -55,12 +55,9 @@ behind_in union = head_word union next_offset
 
 -- What the line is to say.
 abbrev pub entry_in : Union → Entry
-entry_in union = record {
-  kind = merge_kind;
-  node = union.right;
-  anchor = anchor_of (head_word union anchor_offset ∷ head_word union (anchor_offset + 1) ∷ head_word union (anchor_offset + 2) ∷ []);
-  left = union.node;
-}
+entry_in union =
+    says_behind merge_kind union.right (anchor_of (head_word union anchor_offset ∷ head_word union (anchor_offset + 1) ∷
+    head_word union (anchor_offset + 2) ∷ [])) union.node
 
 -- The two nodes together have at most half as many names as a node has slots.
 abbrev pub AreFew : ℕ → ℕ → ℕ → Type 0
