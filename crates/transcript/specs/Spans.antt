@@ -32,22 +32,21 @@ spans_of told = filter_map span_of told
 abbrev pub as_number : Bool → ℕ
 as_number b = if b then 1 else 0
 
+-- Whether the call lacks a beginning, and whether it lacks an answer.
+abbrev pub lacks : Reply → Bool × Bool
+lacks (Old old place) = (false, false)
+lacks (Parts parts cut) = (false, cut)
+lacks Full = (false, false)
+lacks (Spent clock) = (false, false)
+lacks (Cut mark) = (false, true)
+lacks Unstarted = (true, true)
+
 abbrev pub is_unstarted : Reply → Bool
-is_unstarted (Old old place) = false
-is_unstarted (Parts parts cut) = false
-is_unstarted Full = false
-is_unstarted (Spent clock) = false
-is_unstarted (Cut mark) = false
-is_unstarted Unstarted = true
+is_unstarted reply = (lacks reply).0
 
 -- The call was cut off or not begun.
 abbrev pub is_unanswered : Reply → Bool
-is_unanswered (Old old place) = false
-is_unanswered (Parts parts cut) = cut
-is_unanswered Full = false
-is_unanswered (Spent clock) = false
-is_unanswered (Cut mark) = true
-is_unanswered Unstarted = true
+is_unanswered reply = (lacks reply).1
 
 -- A call that wasn't answered ends at 1, and one that was begun starts at 0: so of two spans the earlier one ends
 -- before the later one starts exactly where the earlier call was answered or the later one wasn't begun.
