@@ -13,6 +13,13 @@ tails same = cc
 no_first : {X : Type 0} {a : X} {xs : List X} → [] ≡ a ∷ xs → ⊥
 no_first same = cc
 
+-- what a loop over what was found knows when it comes to a place: the pairs from there on are the first of what is left
+-- exactly where this holds of all
+pub record FirstSoFar (pairs : List Pair) (at left : ℕ) (found : List Pair) (Whole : Type 0) : Type 0 where
+  pub few : at ≤ length pairs
+  pub some : at ≤ left
+  pub rest : (drop at pairs ≡ take (left - at) found) ↔ Whole
+
 module _ (pairs : List Pair) (at left : ℕ) (x : Pair) (xs : List Pair) where
   taken : at < left → take (left - at) (x ∷ xs) ≡ x ∷ take (left - (at + 1)) xs
   taken less = ap (λ (n : ℕ). take n (x ∷ xs)) (let more : left - at ≡ suc (left - (at + 1)) = omega arith in more)
@@ -35,6 +42,22 @@ module _ (pairs : List Pair) (at left : ℕ) (x : Pair) (xs : List Pair) where
   -- and there is one
   pub has_next : length pairs ≤ at → at < left → drop at pairs ≡ take (left - at) (x ∷ xs) → ⊥
   has_next past less all = no_first (sym (drop_all at pairs past) ∙ all ∙ taken less)
+
+  -- a loop that has come to the next pair found
+  module _ (found : List Pair) (Whole : Type 0) (is : found ≡ x ∷ xs) (before : FirstSoFar pairs at left found Whole) where
+    pub goes_past : (d : Pair) → at < length pairs → at < left → get_or pairs at d ≡ x → FirstSoFar pairs (at + 1) left xs Whole
+    goes_past d within less same =
+        let more = one_more d within less same in record {
+          few = omega (arith, within);
+          some = omega (arith, less);
+          rest = (
+            λ rest. before.rest.0 (more.0 rest ∙ ap (take (left - at)) (sym is)),
+            λ all. more.1 (before.rest.1 all ∙ ap (take (left - at)) is),
+          );
+        }
+
+    pub all_here : Whole → drop at pairs ≡ take (left - at) (x ∷ xs)
+    all_here all = before.rest.1 all ∙ ap (take (left - at)) is
 
 -- of nothing there are no first ones
 pub none_first : {X : Type 0} (n : ℕ) → ◌≡◌ {A = List X} (take n []) []
