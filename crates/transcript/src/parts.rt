@@ -53,7 +53,10 @@ fn push_record<'a>(looks: &mut Vec<PartLook<'a>>, record: &'a Record) -> Result<
 }
 
 /// The parts of all scans, in the order of the records.
-fn looks_told<'a>(alloc: Global, told: &'a [Record]) -> Result<Vec<PartLook<'a>>, NoMemory>
+pub(crate) fn looks_told<'a>(
+    alloc: Global,
+    told: &'a [Record],
+) -> Result<Vec<PartLook<'a>>, NoMemory>
     ensures { IfOk result (λ looks. map seen looks.items ≡ parts_told told.entry.now) }
 {
     let mut looks = Vec::new(alloc);
@@ -64,7 +67,7 @@ fn looks_told<'a>(alloc: Global, told: &'a [Record]) -> Result<Vec<PartLook<'a>>
 }
 
 /// The looks in the order of their places.
-fn by_place(looks: Vec<PartLook<'_>>) -> Vec<PartLook<'_>>
+pub(crate) fn by_place(looks: Vec<PartLook<'_>>) -> Vec<PartLook<'_>>
     ensures same { IsPermutation looks.entry.items result.items }
     ensures rising { IsNonDecreasingBy (λ (look : PartLook). look.part.now.place) result.items }
 {
@@ -115,7 +118,7 @@ fn lists_first(names: &Names, part: &ScanPart, left: u64) -> bool
 }
 
 /// Whether the looks list what the maps at their places have, which stand in the order of their places.
-fn list_first(
+pub(crate) fn list_first(
     alloc: Global,
     base: &[Pair],
     writes: &[Write],
@@ -134,18 +137,4 @@ fn list_first(
         }
     }
     Ok(true)
-}
-
-/// Whether each part of a scan lists what the map at its place has.
-pub(crate) fn parts_agree(
-    alloc: Global,
-    base: &[Pair],
-    writes: &[Write],
-    told: &[Record],
-) -> Result<bool, NoMemory>
-    ensures { IfOk result (λ yes. IsTrue yes
-        ↔ All (ListsFirst (after (map_of base.now) writes.now)) (parts_told told.now)) }
-{
-    let looks = by_place(looks_told(alloc, told)?);
-    list_first(alloc, base, writes, &looks)
 }

@@ -8,7 +8,7 @@ ghost use Rattle.transcript.specs.Chains.{AreChained, Begins, IsChained};
 ghost use Rattle.transcript.specs.Rules.{TellsItsParts};
 
 use crate::NoMemory;
-use crate::parts::parts_agree;
+use crate::parts::{by_place, list_first, looks_told};
 use cat_history::{Op, Record, Reply, ScanPart, Write};
 use cat_key::{Name, Pair};
 use std::alloc::Global;
@@ -94,5 +94,6 @@ pub(crate) fn scans_agree(
     if !all_chained(told) {
         return Ok(false);
     }
-    parts_agree(alloc, base, writes, told)
+    let looks = by_place(looks_told(alloc, told)?);
+    list_first(alloc, base, writes, &looks)
 }
