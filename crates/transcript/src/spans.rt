@@ -1,10 +1,9 @@
 //! What callers did one after another.
 
-ghost use Rattle.std.specs.Prelude.{◌≡◌, ◌↔◌, ◌≤◌, IsTrue};
+ghost use Rattle.std.specs.Prelude.{◌≡◌, ◌↔◌, ◌≤◌, IsTrue, map};
 ghost use Rattle.std.specs.List.{IsDistinct};
-ghost use Rattle.std.specs.List.Sorted.{IsPermutation, IsSortedByKey, IsStrictlySortedBy};
+ghost use Rattle.std.specs.List.Sorted.{IsStrictlySortedBy};
 ghost use Rattle.std.specs.Ordering.{eq_by_cmp};
-ghost use Rattle.std.specs.Prelude.{map};
 ghost use Rattle.transcript.specs.Calls.{key_cmp};
 ghost use Rattle.transcript.specs.Spans.{FollowEachOther, key_in};
 
@@ -22,16 +21,6 @@ pub(crate) struct Span {
     pub index: u64,
     pub start: u128,
     pub end: u128,
-}
-
-/// The spans in the order of their callers, those of one caller by index.
-fn in_order(spans: Vec<Span>) -> Vec<Span>
-    ensures same { IsPermutation spans.items result.items }
-    ensures rising { IsSortedByKey key_in key_cmp result.items }
-{
-    let mut sorted = spans;
-    sorted.sort_unstable_by_key(|span| (span.caller, span.index));
-    sorted
 }
 
 /// Whether, of two spans of one caller, the earlier one always ends before the later one starts, where they stand in
@@ -58,5 +47,7 @@ pub(crate) fn follow_each_other(spans: Vec<Span>) -> bool
     requires { IsDistinct (eq_by_cmp key_cmp) (map key_in spans.items) }
     ensures { IsTrue result ↔ FollowEachOther spans.items }
 {
-    follow(&in_order(spans))
+    let mut sorted = spans;
+    sorted.sort_unstable_by_key(|span| (span.caller, span.index));
+    follow(&sorted)
 }
