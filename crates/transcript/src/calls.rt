@@ -51,15 +51,13 @@ fn count_of(counts: &BTreeMap<u64, u64>, caller: u64) -> u64
 fn calls_told(alloc: Global, told: &[Record]) -> Result<Vec<NumberedCall>, NoMemory>
     ensures { IfOk result (λ calls. calls.items ≡ calls_told told.now) }
 {
-    let mut calls = Vec::new(alloc);
-    for record in told {
-        calls.push(NumberedCall {
+    told.iter()
+        .map(|record| NumberedCall {
             caller: record.caller,
             index: record.index,
             op: record.op,
-        })?;
-    }
-    Ok(calls)
+        })
+        .collect(alloc)
 }
 
 /// The calls in the order of their callers, those of one caller by index.

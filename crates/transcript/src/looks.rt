@@ -1,9 +1,8 @@
 //! Whether each call on one name was told the number that the map has at its place.
 
-ghost use Rattle.std.specs.Prelude.{◌≡◌, ◌↔◌, ◌++◌, All, IfOk, IsTrue, OnOk};
+ghost use Rattle.std.specs.Prelude.{◌≡◌, ◌↔◌, All, IfOk, IsTrue};
 ghost use Rattle.std.specs.FinMap.{entries};
 ghost use Rattle.std.specs.List.Sorted.{IsNonDecreasingBy, IsPermutation};
-ghost use Rattle.std.specs.Option.{option_to_list};
 ghost use Rattle.cat_history.specs.Maps.{Map, at, map_of};
 ghost use Rattle.cat_history.specs.Writes.{after};
 ghost use Rattle.transcript.specs.Looks.{IsRight, look_of, looks_of};
@@ -24,34 +23,31 @@ pub(crate) struct Look {
     pub old: Option<u64>,
 }
 
-/// Adds what a call on one name was told.
-fn push_look(looks: &mut Vec<Look>, record: &Record) -> Result<(), NoMemory>
-    ensures { OnOk result (looks.new.items ≡ looks.old.items ++ option_to_list (look_of «record».now)) }
+/// What a call on one name was told.
+fn look_of(record: &Record) -> Option<Look>
+    ensures { result ≡ look_of «record».now }
 {
     let Reply::Old { old, place } = &record.reply else {
-        return Ok(());
+        return None;
     };
     let name = match record.op {
         Op::Put { name, .. } | Op::Get { name } | Op::Del { name } => name,
-        Op::Scan { .. } => return Ok(()),
+        Op::Scan { .. } => return None,
     };
-    looks.push(Look {
+    Some(Look {
         place: *place,
         name,
         old: *old,
-    })?;
-    Ok(())
+    })
 }
 
 /// What calls on one name were told, in the order of the records.
 fn looks_told(alloc: Global, told: &[Record]) -> Result<Vec<Look>, NoMemory>
     ensures { IfOk result (λ looks. looks.items ≡ looks_of told.now) }
 {
-    let mut looks = Vec::new(alloc);
-    for record in told {
-        push_look(&mut looks, record)?;
-    }
-    Ok(looks)
+    told.iter()
+        .filter_map(|record| look_of(record))
+        .collect(alloc)
 }
 
 /// The looks in the order of their places.

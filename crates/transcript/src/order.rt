@@ -1,7 +1,6 @@
 //! Whether each caller's calls took effect in their order, and none after the last write.
 
-ghost use Rattle.std.specs.Prelude.{◌≡◌, ◌↔◌, ◌≤◌, ◌++◌, All, IfOk, IsTrue, OnOk, length, option_map};
-ghost use Rattle.std.specs.Option.{option_to_list};
+ghost use Rattle.std.specs.Prelude.{◌≡◌, ◌↔◌, ◌≤◌, All, IfOk, IsTrue, length, option_map};
 ghost use Rattle.cat_history.specs.Records.{interval_asked, interval_told, parts_interval};
 ghost use Rattle.cat_history.specs.declared.record.Record.{Record};
 ghost use Rattle.transcript.specs.Calls.{HaveKeysApart};
@@ -56,30 +55,26 @@ fn taken(op: &Op, reply: &Reply) -> Option<Taken>
     }
 }
 
-/// Adds what a caller did with a call, if it took effect.
-fn push_span(spans: &mut Vec<Span>, record: &Record) -> Result<(), NoMemory>
-    ensures { OnOk result (spans.new.items ≡ spans.old.items ++ option_to_list (span_of «record».now)) }
+/// What a caller did with a call, if it took effect.
+fn span_of(record: &Record) -> Option<Span>
+    ensures { result ≡ span_of «record».now }
 {
-    if let Some(Taken { start, end }) = taken(&record.op, &record.reply) {
-        spans.push(Span {
-            caller: record.caller,
-            index: record.index,
-            start,
-            end,
-        })?;
-    }
-    Ok(())
+    let Taken { start, end } = taken(&record.op, &record.reply)?;
+    Some(Span {
+        caller: record.caller,
+        index: record.index,
+        start,
+        end,
+    })
 }
 
 /// What callers did with calls that took effect, in the order of the records.
 fn spans_told(alloc: Global, told: &[Record]) -> Result<Vec<Span>, NoMemory>
     ensures { IfOk result (λ spans. spans.items ≡ spans_of told.now) }
 {
-    let mut spans = Vec::new(alloc);
-    for record in told {
-        push_span(&mut spans, record)?;
-    }
-    Ok(spans)
+    told.iter()
+        .filter_map(|record| span_of(record))
+        .collect(alloc)
 }
 
 /// Whether none of the spans ends after so many writes.

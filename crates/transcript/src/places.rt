@@ -1,8 +1,8 @@
 //! The writes of a round by their places.
 
-ghost use Rattle.std.specs.Prelude.{◌≡◌, ◌↔◌, ◌++◌, ℕ, ◌<◌, List, IfOk, IsTrue, OnOk, length, map, slice_index_or};
+ghost use Rattle.std.specs.Prelude.{◌≡◌, ◌↔◌, ℕ, ◌<◌, List, IfOk, IsTrue, length, map, slice_index_or};
 ghost use Rattle.std.specs.List.Sorted.{IsPermutation, IsSortedByKey};
-ghost use Rattle.std.specs.Option.{MatchOption, option_to_list};
+ghost use Rattle.std.specs.Option.{MatchOption};
 ghost use Rattle.std.specs.Ordering.{nat_cmp};
 ghost use Rattle.cat_history.specs.Records.{place_of, placed_write, placed_writes};
 ghost use Rattle.cat_history.specs.declared.op.Write.{Write};
@@ -25,38 +25,33 @@ fn place_of(reply: &Reply) -> Option<u64>
     }
 }
 
-/// Adds the write of a record beside its place, where it has one.
-fn push_placed(placed: &mut Vec<(u64, Write)>, record: &Record) -> Result<(), NoMemory>
-    ensures { OnOk result (placed.new.items ≡ placed.old.items ++ option_to_list (placed_write «record».now)) }
+/// The write of a record beside its place, where it has one.
+fn placed_write(record: &Record) -> Option<(u64, Write)>
+    ensures { result ≡ placed_write «record».now }
 {
-    let Some(place) = place_of(&record.reply) else {
-        return Ok(());
-    };
+    let place = place_of(&record.reply)?;
     let change = match record.op {
         Op::Put { name, value } => Change::Put { name, value },
         Op::Del { name } => Change::Del { name },
-        Op::Get { .. } | Op::Scan { .. } => return Ok(()),
+        Op::Get { .. } | Op::Scan { .. } => return None,
     };
-    placed.push((
+    Some((
         place,
         Write {
             caller: record.caller,
             index: record.index,
             change,
         },
-    ))?;
-    Ok(())
+    ))
 }
 
 /// The writes that have a place, each beside it, in the order of the records.
 fn placed_writes(alloc: Global, told: &[Record]) -> Result<Vec<(u64, Write)>, NoMemory>
     ensures { IfOk result (λ placed. placed.items ≡ placed_writes told.now) }
 {
-    let mut placed = Vec::new(alloc);
-    for record in told {
-        push_placed(&mut placed, record)?;
-    }
-    Ok(placed)
+    told.iter()
+        .filter_map(|record| placed_write(record))
+        .collect(alloc)
 }
 
 /// The writes in the order of their places.
@@ -86,11 +81,7 @@ fn stand_in_place(placed: &[(u64, Write)]) -> bool
 fn writes_in(alloc: Global, placed: &[(u64, Write)]) -> Result<Vec<Write>, NoMemory>
     ensures { IfOk result (λ writes. writes.items ≡ map (λ (write : ℕ × Write). write.1) placed.now) }
 {
-    let mut writes = Vec::new(alloc);
-    for (_, write) in placed {
-        writes.push(*write)?;
-    }
-    Ok(writes)
+    placed.iter().map(|write| write.1).collect(alloc)
 }
 
 /// The writes by place, where their places are 0, 1, 2 and so on, each once, as many as `count`.
