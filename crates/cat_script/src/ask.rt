@@ -1,12 +1,12 @@
 //! Reading a line.
 
 ghost use Rattle.std.specs.Prelude.{◌≡◌, ◌≢◌, ◌≤◌, ◌∷◌, ◌++◌, ◌<◌, ◌^◌, []};
-ghost use Rattle.std.specs.Prelude.{None, Some, codes, length, All, MatchResult, IfOk, IfErr};
+ghost use Rattle.std.specs.Prelude.{ℕ, List, None, Some, codes, length, All, MatchResult, IfOk, IfErr};
 ghost use Rattle.std.specs.Prelude.{◌↔◌, IfSome, IsNone, IsTrue};
 ghost use Rattle.std.specs.List.{AllZip};
 ghost use Rattle.std.specs.Str.{bytes_eq};
 ghost use Rattle.cat_key.specs.Names.{IsName};
-ghost use Rattle.cat_script.specs.Asks.{IsComment, Says, IsLine};
+ghost use Rattle.cat_script.specs.Asks.{AsksFor, IsComment, Says, IsLine};
 ghost use Rattle.cat_script.specs.Lines.{words_of};
 ghost use Rattle.cat_script.specs.Numbers.{IsNumber, IsUpTo, IsSomeUpTo};
 ghost use Rattle.cat_script.specs.Reasons.{setting_verb, HaveFirst, IsFirstReason, FailsBy};
@@ -40,39 +40,29 @@ fn read_join(rest: &[u8]) -> Result<Line, Reason>
     }
 }
 
-/// Reads what follows `updater`.
-fn read_updater(rest: &[u8]) -> Result<Line, Reason>
-    ensures { MatchResult result (Says (codes "updater" ∷ words_of rest.now))
-        (HaveFirst (codes "updater" ∷ words_of rest.now)) }
+/// Reads the number that follows `updater` or `limit`, which is no greater than this.
+fn read_setting(rest: &[u8], most: u64) -> Result<u64, Reason>
+    ensures ok { IfOk result (λ setting. (number : List ℕ) × IsUpTo most number setting ×
+        (words_of rest.now ≡ number ∷ [])) }
+    ensures updater { most ≡ 100000 → IfErr result (HaveFirst (codes "updater" ∷ words_of rest.now)) }
+    ensures limit { most ≡ 2 ^ 62 → IfErr result (HaveFirst (codes "limit" ∷ words_of rest.now)) }
 {
     let Some(word) = only_word(rest) else {
         return Err(Reason::Words);
     };
-    let Some(turns) = number_up_to(word, MOST_TURNS) else {
+    let Some(setting) = number_up_to(word, most) else {
         return Err(Reason::Number);
     };
-    Ok(Line::Updater { turns })
+    Ok(setting)
 }
 
-/// Reads what follows `limit`.
-fn read_limit(rest: &[u8]) -> Result<Line, Reason>
-    ensures { MatchResult result (Says (codes "limit" ∷ words_of rest.now))
-        (HaveFirst (codes "limit" ∷ words_of rest.now)) }
-{
-    let Some(word) = only_word(rest) else {
-        return Err(Reason::Words);
-    };
-    let Some(limit) = number_up_to(word, MOST_WRITES) else {
-        return Err(Reason::Number);
-    };
-    Ok(Line::Limit { limit })
-}
-
-/// Reads what follows the caller and `get`.
-fn read_get(caller: &[u8], rest: &[u8]) -> Result<Line, Reason>
+/// Reads the caller of a call and the name that follows `get` or `del`.
+fn read_named(caller: &[u8], rest: &[u8]) -> Result<(u64, Name), Reason>
     requires { setting_verb caller.now ≡ None }
-    ensures { MatchResult result (Says (caller.now ∷ codes "get" ∷ words_of rest.now))
-        (HaveFirst (caller.now ∷ codes "get" ∷ words_of rest.now)) }
+    ensures ok { IfOk result (λ found. IsUpTo 15 caller.now found.0 × IsName found.1 ×
+        (words_of rest.now ≡ found.1 ∷ [])) }
+    ensures get { IfErr result (HaveFirst (caller.now ∷ codes "get" ∷ words_of rest.now)) }
+    ensures del { IfErr result (HaveFirst (caller.now ∷ codes "del" ∷ words_of rest.now)) }
 {
     let Some(name) = only_word(rest) else {
         return Err(Reason::Words);
@@ -83,19 +73,18 @@ fn read_get(caller: &[u8], rest: &[u8]) -> Result<Line, Reason>
     let Ok(name) = Name::read(name) else {
         return Err(Reason::Name);
     };
-    Ok(Line::Call {
-        caller,
-        op: Op::Get { name },
-    })
+    Ok((caller, name))
 }
 
-/// Reads what follows the caller and `put`.
-fn read_put(caller: &[u8], rest: &[u8]) -> Result<Line, Reason>
+/// Reads the caller of a call, and the name and the number that follow `put` or `scan`.
+fn read_numbered(caller: &[u8], rest: &[u8]) -> Result<(u64, Name, u64), Reason>
     requires { setting_verb caller.now ≡ None }
-    ensures { MatchResult result (Says (caller.now ∷ codes "put" ∷ words_of rest.now))
-        (HaveFirst (caller.now ∷ codes "put" ∷ words_of rest.now)) }
+    ensures ok { IfOk result (λ found. IsUpTo 15 caller.now found.0 × IsName found.1 ×
+        ((number : List ℕ) × IsNumber number found.2 × (words_of rest.now ≡ found.1 ∷ number ∷ []))) }
+    ensures put { IfErr result (HaveFirst (caller.now ∷ codes "put" ∷ words_of rest.now)) }
+    ensures scan { IfErr result (HaveFirst (caller.now ∷ codes "scan" ∷ words_of rest.now)) }
 {
-    let Some((name, value)) = two_words(rest) else {
+    let Some((name, number)) = two_words(rest) else {
         return Err(Reason::Words);
     };
     let Some(caller) = number_up_to(caller, MOST_CALLER) else {
@@ -104,58 +93,10 @@ fn read_put(caller: &[u8], rest: &[u8]) -> Result<Line, Reason>
     let Ok(name) = Name::read(name) else {
         return Err(Reason::Name);
     };
-    let Some(value) = read_number(value) else {
+    let Some(number) = read_number(number) else {
         return Err(Reason::Number);
     };
-    Ok(Line::Call {
-        caller,
-        op: Op::Put { name, value },
-    })
-}
-
-/// Reads what follows the caller and `del`.
-fn read_del(caller: &[u8], rest: &[u8]) -> Result<Line, Reason>
-    requires { setting_verb caller.now ≡ None }
-    ensures { MatchResult result (Says (caller.now ∷ codes "del" ∷ words_of rest.now))
-        (HaveFirst (caller.now ∷ codes "del" ∷ words_of rest.now)) }
-{
-    let Some(name) = only_word(rest) else {
-        return Err(Reason::Words);
-    };
-    let Some(caller) = number_up_to(caller, MOST_CALLER) else {
-        return Err(Reason::Caller);
-    };
-    let Ok(name) = Name::read(name) else {
-        return Err(Reason::Name);
-    };
-    Ok(Line::Call {
-        caller,
-        op: Op::Del { name },
-    })
-}
-
-/// Reads what follows the caller and `scan`.
-fn read_scan(caller: &[u8], rest: &[u8]) -> Result<Line, Reason>
-    requires { setting_verb caller.now ≡ None }
-    ensures { MatchResult result (Says (caller.now ∷ codes "scan" ∷ words_of rest.now))
-        (HaveFirst (caller.now ∷ codes "scan" ∷ words_of rest.now)) }
-{
-    let Some((from, count)) = two_words(rest) else {
-        return Err(Reason::Words);
-    };
-    let Some(caller) = number_up_to(caller, MOST_CALLER) else {
-        return Err(Reason::Caller);
-    };
-    let Ok(from) = Name::read(from) else {
-        return Err(Reason::Name);
-    };
-    let Some(count) = read_number(count) else {
-        return Err(Reason::Number);
-    };
-    Ok(Line::Call {
-        caller,
-        op: Op::Scan { from, count },
-    })
+    Ok((caller, name, number))
 }
 
 /// Reads what follows `crash`.
@@ -234,17 +175,32 @@ fn read_call(caller: &[u8], rest: &[u8]) -> Result<Line, Reason>
     let Some((verb, rest)) = split_word(rest) else {
         return Err(Reason::Verb);
     };
+    let (caller, op) = read_op(caller, verb, rest)?;
+    Ok(Line::Call { caller, op })
+}
+
+/// Reads the caller of a call and what it asks.
+fn read_op(caller: &[u8], verb: &[u8], rest: &[u8]) -> Result<(u64, Op), Reason>
+    requires { setting_verb caller.now ≡ None }
+    ensures { MatchResult result (λ found. IsUpTo 15 caller.now found.0 ×
+        AsksFor (caller.now ∷ verb.now ∷ words_of rest.now) caller.now found.1)
+        (HaveFirst (caller.now ∷ verb.now ∷ words_of rest.now)) }
+{
     if is_word(verb, "put") {
-        return read_put(caller, rest);
+        let (caller, name, value) = read_numbered(caller, rest)?;
+        return Ok((caller, Op::Put { name, value }));
     }
     if is_word(verb, "get") {
-        return read_get(caller, rest);
+        let (caller, name) = read_named(caller, rest)?;
+        return Ok((caller, Op::Get { name }));
     }
     if is_word(verb, "del") {
-        return read_del(caller, rest);
+        let (caller, name) = read_named(caller, rest)?;
+        return Ok((caller, Op::Del { name }));
     }
     if is_word(verb, "scan") {
-        return read_scan(caller, rest);
+        let (caller, from, count) = read_numbered(caller, rest)?;
+        return Ok((caller, Op::Scan { from, count }));
     }
     Err(Reason::Verb)
 }
@@ -269,10 +225,12 @@ fn read_short(first: &[u8], rest: &[u8]) -> Result<Line, Reason>
         return read_join(rest);
     }
     if is_word(first, "updater") {
-        return read_updater(rest);
+        let turns = read_setting(rest, MOST_TURNS)?;
+        return Ok(Line::Updater { turns });
     }
     if is_word(first, "limit") {
-        return read_limit(rest);
+        let limit = read_setting(rest, MOST_WRITES)?;
+        return Ok(Line::Limit { limit });
     }
     read_call(first, rest)
 }
