@@ -19,7 +19,7 @@ use Rattle.cat_script.specs.Laws.{IsScriptOrHasFault}
 use Rattle.cat_script.specs.Limits.{KeepLimits, end_count, call_count, scan_count}
 use Rattle.cat_script.specs.Lines.{lines_of, words_of}
 use Rattle.cat_script.specs.Numbers.{IsUpTo, IsSomeUpTo}
-use Rattle.cat_script.specs.Reasons.{setting_verb, call_verb, word_at, verb_of, HasCount, IsCallVerb, HasNumbers, HasReason, rank_of, IsFirstReason}
+use Rattle.cat_script.specs.Reasons.{verb_text, setting_verb, call_verb, word_at, verb_of, HasCount, IsCallVerb, HasNumbers, HasReason, rank_of, IsFirstReason}
 use Rattle.cat_script.specs.Rounds.{calls_in, settings_in, GoesOn, EndsBy, AsksRound, AreEnded, HasLast, AreRounds}
 use Rattle.cat_script.specs.Scripts.{IsScript, IsLineFault, IsFirstFault, numbered}
 use Rattle.cat_script.specs.declared.fault.ScriptFault.{ScriptFault}
@@ -34,17 +34,6 @@ use Rattle.cat_script.specs.Reasons as verb
 use Rattle.cat_script.proofs.DecisionLemmas.{IsDecided, at_most, reason_decided, comment_decided, empty_decided, good_bytes, good_verb, good_count, good_caller, good_name, good_numbers}
 use Rattle.cat_script.proofs.LineLaws.{rank_one}
 use Rattle.cat_script.proofs.RoundLemmas.{going_more, ended_more}
-
--- The word that says this.
-abbrev verb_text : Verb → List ℕ
-verb_text verb.Join = codes "join"
-verb_text verb.Crash = codes "crash"
-verb_text verb.Updater = codes "updater"
-verb_text verb.Limit = codes "limit"
-verb_text verb.Put = codes "put"
-verb_text verb.Get = codes "get"
-verb_text verb.Del = codes "del"
-verb_text verb.Scan = codes "scan"
 
 -- which way a test went
 chosen : {X : Type 0} (t : Bool) (x y z : X) → cond t x y ≡ z → ((t ≡ true) × (x ≡ z)) ⊎ (y ≡ z)

@@ -23,19 +23,30 @@ pub data Verb : Type 0 where
   Del : Verb
   Scan : Verb
 
+-- The word that says this.
+abbrev pub verb_text : Verb → List ℕ
+verb_text Join = codes "join"
+verb_text Crash = codes "crash"
+verb_text Updater = codes "updater"
+verb_text Limit = codes "limit"
+verb_text Put = codes "put"
+verb_text Get = codes "get"
+verb_text Del = codes "del"
+verb_text Scan = codes "scan"
+
 -- What the first word says, where it is one of these.
 abbrev pub setting_verb : List ℕ → Option Verb
-setting_verb word = if bytes_eq word (codes "join") then Some Join else
-    if bytes_eq word (codes "crash") then Some Crash else
-    if bytes_eq word (codes "updater") then Some Updater else
-    if bytes_eq word (codes "limit") then Some Limit else None
+setting_verb word = if bytes_eq word (verb_text Join) then Some Join else
+    if bytes_eq word (verb_text Crash) then Some Crash else
+    if bytes_eq word (verb_text Updater) then Some Updater else
+    if bytes_eq word (verb_text Limit) then Some Limit else None
 
 -- What the second word of a call says.
 abbrev pub call_verb : List ℕ → Option Verb
-call_verb word = if bytes_eq word (codes "put") then Some Put else
-    if bytes_eq word (codes "get") then Some Get else
-    if bytes_eq word (codes "del") then Some Del else
-    if bytes_eq word (codes "scan") then Some Scan else None
+call_verb word = if bytes_eq word (verb_text Put) then Some Put else
+    if bytes_eq word (verb_text Get) then Some Get else
+    if bytes_eq word (verb_text Del) then Some Del else
+    if bytes_eq word (verb_text Scan) then Some Scan else None
 
 -- The word of this number, counted from 0; none is the empty word.
 abbrev pub word_at : List (List ℕ) → ℕ → List ℕ
