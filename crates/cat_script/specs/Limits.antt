@@ -1,40 +1,41 @@
 -- How many rounds, calls and names a script may ask for.
 use Rattle.std.specs.Prelude.{◌≡◌, ℕ, ◌≤◌, List, length, sum_by}
+use Rattle.cat_history.specs.declared.op.Op.{Op}
 use Rattle.cat_history.specs.declared.op.Op.TheVariants.{Put, Get, Del, Scan}
 use Rattle.cat_script.specs.declared.fault.ScriptFault.{ScriptFault}
 use Rattle.cat_script.specs.declared.fault.ScriptFault.TheVariants as fault
 use Rattle.cat_script.specs.declared.line.Line.{Line}
 use Rattle.cat_script.specs.declared.line.Line.TheVariants.{Blank, Call, Join, Crash, Updater, Limit}
 
--- One for a line that ends a round.
+-- What a line counts for: the rounds that it ends, its calls, and the names that its scans ask for.
+pub record LineCounts : Type 0 where
+  pub ends : ℕ
+  pub calls : ℕ
+  pub scans : ℕ
+
+-- The names that a call asks for, if it is a scan.
+abbrev pub names_asked : Op → ℕ
+names_asked (Put name value) = 0
+names_asked (Get name) = 0
+names_asked (Del name) = 0
+names_asked (Scan from count) = count
+
+abbrev pub counts_of : Line → LineCounts
+counts_of Blank = record { ends = 0; calls = 0; scans = 0 }
+counts_of (Call caller op) = record { ends = 0; calls = 1; scans = names_asked op }
+counts_of Join = record { ends = 1; calls = 0; scans = 0 }
+counts_of (Crash plan) = record { ends = 1; calls = 0; scans = 0 }
+counts_of (Updater turns) = record { ends = 0; calls = 0; scans = 0 }
+counts_of (Limit limit) = record { ends = 0; calls = 0; scans = 0 }
+
 abbrev pub end_count : Line → ℕ
-end_count Blank = 0
-end_count (Call caller op) = 0
-end_count Join = 1
-end_count (Crash plan) = 1
-end_count (Updater turns) = 0
-end_count (Limit limit) = 0
+end_count line = (counts_of line).ends
 
--- One for a call.
 abbrev pub call_count : Line → ℕ
-call_count Blank = 0
-call_count (Call caller op) = 1
-call_count Join = 0
-call_count (Crash plan) = 0
-call_count (Updater turns) = 0
-call_count (Limit limit) = 0
+call_count line = (counts_of line).calls
 
--- The names that a scan asks for.
 abbrev pub scan_count : Line → ℕ
-scan_count Blank = 0
-scan_count (Call caller (Put name value)) = 0
-scan_count (Call caller (Get name)) = 0
-scan_count (Call caller (Del name)) = 0
-scan_count (Call caller (Scan from count)) = count
-scan_count Join = 0
-scan_count (Crash plan) = 0
-scan_count (Updater turns) = 0
-scan_count (Limit limit) = 0
+scan_count line = (counts_of line).scans
 
 abbrev pub HasFewEnds : List Line → Type 0
 HasFewEnds lines = sum_by end_count lines ≤ 1000
