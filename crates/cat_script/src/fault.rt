@@ -1,7 +1,8 @@
 //! What is wrong with a text that is no script.
 
-ghost use Rattle.std.specs.Prelude.{Some};
-ghost use Rattle.cat_script.specs.Faults.{reason_text, script_fault_text};
+ghost use Rattle.std.specs.Prelude.{◌≡◌, Some};
+ghost use Rattle.std.specs.Fmt.{WritesOnOk};
+ghost use Rattle.cat_script.specs.Faults.{passed_text, reason_text, script_fault_text};
 
 use crate::line::Reason;
 use cat_history::NoMemory;
@@ -28,7 +29,6 @@ pub enum ScriptFault {
 }
 
 impl From<NoMemory> for ScriptFault {
-    ghost use Rattle.std.specs.Prelude.{◌≡◌};
     ghost use Rattle.cat_script.specs.declared.fault.ScriptFault.TheVariants.{NoMemory as OutOfMemory};
 
     ghost from_gives = { λ _ fault. fault ≡ OutOfMemory };
@@ -38,19 +38,33 @@ impl From<NoMemory> for ScriptFault {
     }
 }
 
+/// The word that tells a reason.
+fn reason_word(reason: &Reason) -> &'static str
+    ensures { result.now ≡ reason_text reason.now }
+{
+    match reason {
+        Reason::Byte => "byte",
+        Reason::Verb => "verb",
+        Reason::Words => "words",
+        Reason::Caller => "caller",
+        Reason::Name => "name",
+        Reason::Number => "number",
+    }
+}
+
 impl fmt::Display for Reason {
     ghost output = { λ reason. Some (reason_text reason) };
 
     fn fmt<W: fmt::Write>(&self, f: &mut fmt::Formatter<W>) -> fmt::Result {
-        match self {
-            Reason::Byte => write!(f, "byte"),
-            Reason::Verb => write!(f, "verb"),
-            Reason::Words => write!(f, "words"),
-            Reason::Caller => write!(f, "caller"),
-            Reason::Name => write!(f, "name"),
-            Reason::Number => write!(f, "number"),
-        }
+        f.write_str(reason_word(self))
     }
+}
+
+/// Writes that with this line a script has more than it may have.
+fn write_passed<W: fmt::Write>(f: &mut fmt::Formatter<W>, line: u64, most: &str) -> fmt::Result
+    ensures { WritesOnOk W.write_str_gives f.old result (passed_text line most.now) f.new }
+{
+    write!(f, "script: line {line}: more than {most}")
 }
 
 impl fmt::Display for ScriptFault {
@@ -59,12 +73,9 @@ impl fmt::Display for ScriptFault {
     fn fmt<W: fmt::Write>(&self, f: &mut fmt::Formatter<W>) -> fmt::Result {
         match self {
             ScriptFault::Bytes => write!(f, "script: more than 4194304 bytes"),
-            ScriptFault::Rounds { line } => write!(f, "script: line {line}: more than 1000 rounds"),
-            ScriptFault::Calls { line } => write!(f, "script: line {line}: more than 100000 calls"),
-            ScriptFault::Scans { line } => write!(
-                f,
-                "script: line {line}: more than 1000000 names"
-            ),
+            ScriptFault::Rounds { line } => write_passed(f, *line, "1000 rounds"),
+            ScriptFault::Calls { line } => write_passed(f, *line, "100000 calls"),
+            ScriptFault::Scans { line } => write_passed(f, *line, "1000000 names"),
             ScriptFault::Line { line, reason } => write!(f, "script: line {line}: {reason}"),
             ScriptFault::NoMemory => write!(f, "out of memory"),
         }
