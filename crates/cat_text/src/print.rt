@@ -1,6 +1,6 @@
 //! Printing reports. Each function `add_..` adds the text of one part at the end of the text so far.
 
-ghost use Rattle.std.specs.Prelude.{◌≡◌, ◌++◌, codes, decimal, flat_map, length, IfOk, OnOk};
+ghost use Rattle.std.specs.Prelude.{◌≡◌, ◌++◌, ℕ, List, codes, decimal, flat_map, length, IfOk, OnOk};
 ghost use Rattle.cat_text.specs.ReportGrammar.{IsReport, IsReportText};
 ghost use Rattle.cat_text.specs.Reports.{cut_text, end_word, high_text, last_line, mark_text, old_text, op_text};
 ghost use Rattle.cat_text.specs.Reports.{pair_text, part_line, part_lines, record_line, record_text, reply_text};
@@ -40,15 +40,25 @@ pub fn print_rounds(alloc: Global, report: &Report) -> Result<Vec<u8>, NoMemory>
 fn add_round(text: &mut Vec<u8>, round: &RoundReport) -> Result<(), NoMemory>
     ensures { OnOk result (text.new.items ≡ text.old.items ++ round_text round.now) }
 {
-    add_records(text, round.records.as_slice())?;
+    add_each(text, round.records.as_slice())?;
     add_last_line(text, round)
 }
 
-fn add_records(text: &mut Vec<u8>, records: &[Record]) -> Result<(), NoMemory>
-    ensures { OnOk result (text.new.items ≡ text.old.items ++ flat_map record_text records.now) }
+/// What has a text of its own in a report, and stands there behind others of its kind.
+trait Printed {
+    ghost printed: { Self → List ℕ };
+
+    /// Adds its text.
+    fn add_to(&self, text: &mut Vec<u8>) -> Result<(), NoMemory>
+        ensures { OnOk result (text.new.items ≡ text.old.items ++ printed self.now) };
+}
+
+/// Adds the texts of these, one behind another.
+fn add_each<T: Printed>(text: &mut Vec<u8>, items: &[T]) -> Result<(), NoMemory>
+    ensures { OnOk result (text.new.items ≡ text.old.items ++ flat_map T.printed items.now) }
 {
-    for record in records {
-        add_record(text, record)?;
+    for item in items {
+        item.add_to(text)?;
     }
     Ok(())
 }
@@ -74,11 +84,13 @@ fn add_end(text: &mut Vec<u8>, crashed: bool) -> Result<(), NoMemory>
     }
 }
 
-fn add_record(text: &mut Vec<u8>, call: &Record) -> Result<(), NoMemory>
-    ensures { OnOk result (text.new.items ≡ text.old.items ++ record_text call.now) }
-{
-    add_record_line(text, call)?;
-    add_part_lines(text, &call.reply)
+impl Printed for Record {
+    ghost printed = { record_text };
+
+    fn add_to(&self, text: &mut Vec<u8>) -> Result<(), NoMemory> {
+        add_record_line(text, self)?;
+        add_part_lines(text, &self.reply)
+    }
 }
 
 fn add_record_line(text: &mut Vec<u8>, call: &Record) -> Result<(), NoMemory>
@@ -186,7 +198,7 @@ fn add_part_lines(text: &mut Vec<u8>, reply: &Reply) -> Result<(), NoMemory>
     ensures { OnOk result (text.new.items ≡ text.old.items ++ part_lines reply.now) }
 {
     match reply {
-        Reply::Parts { parts, .. } => add_lines_of(text, parts.as_slice()),
+        Reply::Parts { parts, .. } => add_each(text, parts.as_slice()),
         Reply::Old { .. }
         | Reply::Full
         | Reply::Spent { .. }
@@ -195,24 +207,17 @@ fn add_part_lines(text: &mut Vec<u8>, reply: &Reply) -> Result<(), NoMemory>
     }
 }
 
-fn add_lines_of(text: &mut Vec<u8>, parts: &[ScanPart]) -> Result<(), NoMemory>
-    ensures { OnOk result (text.new.items ≡ text.old.items ++ flat_map part_line parts.now) }
-{
-    for part in parts {
-        add_part(text, part)?;
-    }
-    Ok(())
-}
+impl Printed for ScanPart {
+    ghost printed = { part_line };
 
-fn add_part(text: &mut Vec<u8>, part: &ScanPart) -> Result<(), NoMemory>
-    ensures { OnOk result (text.new.items ≡ text.old.items ++ part_line part.now) }
-{
-    text.extend_from_slice(b"part ")?;
-    add_name(text, &part.low)?;
-    add_high(text, &part.high)?;
-    add_place(text, part.place)?;
-    add_pairs(text, part.pairs.as_slice())?;
-    text.extend_from_slice(b"\n")
+    fn add_to(&self, text: &mut Vec<u8>) -> Result<(), NoMemory> {
+        text.extend_from_slice(b"part ")?;
+        add_name(text, &self.low)?;
+        add_high(text, &self.high)?;
+        add_place(text, self.place)?;
+        add_each(text, self.pairs.as_slice())?;
+        text.extend_from_slice(b"\n")
+    }
 }
 
 fn add_high(text: &mut Vec<u8>, high: &Option<Name>) -> Result<(), NoMemory>
@@ -227,22 +232,15 @@ fn add_high(text: &mut Vec<u8>, high: &Option<Name>) -> Result<(), NoMemory>
     }
 }
 
-fn add_pairs(text: &mut Vec<u8>, pairs: &[Pair]) -> Result<(), NoMemory>
-    ensures { OnOk result (text.new.items ≡ text.old.items ++ flat_map pair_text pairs.now) }
-{
-    for pair in pairs {
-        add_pair(text, pair)?;
-    }
-    Ok(())
-}
+impl Printed for Pair {
+    ghost printed = { pair_text };
 
-fn add_pair(text: &mut Vec<u8>, pair: &Pair) -> Result<(), NoMemory>
-    ensures { OnOk result (text.new.items ≡ text.old.items ++ pair_text pair.now) }
-{
-    text.extend_from_slice(b" ")?;
-    add_name(text, &pair.name)?;
-    text.extend_from_slice(b" ")?;
-    add_number(text, pair.value)
+    fn add_to(&self, text: &mut Vec<u8>) -> Result<(), NoMemory> {
+        text.extend_from_slice(b" ")?;
+        add_name(text, &self.name)?;
+        text.extend_from_slice(b" ")?;
+        add_number(text, self.value)
+    }
 }
 
 fn add_old(text: &mut Vec<u8>, old: Option<u64>) -> Result<(), NoMemory>
