@@ -5,3 +5,4 @@ pub mod ReportLaws
 pub mod LoneReports
 pub mod OutsideLemmas
 pub mod ShelfLemmas
+mod EntryLemmas

@@ -9,7 +9,6 @@ use prog.Routine.{Routine}
 use prog.Wp.{WpFn, Tables}
 use types.Logic.{Logic}
 use contract.Monad.{Fun}
-use contract.Running.{tables, tables_of}
 use sound.WpLaws.{WpFn-mono}
 use types.Kit.{raw, ◌$◌, ◌∵◌, !, qed, keep, join, suffices, done}
 use types.Run.{no_more, and_then, returns, enter}
@@ -19,9 +18,9 @@ use denote.Shadow.{pure_i}
 use denote.Steps.{nothing}
 use denote.Triple.Entry.{on_entry}
 use denote.Triple.Spec.{Meets, triple_of}
-use denote.Triple.Table.{entered}
 use denote.Triple.Walked.{says, ends_at, walked, walk_Meets}
 use Rattle.cat_text.specs.declared.outside.fault_count.FaultCount.{FaultCount}
+use Rattle.cat_text.proofs.EntryLemmas.{entered_by}
 use Rattle.cat_text.specs.contracts.outside.fault_count.FaultCount as T
 use Rattle.cat_text.specs.contracts.outside.fault_count.FaultCount.new.Key.{name as #it}
 use Rattle.cat_text.specs.contracts.outside.fault_count.FaultCount.new as it
@@ -48,8 +47,5 @@ meets {𝓤 = 𝓤} 𝓛 at_mem run 𝓣 =
     nothing ! $ join ! $ nothing ! $ done !)))
 
 pub new_spec : {M : Type 1} → stated.statement M
-unfolding tables_of
 new_spec 𝓤 𝓛 𝓜 𝓡 wired =
-    entered 𝓤 𝓛.H (triple_of 𝓛 it.signature (it.spec 𝓛 𝓜.mem 𝓡.returns))
-    (tables 𝓤 𝓛.H 𝓜 𝓡 𝓡.env).C (tables 𝓤 𝓛.H 𝓜 𝓡 𝓡.env).Λ #it code.function (code.unfolded 𝓤 𝓛.H 𝓜 𝓡 wired)
-    (meets 𝓛 𝓜.mem 𝓡.returns (tables_of 𝓤 𝓛.H 𝓜 (tables 𝓤 𝓛.H 𝓜 𝓡 𝓡.env)))
+    entered_by 𝓤 𝓛 𝓜 𝓡 #it code.function (triple_of 𝓛 it.signature (it.spec 𝓛 𝓜.mem 𝓡.returns)) (code.unfolded 𝓤 𝓛.H 𝓜 𝓡 wired) (meets 𝓛 𝓜.mem 𝓡.returns)
