@@ -10,9 +10,7 @@ use Rattle.cat_history.specs.declared.record.ScanPart.{ScanPart}
 use Rattle.cat_text.specs.ReportGrammar.{IsReportPair}
 use Rattle.cat_text.specs.ReportLines.{high_fields, place_field, pair_fields}
 use Rattle.cat_text.proofs.ReplyLaws.{high_one}
-use Rattle.report_reader.specs.declared.fault.LineFault.{LineFault}
-use Rattle.report_reader.specs.declared.fault.LineFault.TheVariants.{Outside, NoMemory}
-use Rattle.report_reader.specs.Parts.{FailsBy, SaysPart, SaysPairs, SaysBounds, AreBounds, bounds_fields}
+use Rattle.report_reader.specs.Parts.{SaysPart, SaysPairs, SaysBounds, AreBounds, bounds_fields}
 use Rattle.report_reader.specs.declared.part.Bounds.{Bounds}
 
 -- ---- pairs
@@ -114,7 +112,3 @@ makes_part part fields more bounds says pairs lows highs places =
       says.1 ∙ ap (bounds_fields bounds) pairs.2
           ∙ ap (λ (b : Bounds). bounds_fields b (flat_map pair_fields part.pairs)) (λ i. record { low = sym lows i; high = sym highs i; place = sym places i }),
     )
-
-pub fails_weaker : (P Q : Type 0) (why : LineFault) → (P → Q) → FailsBy P why → FailsBy Q why
-fails_weaker P Q Outside so fails = so fails
-fails_weaker P Q NoMemory so fails = tt

@@ -84,7 +84,18 @@ impl Reading {
         ensures err { IfErr result (FailsBy (¬ MayCome self.old (fields_of line.now))) }
     {
         match read_head(line) {
-            Some(Head::Call { caller, op, answer }) => self.add_call(alloc, caller, op, answer),
+            Some(Head::Call { caller, op, answer }) => {
+                let Some(first) = self.first_of(caller) else {
+                    return Err(LineFault::Outside);
+                };
+                let call = OpenCall {
+                    caller,
+                    first,
+                    op,
+                    answer,
+                };
+                self.add_call(alloc, call)
+            }
             Some(
                 Head::Last {
                     crashed,
@@ -97,29 +108,14 @@ impl Reading {
     }
 
     /// Takes the line of a call.
-    fn add_call(
-        &mut self,
-        alloc: Global,
-        caller: u64,
-        op: Op,
-        answer: Answer,
-    ) -> Result<(), LineFault>
+    fn add_call(&mut self, alloc: Global, call: OpenCall) -> Result<(), LineFault>
         requires is { IsReading self.old }
         requires closed { self.old.scan ≡ None }
-        requires head { IsHead (Head.Call caller op answer) }
-        ensures ok { OnOk result (HasRead self.old (head_fields (Head.Call caller op answer) ∷ []) self.new) }
-        ensures err { IfErr result (FailsBy (caller < self.old.caller)) }
+        requires call { IsCall self.old call }
+        ensures ok { OnOk result (HasRead self.old (call_fields call ∷ []) self.new) }
+        ensures err { IfErr result (FailsBy ⊥) }
     {
-        let Some(first) = self.first_of(caller) else {
-            return Err(LineFault::Outside);
-        };
-        let call = OpenCall {
-            caller,
-            first,
-            op,
-            answer,
-        };
-        if count_of(answer) == 0 {
+        if count_of(call.answer) == 0 {
             return self.close(call, Vec::new(alloc));
         }
         self.scan = Some(call);
