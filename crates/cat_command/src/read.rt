@@ -58,7 +58,8 @@ fn read_four(command: &[u8], first: &[u8], second: &[u8], third: &[u8]) -> Optio
         ¬ IsCommand (command.now ∷ first.now ∷ second.now ∷ third.now ∷ []) asked }
 {
     if is_word(command, "play") {
-        return read_play(first, second, third);
+        let layout = read_layout(first, second, third)?;
+        return Some(Command::Play { layout });
     }
     if is_word(command, "gen") {
         return read_gen(first, second, third);
@@ -87,16 +88,6 @@ fn read_five(
     }
     let layout = read_layout(nodes, slots, callers)?;
     Some(Command::Format { layout })
-}
-
-/// Reads what follows `play`.
-fn read_play(nodes: &[u8], slots: &[u8], callers: &[u8]) -> Option<Command>
-    ensures some { IfSome result (IsCommand (codes "play" ∷ nodes.now ∷ slots.now ∷ callers.now ∷ [])) }
-    ensures none { IsNone result → (asked : Command) →
-        ¬ IsCommand (codes "play" ∷ nodes.now ∷ slots.now ∷ callers.now ∷ []) asked }
-{
-    let layout = read_layout(nodes, slots, callers)?;
-    Some(Command::Play { layout })
 }
 
 /// Reads what follows `gen`.
