@@ -3,9 +3,8 @@ ghost use Rattle.std.specs.Prelude.{◌≡◌, ◌≢◌, ℕ, ◌+◌, ◌<◌,
 ghost use Rattle.std.specs.Prelude.{OnErr, IfSome};
 ghost use Rattle.std.specs.Io.KnownBytes.{Consumes, Keeps, IsAtEnd};
 ghost use Rattle.cat_text.specs.Outside.{ConsumesAtMost, Moves};
-ghost use Rattle.cat_text.specs.declared.outside.source.ReadFault.TheVariants.{Failed as ReadFailed, NoMemory};
 
-use std::alloc::{AllocError, Global};
+use std::alloc::Global;
 
 /// How many bytes `read_whole` asks for at a time.
 const PIECE_BYTES: usize = 65_536;
@@ -46,22 +45,6 @@ pub enum ReadFault {
     NoMemory,
 }
 
-impl From<Failed> for ReadFault {
-    ghost from_gives = { λ _ fault. fault ≡ ReadFailed };
-
-    fn from(_failed: Failed) -> ReadFault {
-        ReadFault::Failed
-    }
-}
-
-impl From<AllocError> for ReadFault {
-    ghost from_gives = { λ _ fault. fault ≡ NoMemory };
-
-    fn from(_error: AllocError) -> ReadFault {
-        ReadFault::NoMemory
-    }
-}
-
 /// Reads a source to its end, which has to come within `most` bytes: past them it is too long. It
 /// takes at most `most + 1` bytes in all, and room for them and for one piece.
 pub fn read_whole<S: Source>(
@@ -80,7 +63,9 @@ pub fn read_whole<S: Source>(
     ensures takes { ConsumesAtMost (most + 1) (S.left source.old) (S.left source.new) }
     ensures never_falls { S.faults source.old ≤ S.faults source.new }
 {
-    let mut piece = vec![in alloc; 0u8; PIECE_BYTES]?;
+    let Ok(mut piece) = vec![in alloc; 0u8; PIECE_BYTES] else {
+        return Err(ReadFault::NoMemory);
+    };
     let mut text = Vec::new(alloc);
     while text.len() <= most {
         let room = (most - text.len()).saturating_add(1);
@@ -109,7 +94,11 @@ fn read_piece<S: Source>(
     ensures never_falls { S.faults source.old ≤ S.faults source.new }
 {
     let asked = piece.len().min(room);
-    let taken = source.read(&mut piece[..asked])?;
-    text.extend_from_slice(&piece[..taken])?;
-    Ok(taken)
+    let Ok(taken) = source.read(&mut piece[..asked]) else {
+        return Err(ReadFault::Failed);
+    };
+    match text.extend_from_slice(&piece[..taken]) {
+        Ok(()) => Ok(taken),
+        Err(_) => Err(ReadFault::NoMemory),
+    }
 }

@@ -4,7 +4,7 @@ use Rattle.cat_text.proofs.OutsideLemmas.{Consumes-moved, length-moved, Consumes
 use Rattle.cat_text.proofs.outside.source.read_whole.Goals as goal
 
 pub loop-text-init : goal.loop-text-init
-loop-text-init g c = (rw c.new-text.ensures.items (Consumes-nil _), omega arith, omega (arith, c.new-text.ensures.len), c.in_ok-piece.ensures.len)
+loop-text-init g c = (rw c.new-text.ensures.items (Consumes-nil _), omega arith, omega (arith, c.new-text.ensures.len), c.in-Ok.ensures.len)
 
 pub returns-in_err-taken-clause-takes : goal.returns-in_err-taken-clause-takes
 returns-in_err-taken-clause-takes g c =
