@@ -39,10 +39,11 @@ returns-then-not-is_free g c =
     (version_taken c.hops.self c.act-version.result c.is_free.result c.is_free.ensures c.if-not-is_free.true))
 
 pub leads-requires : goal.leads-requires
-leads-requires g c =
-    (c.act-version.result,
-    free_may c.hops.self c.requires.may c.hops.invariant c.address.ensures c.act-version.ensures.row
-    c.act-version.ensures.got c.act-version.ensures.tick c.is_free.result c.is_free.ensures c.if-not-is_free.false)
+leads-requires g c = (
+  c.act-version.result,
+  free_may c.hops.self c.requires.may c.hops.invariant c.address.ensures c.act-version.ensures.row
+      c.act-version.ensures.got c.act-version.ensures.tick c.is_free.result c.is_free.ensures c.if-not-is_free.false,
+)
 
 pub returns-in_default : goal.returns-in_default
 returns-in_default g c =
