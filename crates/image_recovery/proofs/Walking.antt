@@ -1,5 +1,5 @@
 -- A walk along the list that looks for a node with some anchor.
-use Rattle.std.proofs.Common.{◌≡◌, ◌≢◌, ℕ, List, Option, Some, None, sym, ap, ◌∙◌, arith}
+use Rattle.std.proofs.Common.{◌≡◌, ◌≢◌, ℕ, ◌≤◌, List, Option, Some, None, sym, ap, ◌∙◌, arith}
 use Rattle.std.specs.Prelude.{MatchOption}
 use Rattle.pm_words.specs.Images.{Row}
 use Rattle.pm_words.specs.declared.layout.Layout.{Layout}
@@ -12,7 +12,7 @@ use Rattle.image_rules.specs.Lowest.{IsFirst}
 use Rattle.image_rules.specs.Nodes.{image_spot, image_list, IsListedAt, IsListedNode, LeadWithin}
 use Rattle.image_rules.specs.Sound.{IsSound}
 use Rattle.image_rules.proofs.ListRules.{lead_within}
-use Rattle.image_rules.proofs.WalkLemmas.{IsOfList, same_node}
+use Rattle.image_rules.proofs.WalkLemmas.{IsOfList, Walks, same_node}
 use Rattle.image_recovery_law.specs.Columns.{anchor_of, line_anchor}
 use Rattle.image_recovery_law.specs.Stages.{LacksAnchor}
 use Rattle.image_recovery_law.proofs.SoundColumns.{spots_are}
@@ -32,9 +32,10 @@ pub key_of_list : (l : Layout) (words : List ℕ) (key : ℕ) → IsOfList l wor
 key_of_list l words key = record { listed = λ position w has. (has.node, has.listed) }
 
 -- it doesn't, where the node that stands there has another
-pub no_key_at : (l : Layout) (words : List ℕ) (key position n : ℕ) → IsListedAt l words position n → anchor_in (image_spot l words n) ≢ key → (w : Word) → ¬ HasKeyAt l words key position w
-no_key_at l words key position n at other w has =
-    other (ap (λ k. anchor_in (image_spot l words k)) (same_node l words position n has.node at has.listed) ∙ has.same)
+pub no_key_at : {l : Layout} {words : List ℕ} {P : ℕ → Word → Type 0} {position n : ℕ} (key : ℕ) → Walks l words P position n → position ≤ l.nodes → anchor_in (image_spot l words n) ≢ key
+    → (w : Word) → ¬ HasKeyAt l words key position w
+no_key_at {l} {words} {P} {position} {n} key walks within other w has =
+    other (ap (λ k. anchor_in (image_spot l words k)) (same_node l words position n has.node (walks.at within) has.listed) ∙ has.same)
 
 -- where no position has it, no listed node has
 pub no_key : (l : Layout) (words : List ℕ) (key : ℕ) → IsFirst l (HasKeyAt l words key) None → (n : ℕ) → IsListedNode l words n → anchor_in (image_spot l words n) ≢ key

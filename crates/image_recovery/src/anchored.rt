@@ -10,7 +10,7 @@ ghost use Rattle.image_recovery.specs.Plans.{columns, list_of, HasAnchorOf};
 
 use crate::lines::line_anchor;
 use cat_key::WORDS;
-use image_rules::read::{anchor_of, next_of};
+use image_rules::read::{anchor_of, next_of, node_count};
 use pm_words::Image;
 
 /// Whether they are one key.
@@ -38,7 +38,7 @@ fn node_with(image: &Image, anchor: [u64; WORDS]) -> Option<u64>
 {
     let mut node = 0;
     // A list of more nodes than there are would have one twice.
-    for _position in 0..image.layout().nodes() + 1 {
+    for _position in 0..node_count(image) + 1 {
         if has_anchor(image, node, anchor) {
             return Some(node);
         }

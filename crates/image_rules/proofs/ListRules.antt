@@ -1,5 +1,5 @@
 -- The rules on the list: what a walk shows of them at the node that it came to.
-use Rattle.std.proofs.Common.{◌≡◌, ◌≢◌, ℕ, zero, suc, ◌+◌, ◌<◌, ◌≤◌, ◌⊎◌, ◌↔◌, List, Some, inl, inr, refl, sym, ap, ◌∙◌, subst, arith}
+use Rattle.std.proofs.Common.{◌≡◌, ◌≢◌, ℕ, zero, suc, ◌+◌, ◌<◌, ◌≤◌, ◌⊎◌, ◌↔◌, List, Some, None, inl, inr, refl, sym, ap, ◌∙◌, subst, arith}
 use Rattle.std.specs.Prelude.{Bool, nat_lt, not, IsTrue}
 use Rattle.std.proofs.lemmas.Bool.{cases_lt, lt-ltb, le-ltb, false≢true}
 use Rattle.pm_words.specs.declared.layout.Layout.{Layout}
@@ -9,14 +9,14 @@ use Rattle.cat_key.specs.Names.{AreNameWords}
 use Rattle.data_node.specs.Spots.{Spot}
 use Rattle.data_node.specs.Lists.{anchor_in, anchor_words}
 use Rattle.data_node.proofs.PositionLemmas.{position_in, in_position, position_bound, position_end}
-use Rattle.image_rules.specs.Lowest.{IsLowest, IsNumberOf}
+use Rattle.image_rules.specs.Lowest.{IsLowest, IsNumberOf, IsFirst}
 use Rattle.image_rules.specs.Nodes.{image_spot, image_list, IsListedAt, LeadWithin, next_in}
 use Rattle.image_rules.specs.Rules.{LeadsOut, LeadsBack, IsMisplaced, BreaksAnchors, BreaksInNode}
 use Rattle.image_rules.specs.Sound.{leads_out, AreKept}
 use Rattle.image_rules.specs.declared.listed.NodeRule.{NodeRule}
 use Rattle.image_rules.specs.declared.node_set.NodeSet.{NodeSet}
 use Rattle.image_rules.specs.NodeSets.{HasNode, AreListed}
-use Rattle.image_rules.proofs.WalkLemmas.{NoneBefore, IsOfList, one_word, same_node}
+use Rattle.image_rules.proofs.WalkLemmas.{IsOfList, Walks, none_more, one_word, same_node}
 
 -- each rule is broken at positions of the list alone
 pub out_listed : (l : Layout) (image : List ℕ) → IsOfList l image (LeadsOut l image)
@@ -35,11 +35,15 @@ anchors_listed l image = record { listed = anchor_listed l image }
 pub in_node_listed : (l : Layout) (image : List ℕ) (rule : NodeRule) → IsOfList l image (BreaksInNode l image rule)
 in_node_listed l image rule = record { listed = λ position w breaks. (breaks.node, breaks.listed) }
 
-module _ (l : Layout) (image : List ℕ) (position node : ℕ) (at : IsListedAt l image position node) where
+-- what a walk shows at the node that it came to
+module _ {l : Layout} {image : List ℕ} {P : ℕ → Word → Type 0} {position node : ℕ} (walks : Walks l image P position node) (within : position ≤ l.nodes) where
+  is_here : (other : ℕ) → IsListedAt l image position other → other ≡ node
+  is_here other listed = same_node l image position other node listed (walks.at within)
+
   -- a node that leads to one of the image's keeps rule 3, and one that leads on elsewhere breaks it
   pub out_kept : (next_in l image node ≡ 0) ⊎ (next_in l image node < l.nodes) → (w : Word) → ¬ LeadsOut l image position w
   out_kept kept w out =
-      let same = ap (next_in l image) (same_node l image position out.node node out.listed at) in
+      let same = ap (next_in l image) (is_here out.node out.listed) in
       elim kept as (λ _. ⊥) [
         | inl none ↦ out.leads (same ∙ none)
         | inr inside ↦ let past = out.out in omega arith
@@ -48,13 +52,13 @@ module _ (l : Layout) (image : List ℕ) (position node : ℕ) (at : IsListedAt 
   pub out_found : (number : ℕ) → number ≡ word_number l (Node node next_offset) → next_in l image node ≢ 0 → l.nodes ≤ next_in l image node
       → IsLowest (IsNumberOf l (LeadsOut l image position)) (Some number)
   out_found number is leads out = one_word l (LeadsOut l image position) (Node node next_offset) number is
-      (record { node = node; listed = at; here = refl; leads = leads; out = out })
-      (λ w other. other.here ∙ ap (λ n. Node n next_offset) (same_node l image position other.node node other.listed at))
+      (record { node = node; listed = walks.at within; here = refl; leads = leads; out = out })
+      (λ w other. other.here ∙ ap (λ n. Node n next_offset) (is_here other.node other.listed))
 
   -- likewise rule 4
   pub back_kept : (next_in l image node ≡ 0) ⊎ ((earlier : ℕ) → earlier ≤ position → IsListedAt l image earlier (next_in l image node) → ⊥) → (w : Word) → ¬ LeadsBack l image position w
   back_kept kept w back =
-      let same = ap (next_in l image) (same_node l image position back.node node back.listed at) in
+      let same = ap (next_in l image) (is_here back.node back.listed) in
       elim kept as (λ _. ⊥) [
         | inl none ↦ back.leads (same ∙ none)
         | inr new ↦ new back.earlier back.before (subst (IsListedAt l image back.earlier) same back.again)
@@ -63,26 +67,34 @@ module _ (l : Layout) (image : List ℕ) (position node : ℕ) (at : IsListedAt 
   pub back_found : (number earlier : ℕ) → number ≡ word_number l (Node node next_offset) → next_in l image node ≢ 0 → earlier ≤ position
       → IsListedAt l image earlier (next_in l image node) → IsLowest (IsNumberOf l (LeadsBack l image position)) (Some number)
   back_found number earlier is leads before again = one_word l (LeadsBack l image position) (Node node next_offset) number is
-      (record { node = node; listed = at; here = refl; leads = leads; earlier = earlier; before = before; again = again })
-      (λ w other. other.here ∙ ap (λ n. Node n next_offset) (same_node l image position other.node node other.listed at))
+      (record { node = node; listed = walks.at within; here = refl; leads = leads; earlier = earlier; before = before; again = again })
+      (λ w other. other.here ∙ ap (λ n. Node n next_offset) (is_here other.node other.listed))
 
   -- and rule 5 at the node behind it
-  pub anchor_kept : (next : ℕ) → IsListedAt l image (suc position) next
-      → ¬ ((¬ AreNameWords (anchor_words (image_spot l image next))) ⊎ (anchor_in (image_spot l image next) ≤ anchor_in (image_spot l image node)))
-      → (w : Word) → ¬ BreaksAnchors l image (position + 1) w
-  anchor_kept next behind right w wrong =
-      let is : IsMisplaced l image position w = subst (λ k. BreaksAnchors l image k w) (let e : position + 1 ≡ suc position = omega arith in e) wrong in
-      let before = same_node l image position is.before node is.listed_before at in
-      let here = same_node l image (suc position) is.node next is.listed behind in
-      right (subst (λ k. (¬ AreNameWords (anchor_words (image_spot l image next))) ⊎ (anchor_in (image_spot l image next) ≤ anchor_in (image_spot l image k))) before
-      (subst (λ k. (¬ AreNameWords (anchor_words (image_spot l image k))) ⊎ (anchor_in (image_spot l image k) ≤ anchor_in (image_spot l image is.before))) here is.wrong))
+  module _ (next : ℕ) (behind : Walks l image P (position + 1) next) (more : position + 1 ≤ l.nodes) where
+    next_one : position + 1 ≡ suc position
+    next_one = omega arith
 
-  pub anchor_found : (next number : ℕ) → IsListedAt l image (suc position) next → number ≡ word_number l (Node next anchor_offset)
-      → ((¬ AreNameWords (anchor_words (image_spot l image next))) ⊎ (anchor_in (image_spot l image next) ≤ anchor_in (image_spot l image node)))
-      → IsLowest (IsNumberOf l (BreaksAnchors l image (suc position))) (Some number)
-  anchor_found next number behind is wrong = one_word l (IsMisplaced l image position) (Node next anchor_offset) number is
-      (record { before = node; node = next; listed_before = at; listed = behind; here = refl; wrong = wrong })
-      (λ w other. other.here ∙ ap (λ n. Node n anchor_offset) (same_node l image (suc position) other.node next other.listed behind))
+    is_behind : (other : ℕ) → IsListedAt l image (suc position) other → other ≡ next
+    is_behind other listed = same_node l image (suc position) other next listed (subst (λ k. IsListedAt l image k next) next_one (behind.at more))
+
+    pub anchor_kept : ¬ ((¬ AreNameWords (anchor_words (image_spot l image next))) ⊎ (anchor_in (image_spot l image next) ≤ anchor_in (image_spot l image node)))
+        → (w : Word) → ¬ BreaksAnchors l image (position + 1) w
+    anchor_kept right w wrong =
+        let is : IsMisplaced l image position w = subst (λ k. BreaksAnchors l image k w) next_one wrong in
+        let before = is_here is.before is.listed_before in
+        let here = is_behind is.node is.listed in
+        right (subst (λ k. (¬ AreNameWords (anchor_words (image_spot l image next))) ⊎ (anchor_in (image_spot l image next) ≤ anchor_in (image_spot l image k))) before
+        (subst (λ k. (¬ AreNameWords (anchor_words (image_spot l image k))) ⊎ (anchor_in (image_spot l image k) ≤ anchor_in (image_spot l image is.before))) here is.wrong))
+
+    pub anchor_found : (number : ℕ) → number ≡ word_number l (Node next anchor_offset)
+        → ((¬ AreNameWords (anchor_words (image_spot l image next))) ⊎ (anchor_in (image_spot l image next) ≤ anchor_in (image_spot l image node)))
+        → IsLowest (IsNumberOf l (BreaksAnchors l image (position + 1))) (Some number)
+    anchor_found number is wrong =
+        subst (λ k. IsLowest (IsNumberOf l (BreaksAnchors l image k)) (Some number)) (sym next_one)
+        (one_word l (IsMisplaced l image position) (Node next anchor_offset) number is
+        (record { before = node; node = next; listed_before = walks.at within; listed = subst (λ k. IsListedAt l image k next) next_one (behind.at more); here = refl; wrong = wrong })
+        (λ w other. other.here ∙ ap (λ n. Node n anchor_offset) (is_behind other.node other.listed)))
 
 -- node 0's own anchor
 pub first_anchor_kept : (l : Layout) (image : List ℕ) → anchor_in (image_spot l image 0) ≡ 0 → (w : Word) → ¬ BreaksAnchors l image 0 w
@@ -120,18 +132,22 @@ pub record HasReached (l : Layout) (image : List ℕ) (set : NodeSet) (count : �
 pub reached_none : (l : Layout) (image : List ℕ) (set : NodeSet) → ((n : ℕ) → HasNode set n → ⊥) → HasReached l image set 0
 reached_none l image set empty = record { from = λ n has. absurd (empty n has); to = λ position n below at. omega (arith, below) }
 
-pub reached_more : (l : Layout) (image : List ℕ) (set more : NodeSet) (position node : ℕ) → IsListedAt l image position node
+pub reached_more : {l : Layout} {image : List ℕ} {P : ℕ → Word → Type 0} {position node : ℕ} {set : NodeSet} (more : NodeSet) → Walks l image P position node → position ≤ l.nodes
     → ((other : ℕ) → HasNode more other ↔ ((other ≡ node) ⊎ HasNode set other)) → HasReached l image set position → HasReached l image more (position + 1)
-reached_more l image set more position node at with_node reached = record {
-  from = λ n has. elim ((with_node n).0 has) as (λ _. (k : ℕ) × (k < position + 1) × IsListedAt l image k n) [
-    | inl same ↦ (position, omega arith, subst (IsListedAt l image position) (sym same) at)
-    | inr before ↦ let there = reached.from n before in let below = there.1 in (there.0, omega arith, there.2)
-  ];
-  to = λ other n below there. elim (cases_lt other position) as (λ _. HasNode more n) [
-    | inl passed ↦ (with_node n).1 (inr (reached.to other n passed there))
-    | inr here ↦ let same : other ≡ position = omega arith in (with_node n).1 (inl (same_node l image position n node (subst (λ k. IsListedAt l image k n) same there) at))
-  ];
-}
+reached_more {l} {image} {P} {position} {node} {set} more walks within with_node reached =
+    let at = walks.at within in
+    record {
+      from = λ n has. elim ((with_node n).0 has) as (λ _. (k : ℕ) × (k < position + 1) × IsListedAt l image k n) [
+        | inl same ↦ (position, omega arith, subst (IsListedAt l image position) (sym same) at)
+        | inr before ↦ let there = reached.from n before in let below = there.1 in (there.0, omega arith, there.2)
+      ];
+      to = λ other n below there. elim (cases_lt other position) as (λ _. HasNode more n) [
+        | inl passed ↦ (with_node n).1 (inr (reached.to other n passed there))
+        | inr here ↦
+            let same : other ≡ position = omega arith in
+            (with_node n).1 (inl (same_node l image position n node (subst (λ k. IsListedAt l image k n) same there) at))
+      ];
+    }
 
 -- where no position is behind them, it has the listed nodes
 pub reached_all : (l : Layout) (image : List ℕ) (set : NodeSet) (count : ℕ) → HasReached l image set count → ((position n : ℕ) → IsListedAt l image position n → position < count) → AreListed l image set
@@ -151,8 +167,14 @@ ends_here l image position node at ends other n there =
 pub ends_soon : (l : Layout) (image : List ℕ) (count : ℕ) → l.nodes < count → (other n : ℕ) → IsListedAt l image other n → other < count
 ends_soon l image count more other n there = let bound = position_bound (image_spot l image) l.nodes 0 other n there in omega arith
 
--- A walk that looks at the anchor behind each node came to this node, and no anchor is out of order up to it.
+-- A walk that looks at the anchor behind each node came to this node, and its own anchor is in order.
 pub record Ordered (l : Layout) (image : List ℕ) (position node : ℕ) : Type 0 where
-  pub at : IsListedAt l image position node
-  pub here : node < l.nodes
-  pub none : NoneBefore (BreaksAnchors l image) (position + 1)
+  pub walks : Walks l image (BreaksAnchors l image) position node
+  pub kept : (w : Word) → ¬ BreaksAnchors l image position w
+
+-- past the last node that the list can have, all are
+pub ordered_all : {l : Layout} {image : List ℕ} {position node : ℕ} → Ordered l image position node → l.nodes ≤ position → IsFirst l (BreaksAnchors l image) None
+ordered_all {l} {image} {position} ordered more other w breaks =
+    let there = anchor_listed l image other w breaks in
+    let bound = position_bound (image_spot l image) l.nodes 0 other there.0 there.1 in
+    none_more (BreaksAnchors l image) position ordered.walks.none ordered.kept other w (omega arith) breaks

@@ -14,7 +14,7 @@ use Rattle.image_rules.specs.Nodes.{image_spot, IsListedAt}
 use Rattle.image_rules.specs.Rules.{IsMisprinted, IsRepeated, BreaksPrints, BreaksApart, BreaksBy, BreaksInNode}
 use Rattle.image_rules.specs.declared.listed.NodeRule.{NodeRule}
 use Rattle.image_rules.proofs.LowestLemmas.{Moves, lowest-some}
-use Rattle.image_rules.proofs.WalkLemmas.{same_node}
+use Rattle.image_rules.proofs.WalkLemmas.{Walks, same_node}
 
 -- a bitmap has a bit from the slots on exactly where it is still something without the bits of the slots
 pub past_slots : (bitmap power : ℕ) → 0 < power → IsTrue (not (bitmap / power == 0)) ↔ (power ≤ bitmap)
@@ -51,17 +51,17 @@ offsets_move l image rule position node listed = record {
 }
 
 -- so what is known of the node is known of the position
-pub in_node_kept : (l : Layout) (image : List ℕ) (rule : NodeRule) (position node : ℕ) → IsListedAt l image position node →
+pub in_node_kept : {l : Layout} {image : List ℕ} {P : ℕ → Word → Type 0} {position node : ℕ} (rule : NodeRule) → Walks l image P position node → position ≤ l.nodes →
     IsLowest (BreaksBy rule l.slots (image_spot l image node)) None → (w : Word) → ¬ BreaksInNode l image rule position w
-in_node_kept l image rule position node listed none w breaks =
-    let same = same_node l image position breaks.node node breaks.listed listed in
+in_node_kept {l} {image} {P} {position} {node} rule walks within none w breaks =
+    let same = same_node l image position breaks.node node breaks.listed (walks.at within) in
     none breaks.offset (subst (λ n. BreaksBy rule l.slots (image_spot l image n) breaks.offset) same breaks.breaks)
 
-pub in_node_found : (l : Layout) (image : List ℕ) (rule : NodeRule) (position node offset number : ℕ) → IsListedAt l image position node → number ≡ word_number l (Node node offset) →
-    IsLowest (BreaksBy rule l.slots (image_spot l image node)) (Some offset) → IsLowest (IsNumberOf l (BreaksInNode l image rule position)) (Some number)
-in_node_found l image rule position node offset number listed is =
+pub in_node_found : {l : Layout} {image : List ℕ} {P : ℕ → Word → Type 0} {position node : ℕ} (rule : NodeRule) (offset number : ℕ) → Walks l image P position node → position ≤ l.nodes →
+    number ≡ word_number l (Node node offset) → IsLowest (BreaksBy rule l.slots (image_spot l image node)) (Some offset) → IsLowest (IsNumberOf l (BreaksInNode l image rule position)) (Some number)
+in_node_found {l} {image} {P} {position} {node} rule offset number walks within is =
     lowest-some (BreaksBy rule l.slots (image_spot l image node)) (IsNumberOf l (BreaksInNode l image rule position)) (λ o. word_number l (Node node o)) offset number
-    (offsets_move l image rule position node listed) is
+    (offsets_move l image rule position node (walks.at within)) is
 
 -- a live slot that has a name is misprinted exactly where that name's fingerprint is another than the slot's
 pub misprinted_if : (slots : ℕ) (s : Spot) (slot : ℕ) (name : List ℕ) (mark print : ℕ) → slot < slots → IsLiveIn s slot → IsName name →

@@ -5,7 +5,7 @@ use Rattle.pm_words.specs.declared.layout.Layout.{Layout}
 use Rattle.pm_words.specs.Locations.{Word, word_number}
 use Rattle.data_node.proofs.PositionLemmas.{position_one, position_next, position_bound, position_end}
 use Rattle.image_rules.specs.Lowest.{IsLowest, IsNumberOf, IsFirst}
-use Rattle.image_rules.specs.Nodes.{image_spot, image_list, IsListedAt, next_in}
+use Rattle.image_rules.specs.Nodes.{image_spot, image_list, IsListedAt, LeadWithin, next_in}
 
 -- P holds at no position before this one.
 abbrev pub NoneBefore : (ℕ → Word → Type 0) → ℕ → Type 0
@@ -31,9 +31,9 @@ pub walk_begins : (l : Layout) (image : List ℕ) (P : ℕ → Word → Type 0) 
 walk_begins l image P some = record { at = λ _. refl; here = some; none = λ before w below holds. omega (arith, below) }
 
 -- it goes on to the next node
-pub walk_on : (l : Layout) (image : List ℕ) (P : ℕ → Word → Type 0) (position node next : ℕ) → Walks l image P position node → position ≤ l.nodes → next ≡ next_in l image node → next ≢ 0
+pub walk_on : {l : Layout} {image : List ℕ} {P : ℕ → Word → Type 0} {position node : ℕ} (next : ℕ) → Walks l image P position node → position ≤ l.nodes → next ≡ next_in l image node → next ≢ 0
     → next < l.nodes → ((w : Word) → ¬ P position w) → Walks l image P (position + 1) next
-walk_on l image P position node next walks within is leads inside none = record {
+walk_on {l} {image} {P} {position} {node} next walks within is leads inside none = record {
   at = λ below.
       let there = position_next (image_spot l image) l.nodes 0 position node (walks.at within) (omega arith) (λ zero. leads (is ∙ zero)) in
       let one : suc position ≡ position + 1 = omega arith in
@@ -42,20 +42,26 @@ walk_on l image P position node next walks within is leads inside none = record 
   none = none_more P position walks.none none;
 }
 
--- it found P, or has come to the end of the list, or past the longest
-pub walk_found : (l : Layout) (P : ℕ → Word → Type 0) (position number : ℕ) → NoneBefore P position → IsLowest (IsNumberOf l (P position)) (Some number) → IsFirst l P (Some number)
-walk_found l P position number none lowest = (position, record { none_before = none; lowest = lowest })
+-- which is one of the image's, where its nodes lead to no others
+pub walk_inside : {l : Layout} {image : List ℕ} {P : ℕ → Word → Type 0} {position node : ℕ} (next : ℕ) → LeadWithin l image → Walks l image P position node → position ≤ l.nodes
+    → next ≡ next_in l image node → next ≢ 0 → next < l.nodes
+walk_inside {l} {image} {P} {position} {node} next lead walks within is leads = subst (λ n. n < l.nodes) (sym is) (lead position node (walks.at within) (λ zero. leads (is ∙ zero)))
 
-pub walk_ends : (l : Layout) (image : List ℕ) (P : ℕ → Word → Type 0) (position node : ℕ) → IsOfList l image P → IsListedAt l image position node → next_in l image node ≡ 0
-    → NoneBefore P (position + 1) → IsFirst l P None
-walk_ends l image P position node of at ends none other w holds = elim (cases_lt other (position + 1)) as (λ _. ⊥) [
-  | inl passed ↦ none other w passed holds
-  | inr later ↦ let there = of.listed other w holds in position_end (image_spot l image) l.nodes 0 position node at ends other there.0 (omega arith) there.1
+-- it found P, or has come to the end of the list, or past the longest
+pub walk_found : {l : Layout} {image : List ℕ} {P : ℕ → Word → Type 0} {position node : ℕ} (number : ℕ) → Walks l image P position node → IsLowest (IsNumberOf l (P position)) (Some number)
+    → IsFirst l P (Some number)
+walk_found {l} {image} {P} {position} number walks lowest = (position, record { none_before = walks.none; lowest = lowest })
+
+pub walk_ends : {l : Layout} {image : List ℕ} {P : ℕ → Word → Type 0} {position node : ℕ} → IsOfList l image P → Walks l image P position node → position ≤ l.nodes → next_in l image node ≡ 0
+    → ((w : Word) → ¬ P position w) → IsFirst l P None
+walk_ends {l} {image} {P} {position} {node} of walks within ends none other w holds = elim (cases_lt other (position + 1)) as (λ _. ⊥) [
+  | inl passed ↦ none_more P position walks.none none other w passed holds
+  | inr later ↦ let there = of.listed other w holds in position_end (image_spot l image) l.nodes 0 position node (walks.at within) ends other there.0 (omega arith) there.1
 ]
 
-pub walk_full : (l : Layout) (image : List ℕ) (P : ℕ → Word → Type 0) (count : ℕ) → IsOfList l image P → l.nodes < count → NoneBefore P count → IsFirst l P None
-walk_full l image P count of more none other w holds = elim (cases_lt other count) as (λ _. ⊥) [
-  | inl passed ↦ none other w passed holds
+pub walk_full : {l : Layout} {image : List ℕ} {P : ℕ → Word → Type 0} {count node : ℕ} → IsOfList l image P → l.nodes < count → Walks l image P count node → IsFirst l P None
+walk_full {l} {image} {P} {count} of more walks other w holds = elim (cases_lt other count) as (λ _. ⊥) [
+  | inl passed ↦ walks.none other w passed holds
   | inr later ↦
       let there = of.listed other w holds in
       let bound = position_bound (image_spot l image) l.nodes 0 other there.0 there.1 in

@@ -10,7 +10,7 @@ ghost use Rattle.image_rules.specs.Rules.{LeadsOut, LeadsBack, BreaksAnchors};
 
 use crate::node::number_of;
 use crate::node_set::NodeSet;
-use crate::read::{anchor_of, next_of};
+use crate::read::{anchor_of, next_of, node_count};
 use cat_key::{Name, WORDS};
 use data_node::is_below;
 use pm_words::Image;
@@ -20,7 +20,7 @@ use pm_words::offsets::node;
 pub(crate) fn leads_out(image: &Image) -> Option<u64>
     ensures { IsFirst image.now.layout (LeadsOut image.now.layout image.now.words) result }
 {
-    let nodes = image.layout().nodes();
+    let nodes = node_count(image);
     let mut node = 0;
     // A list of more nodes than there are has one twice, and goes round.
     for _position in 0..nodes + 1 {
@@ -43,7 +43,7 @@ pub(crate) fn leads_back(image: &Image) -> Option<u64>
 {
     let mut reached = NodeSet::new();
     let mut node = 0;
-    for _position in 0..image.layout().nodes() + 1 {
+    for _position in 0..node_count(image) + 1 {
         reached.insert(node);
         let next = next_of(image, node);
         if next == 0 {
@@ -64,7 +64,7 @@ pub fn listed_nodes(image: &Image) -> NodeSet
 {
     let mut listed = NodeSet::new();
     let mut node = 0;
-    for _position in 0..image.layout().nodes() + 1 {
+    for _position in 0..node_count(image) + 1 {
         listed.insert(node);
         node = next_of(image, node);
         if node == 0 {
@@ -98,7 +98,7 @@ pub(crate) fn wrong_anchor(image: &Image) -> Option<u64>
     requires { LeadWithin image.now.layout image.now.words }
     ensures { IsFirst image.now.layout (BreaksAnchors image.now.layout image.now.words) result }
 {
-    let nodes = image.layout().nodes();
+    let nodes = node_count(image);
     if !is_zero(anchor_of(image, 0)) {
         return Some(number_of(image, 0, node::ANCHOR));
     }

@@ -10,7 +10,7 @@ use crate::node::{
     has_bits_past, misprinted_slot, nameless_slot, number_of, print_start, repeated_slot,
     slot_start,
 };
-use crate::read::{bitmap_of, next_of, slot_count};
+use crate::read::{bitmap_of, next_of, node_count, slot_count};
 use pm_words::Image;
 use pm_words::offsets::node;
 
@@ -82,7 +82,7 @@ impl NodeRule {
         ensures { IsFirst image.now.layout (BreaksInNode image.now.layout image.now.words self) result }
     {
         let mut node = 0;
-        for _position in 0..image.layout().nodes() + 1 {
+        for _position in 0..node_count(image) + 1 {
             if let Some(offset) = self.broken_offset(image, node) {
                 return Some(number_of(image, node, offset));
             }

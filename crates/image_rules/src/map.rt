@@ -7,7 +7,7 @@ ghost use Rattle.image_rules.specs.Nodes.{target_in};
 ghost use Rattle.image_rules.specs.Sound.{IsMapOf};
 
 use crate::node::slot_with;
-use crate::read::{anchor_of, next_of, value_in};
+use crate::read::{anchor_of, next_of, node_count, value_in};
 use cat_history::Change;
 use cat_key::Name;
 use data_node::is_below;
@@ -19,7 +19,7 @@ fn target_of(image: &Image, name: &Name) -> Option<u64>
         (node < image.now.layout.nodes)) }
     ensures none { IsNone result → image.now.layout.nodes ≤ target_in image.now.layout image.now.words name.now }
 {
-    let nodes = image.layout().nodes();
+    let nodes = node_count(image);
     let words = name.words();
     let mut node = 0;
     for _position in 0..nodes {

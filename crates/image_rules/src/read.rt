@@ -1,7 +1,7 @@
 //! The words of an image's nodes and of its log lines, for all who read images.
 
 ghost use Rattle.std.specs.Prelude.{◌≡◌, ◌+◌, ◌*◌, ◌<◌, ◌≤◌, ◌↔◌, [], ◌∷◌, IsTrue};
-ghost use Rattle.pm_words.specs.Layouts.{IsLayout};
+ghost use Rattle.pm_words.specs.Layouts.{IsLayout, IsNodeCount};
 ghost use Rattle.pm_words.specs.Locations.{node_words};
 ghost use Rattle.pm_words.specs.Offsets.{bitmap_offset, anchor_offset, slot_offset};
 ghost use Rattle.data_node.specs.Lists.{anchor_words};
@@ -13,6 +13,14 @@ use cat_key::WORDS;
 use data_node::is_live;
 use pm_words::offsets::{line, node};
 use pm_words::{Image, LOG_LINES, SLOT_WORDS};
+
+/// How many nodes the image has.
+pub fn node_count(image: &Image) -> u64
+    ensures count { result ≡ image.now.layout.nodes }
+    ensures range { IsNodeCount image.now.layout.nodes }
+{
+    image.layout().nodes()
+}
 
 /// How many slots each node has.
 pub fn slot_count(image: &Image) -> u64

@@ -1,15 +1,11 @@
-use Rattle.std.proofs.Common.{◌≡◌, ◌∙◌, ap, sym, arith}
-use Rattle.pm_words.specs.declared.layout.Layout.{Layout}
-use Rattle.image_rules.specs.Rules.{BreaksInNode}
+use Rattle.std.proofs.Common.{◌∙◌, sym, arith}
 use Rattle.image_rules.proofs.NodeLemmas.{in_node_kept, in_node_found}
-use Rattle.image_rules.proofs.WalkLemmas.{none_more, walk_begins, walk_on, walk_found, walk_ends, walk_full}
+use Rattle.image_rules.proofs.WalkLemmas.{walk_begins, walk_on, walk_inside, walk_found, walk_ends, walk_full}
 use Rattle.image_rules.proofs.ListRules.{in_node_listed}
 use Rattle.image_rules.proofs.listed.NodeRule.broken_word.Goals as goal
 
 pub loop-position-init : goal.loop-position-init
-loop-position-init c =
-    let nodes = c.layout.ensures.image.layout.nodes in
-    walk_begins c.args.image.now.layout c.args.image.now.words (BreaksInNode c.args.image.now.layout c.args.image.now.words c.args.self) (omega arith)
+loop-position-init c = walk_begins _ _ _ (omega arith)
 
 pub broken_offset-requires : goal.broken_offset-requires
 broken_offset-requires c = c.loop-position.invariant.here
@@ -19,38 +15,19 @@ number_of-requires-clause-node c = c.loop-position.invariant.here
 
 pub returns-in-Some : goal.returns-in-Some
 returns-in-Some c =
-    let l = c.args.image.now.layout in
-    let image = c.args.image.now.words in
-    let nodes : c.nodes-position-end.result ≡ l.nodes = c.nodes-position-end.ensures ∙ ap (λ (k : Layout). k.nodes) c.layout.ensures.layout in
     let walks = c.loop-position.invariant in
-    walk_found l (BreaksInNode l image c.args.self) c.loop-position._position c.number_of.result walks.none
-    (in_node_found l image c.args.self c.loop-position._position c.loop-position.node c.in-Some.offset c.number_of.result (walks.at (omega arith)) c.number_of.ensures c.in-Some.ensures.lowest)
+    walk_found c.number_of.result walks (in_node_found c.args.self c.in-Some.offset c.number_of.result walks (omega arith) c.number_of.ensures c.in-Some.ensures.lowest)
 
 pub returns-then-node-eq0 : goal.returns-then-node-eq0
 returns-then-node-eq0 c =
-    let l = c.args.image.now.layout in
-    let image = c.args.image.now.words in
-    let nodes : c.nodes-position-end.result ≡ l.nodes = c.nodes-position-end.ensures ∙ ap (λ (k : Layout). k.nodes) c.layout.ensures.layout in
     let walks = c.loop-position.invariant in
-    let at = walks.at (omega arith) in
-    walk_ends l image (BreaksInNode l image c.args.self) c.loop-position._position c.loop-position.node (in_node_listed l image c.args.self) at (sym c.next_of-node.ensures ∙ c.if-node-eq0.true)
-    (none_more (BreaksInNode l image c.args.self) c.loop-position._position walks.none (in_node_kept l image c.args.self c.loop-position._position c.loop-position.node at c.in_default.ensures.lowest))
+    walk_ends (in_node_listed _ _ _) walks (omega arith) (sym c.next_of-node.ensures ∙ c.if-node-eq0.true) (in_node_kept c.args.self walks (omega arith) c.in_default.ensures.lowest)
 
 pub loop-position-preserved : goal.loop-position-preserved
 loop-position-preserved c =
-    let l = c.args.image.now.layout in
-    let image = c.args.image.now.words in
-    let nodes : c.nodes-position-end.result ≡ l.nodes = c.nodes-position-end.ensures ∙ ap (λ (k : Layout). k.nodes) c.layout.ensures.layout in
     let walks = c.loop-position.invariant in
-    let at = walks.at (omega arith) in
-    let next = c.next_of-node.ensures in
-    let inside = c.requires c.loop-position._position c.loop-position.node at (λ none. c.if-node-eq0.false (next ∙ none)) in
-    walk_on l image (BreaksInNode l image c.args.self) c.loop-position._position c.loop-position.node c.next_of-node.result walks (omega arith) next c.if-node-eq0.false (omega arith)
-    (in_node_kept l image c.args.self c.loop-position._position c.loop-position.node at c.in_default.ensures.lowest)
+    let inside = walk_inside c.next_of-node.result c.requires walks (omega arith) c.next_of-node.ensures c.if-node-eq0.false in
+    walk_on c.next_of-node.result walks (omega arith) c.next_of-node.ensures c.if-node-eq0.false inside (in_node_kept c.args.self walks (omega arith) c.in_default.ensures.lowest)
 
 pub returns : goal.returns
-returns c =
-    let l = c.args.image.now.layout in
-    let image = c.args.image.now.words in
-    let nodes : c.nodes-position-end.result ≡ l.nodes = c.nodes-position-end.ensures ∙ ap (λ (k : Layout). k.nodes) c.layout.ensures.layout in
-    walk_full l image (BreaksInNode l image c.args.self) c.loop-position._position (in_node_listed l image c.args.self) (omega arith) c.loop-position.invariant.none
+returns c = walk_full (in_node_listed _ _ _) (omega arith) c.loop-position.invariant
