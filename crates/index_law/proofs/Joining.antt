@@ -39,66 +39,17 @@ module _ (l : Layout) (g : ℕ) (f : Facts) (caller index since : ℕ) where
   -- the call at the node that it holds, with other words known, dirty or in hand
   pub again : (n w : ℕ) (h : Held) (known : Known) (dirty : List (ℕ × ℕ)) (hand : Option (ℕ × ℕ)) (ready : Bool) → Knows h.name known (f.now n) → IfSome hand (λ k. cached_word f n k.0 ≡ k.1)
       → SureHolds l g f caller index since n w h → SureHolds l g f caller index since n w (record h { known = known; dirty = dirty; hand = hand; ready = ready })
-  again n w h known dirty hand ready knows is sure = record {
-    here = sure.here;
-    stands = sure.stands;
-    lock = sure.lock;
-    named = sure.named;
-    inside = sure.inside;
-    knows = knows;
-    hand = is;
-    means = sure.means;
-    stays = sure.stays;
-    about = sure.about;
-    shown = sure.shown;
-    below = sure.below;
-    time = sure.time;
-    old = sure.old;
-    placed = sure.placed;
-  }
+  again n w h known dirty hand ready knows is sure = assumption sure
 
   meets_again : (n : ℕ) (h : Held) (right : Grip) (known : Known) (dirty : List (ℕ × ℕ)) (hand : Option (ℕ × ℕ)) → SureMeets l g f n h right
       → SureMeets l g f n (record h { known = known; dirty = dirty; hand = hand }) right
-  meets_again n h right known dirty hand sure = record {
-    still = record { pending = sure.still.pending; ready = sure.still.ready };
-    untimed = sure.untimed;
-    unmerged = sure.unmerged;
-    grip = sure.grip;
-    copies = sure.copies;
-    apart = sure.apart;
-    nonzero = sure.nonzero;
-    leads = sure.leads;
-    settled = sure.settled;
-  }
+  meets_again n h right known dirty hand sure = assumption sure
 
   rejoin : (left right : Grip) (seen dirty : List (ℕ × ℕ)) (hand : Option (ℕ × ℕ)) (pace : Pace) → IsAtPace l f left right pace
       → IsAtPace l f (record left { seen = seen; dirty = dirty; hand = hand }) right pace
-  rejoin left right seen dirty hand Gathered at = record {
-    linked = record {
-      listed = at.linked.listed;
-      listed_fresh = at.linked.listed_fresh;
-      leads = at.linked.leads;
-      means = at.linked.means;
-      stays = at.linked.stays;
-      settled = at.linked.settled;
-    };
-    few = at.few;
-  }
-  rejoin left right seen dirty hand Joined at = record {
-    listed = at.listed;
-    unlisted = at.unlisted;
-    settled = at.settled;
-    leads = at.leads;
-    anchor = at.anchor;
-    named = at.named;
-    anchored = at.anchored;
-    inside = at.inside;
-    bright = at.bright;
-    up = at.up;
-    kept = at.kept;
-    few = at.few;
-  }
-  rejoin left right seen dirty hand Gone at = record { listed = at.listed; unlisted = at.unlisted; settled = at.settled; gone = at.gone; anchor = at.anchor; named = at.named; anchored = at.anchored; inside = at.inside }
+  rejoin left right seen dirty hand Gathered at = assumption at
+  rejoin left right seen dirty hand Joined at = search at
+  rejoin left right seen dirty hand Gone at = search at
 
   module _ (known : AreKnown l g f) (list : IsList l f) (live : AreLive l g f) (settled : AreSettled l g f) where
     pub merge_mine : {s : Stage} {a : Action} {x : ℕ} {t : Stage} → (k : Merge l g s a x t) → MergeGave k f → Sure l g f caller index since s
@@ -128,17 +79,7 @@ module _ (l : Layout) (g : ℕ) (f : Facts) (caller index since : ℕ) where
     )
     merge_mine (knows_right {right = right} {seen = seen} has positive told) e knows = (
       knows.0,
-      record {
-        still = knows.1.still;
-        untimed = knows.1.untimed;
-        unmerged = knows.1.unmerged;
-        grip = regrasp l g f right seen right.dirty right.hand (told (f.now right.node) knows.1.grip.seen (sym e)) knows.1.grip.hand knows.1.grip;
-        copies = knows.1.copies;
-        apart = knows.1.apart;
-        nonzero = knows.1.nonzero;
-        leads = knows.1.leads;
-        settled = record { means = knows.1.settled.means; stays = knows.1.settled.stays };
-      },
+      (let grip = regrasp l g f right seen right.dirty right.hand (told (f.now right.node) knows.1.grip.seen (sym e)) knows.1.grip.hand knows.1.grip in assumption (knows.1, grip)),
     )
     merge_mine (copies {n = n} {w = w} {y = y} {offset = offset} {h = h} {right = right} {k = k} {dirty = dirty} {seen = seen} {copied = copied} has content small soils learnt means) e knows =
         let φ = with_word f n offset y in
@@ -147,39 +88,19 @@ module _ (l : Layout) (g : ℕ) (f : Facts) (caller index since : ℕ) where
         let own : φ.now n ≡ updated (f.now n) offset y = set_here f.now n offset y n refl in
         let new : φ.now right.node ≡ f.now right.node = set_else f.now n offset y right.node (λ d. knows.1.apart (sym d)) in
         let told = learnt (f.now n) (f.now right.node) knows.0.means.tidy knows.0.knows knows.1.grip.seen knows.1.copies in
-        let durably : KnowsDurable h (f.now n) = known_words h (f.now n) h.known.seen knows.0.knows.seen in (
-          record {
-            here = knows.0.here;
-            stands = knows.0.stands;
-            lock = knows.0.lock;
-            named = knows.0.named;
-            inside = knows.0.inside;
-            knows = subst (Knows h.name k) (sym own) told.0;
-            hand = tt;
-            means = subst (λ (s : Spot). Means l.slots (range_of l f n) s (pended h.pending (map_now f))) (sym own)
-                (means (range_of l f n) (f.now n) (pended h.pending (map_now f)) durably knows.0.means);
-            stays = subst (StaysIn l.slots (range_of l f n)) (sym own)
-                (stays_stored l.slots (range_of l f n) (f.now n) (updated (f.now n) offset y) knows.0.means.tidy (λ range m was. means range (f.now n) m durably was) knows.0.stays);
-            about = knows.0.about;
-            shown = knows.0.shown;
-            below = knows.0.below;
-            time = knows.0.time;
-            old = knows.0.old;
-            placed = knows.0.placed;
-          },
-          record {
-            still = record { pending = knows.1.still.pending; ready = knows.1.still.ready };
-            untimed = knows.1.untimed;
-            unmerged = knows.1.unmerged;
-            grip = (let kept = grip_kept l g f φ later right other knows.1.grip in record { here = kept.here; stands = kept.stands; lock = kept.lock; seen = subst (Tells seen) (sym new) told.1; hand = kept.hand });
-            copies = (λ (s t : Spot) (is : updated (f.now n) offset y ≡ s) (same : f.now right.node ≡ t). subst (λ q. AreCopies copied q t) is (subst (AreCopies copied (updated (f.now n) offset y)) same told.2))
-                (φ.now n) (φ.now right.node) (sym own) (sym new);
-            apart = knows.1.apart;
-            nonzero = knows.1.nonzero;
-            leads = (links_content f.now n offset y content n).0 ∙ knows.1.leads;
-            settled = settled_kept l g f φ later right.node other knows.1.settled;
-          },
-        )
+        let durably : KnowsDurable h (f.now n) = known_words h (f.now n) h.known.seen knows.0.knows.seen in
+        let known = subst (Knows h.name k) (sym own) told.0 in
+        let meant = subst (λ (s : Spot). Means l.slots (range_of l f n) s (pended h.pending (map_now f))) (sym own)
+            (means (range_of l f n) (f.now n) (pended h.pending (map_now f)) durably knows.0.means) in
+        let stays = subst (StaysIn l.slots (range_of l f n)) (sym own)
+            (stays_stored l.slots (range_of l f n) (f.now n) (updated (f.now n) offset y) knows.0.means.tidy (λ range m was. means range (f.now n) m durably was) knows.0.stays) in
+        let kept = grip_kept l g f φ later right other knows.1.grip in
+        let now = subst (Tells seen) (sym new) told.1 in
+        let copies = (λ (s t : Spot) (is : updated (f.now n) offset y ≡ s) (same : f.now right.node ≡ t). subst (λ q. AreCopies copied q t) is (subst (AreCopies copied (updated (f.now n) offset y)) same told.2))
+            (φ.now n) (φ.now right.node) (sym own) (sym new) in
+        let leads = (links_content f.now n offset y content n).0 ∙ knows.1.leads in
+        let settled = settled_kept l g f φ later right.node other knows.1.settled in
+        (assumption (knows.0, known, meant, stays), assumption (knows.1, kept, now, copies, leads, settled))
     merge_mine (takes_up {n = n} {w = w} {x = x} {offset = offset} {h = h} {right = right} has) e knows =
         (again n w h h.known h.dirty (Some (offset, x)) h.ready knows.0.knows (sym e) knows.0, meets_again n h right h.known h.dirty (Some (offset, x)) knows.1)
     merge_mine (puts_down {n = n} {w = w} {h = h} {right = right} {dirty = dirty} has small hand cleans) e knows =
@@ -199,7 +120,7 @@ module _ (l : Layout) (g : ℕ) (f : Facts) (caller index since : ℕ) where
         let both : List ℕ → Bool = λ name. range_of l f n name || range_of l f right.node name in
         let listed : IsListed f n = inside_listed l f list n h.name knows.0.inside in
         record {
-          call = record { unmerged = knows.1.unmerged; named = knows.0.named; inside = knows.0.inside; below = knows.0.below; old = knows.0.old; placed = knows.0.placed };
+          call = assumption (knows.0, knows.1);
           one = record { here = knows.0.here; stands = knows.0.stands; lock = knows.0.lock; seen = subst (Tells seen) (sym own) (told (f.now n) knows.0.knows); hand = tt };
           other = grip_kept l g f φ later right other knows.1.grip;
           apart = knows.1.apart;
@@ -233,23 +154,13 @@ module _ (l : Layout) (g : ℕ) (f : Facts) (caller index since : ℕ) where
         let names : names_in l.slots both (updated (f.now n) next_offset y) ≡ names_in l.slots both (f.now n) =
         same_names l.slots both (updated (f.now n) next_offset y) (f.now n) (map_now f) means was.means in
         let all : names_in l.slots (range_of l φ n) (φ.now n) ≡ names_in l.slots both (updated (f.now n) next_offset y) = (λ i. names_in l.slots (wide i) (own i)) in
+        let inside : range_of l φ n h.name ≡ true = (λ i. wide i h.name) ∙ ap (λ b. b || range_of l f r h.name) knows.call.inside in
+        let told_own = subst (Tells seen) (sym own) (told (f.now n) knows.one.seen) in
+        let told_other = subst (Tells right.seen) (sym new) knows.other.seen in
         record {
-          call = record {
-            unmerged = knows.call.unmerged;
-            named = knows.call.named;
-            inside = (λ i. wide i h.name) ∙ ap (λ b. b || range_of l f r h.name) knows.call.inside;
-            below = knows.call.below;
-            old = knows.call.old;
-            placed = knows.call.placed;
-          };
-          one = record { here = knows.one.here; stands = knows.one.stands; lock = knows.one.lock; seen = subst (Tells seen) (sym own) (told (f.now n) knows.one.seen); hand = tt };
-          other = record {
-            here = knows.other.here;
-            stands = knows.other.stands;
-            lock = knows.other.lock;
-            seen = subst (Tells right.seen) (sym new) knows.other.seen;
-            hand = hand_else right.hand knows.other.hand new;
-          };
+          call = assumption (knows.call, inside);
+          one = assumption (knows.one, told_own);
+          other = assumption (knows.other, told_other, hand_else right.hand knows.other.hand new);
           apart = knows.apart;
           nonzero = knows.nonzero;
           at = record {
@@ -280,26 +191,18 @@ module _ (l : Layout) (g : ℕ) (f : Facts) (caller index since : ℕ) where
             → IfSome hand (λ k. cached_word (with_past f left.node y right.node) right.node k.0 ≡ k.1)
         hand_else None was new = tt
         hand_else (Some k) was new = (λ i. cond (k.0 == 0) (f.version right.node) (new i k.0)) ∙ was
-    merge_mine (glances_joined {x = x} {offset = offset} {left = left} {right = right} {pace = pace} {seen = seen} has learnt) e knows = record {
-      call = record { unmerged = knows.call.unmerged; named = knows.call.named; inside = knows.call.inside; below = knows.call.below; old = knows.call.old; placed = knows.call.placed };
-      one = regrasp l g f left seen left.dirty (Some (offset, x)) (learnt (f.now left.node) knows.one.seen (told_word f left.node offset x e)) (sym e) knows.one;
-      other = knows.other;
-      apart = knows.apart;
-      nonzero = knows.nonzero;
-      at = rejoin left right seen left.dirty (Some (offset, x)) pace knows.at;
-    }
-    merge_mine (drains_joined {left = left} {right = right} {pace = pace} {dirty = dirty} has small hand cleans) e knows = record {
-      call = record { unmerged = knows.call.unmerged; named = knows.call.named; inside = knows.call.inside; below = knows.call.below; old = knows.call.old; placed = knows.call.placed };
-      one = regrasp l g f left left.seen dirty None knows.one.seen tt knows.one;
-      other = knows.other;
-      apart = knows.apart;
-      nonzero = knows.nonzero;
-      at = rejoin left right left.seen dirty None pace knows.at;
-    }
+    merge_mine (glances_joined {x = x} {offset = offset} {left = left} {right = right} {pace = pace} {seen = seen} has learnt) e knows =
+        let one = regrasp l g f left seen left.dirty (Some (offset, x)) (learnt (f.now left.node) knows.one.seen (told_word f left.node offset x e)) (sym e) knows.one in
+        let at = rejoin left right seen left.dirty (Some (offset, x)) pace knows.at in
+        assumption (knows, one, at)
+    merge_mine (drains_joined {left = left} {right = right} {pace = pace} {dirty = dirty} has small hand cleans) e knows =
+        let one = regrasp l g f left left.seen dirty None knows.one.seen tt knows.one in
+        let at = rejoin left right left.seen dirty None pace knows.at in
+        assumption (knows, one, at)
     merge_mine (retires {left = left} {right = right} durable) e knows = record {
-      call = record { unmerged = knows.call.unmerged; named = knows.call.named; inside = knows.call.inside; below = knows.call.below; old = knows.call.old; placed = knows.call.placed };
-      one = record { here = knows.one.here; stands = knows.one.stands; lock = knows.one.lock; seen = knows.one.seen; hand = knows.one.hand };
-      other = record { here = knows.other.here; stands = knows.other.stands; lock = knows.other.lock; seen = knows.other.seen; hand = knows.other.hand };
+      call = assumption knows.call;
+      one = assumption knows.one;
+      other = assumption knows.other;
       apart = knows.apart;
       nonzero = knows.nonzero;
       at = record {
@@ -313,20 +216,6 @@ module _ (l : Layout) (g : ℕ) (f : Facts) (caller index since : ℕ) where
         inside = knows.at.inside;
       };
     }
-    merge_mine (yields {freed = freed} {h = h} {left = left} {right = right} next durable) e knows = record {
-      here = knows.one.here;
-      stands = ap (λ (b : Bool). cond b freed (f.version left.node)) (ne_eqb left.node right.node knows.apart) ∙ knows.one.stands;
-      lock = knows.one.lock;
-      named = knows.call.named;
-      inside = knows.call.inside;
-      knows = record { seen = tt; left = tt };
-      hand = tt;
-      means = knows.at.settled.means;
-      stays = knows.at.settled.stays;
-      about = tt;
-      shown = tt;
-      below = knows.call.below;
-      time = tt;
-      old = knows.call.old;
-      placed = knows.call.placed;
-    }
+    merge_mine (yields {freed = freed} {h = h} {left = left} {right = right} next durable) e knows =
+        let stands = ap (λ (b : Bool). cond b freed (f.version left.node)) (ne_eqb left.node right.node knows.apart) ∙ knows.one.stands in
+        assumption (knows.one, knows.call, knows.at.settled, stands)

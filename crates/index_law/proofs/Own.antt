@@ -1,6 +1,6 @@
 -- What a party knows after its own step, and that its answer is legal.
 use Rattle.std.proofs.Common.{◌≡◌, ◌≢◌, ℕ, ◌<◌, ◌≤◌, ◌⊎◌, inl, inr, Bool, cond, List, [], ◌∷◌, ◌++◌, length, refl, sym, ap, ◌∙◌, subst, arith}
-use Rattle.std.specs.Prelude.{true, false, slice_get, is_some, Option, Some, None, IfSome}
+use Rattle.std.specs.Prelude.{true, false, slice_get, is_some, Option, Some, None, IfSome, IsSome}
 use Rattle.std.specs.List.{AllByRecursion}
 use Rattle.std.proofs.lemmas.Bool.{ne_eqb, eq-eqb}
 use Rattle.std.proofs.lemmas.List.{length-append}
@@ -186,50 +186,24 @@ module _ {l : Layout} {g : ℕ} (f : Facts) (caller index since : ℕ) where
     look_mine (loses here other) e knows = knows.0
     look_mine (misses other) e knows = tt
     look_mine (misses_read other small) e knows = tt
-    look_mine (times {n = n} {x = x} {limit = limit} clean below) e knows = record {
-      here = knows.here;
-      stands = knows.stands;
-      lock = knows.lock;
-      named = knows.named;
-      inside = knows.inside;
-      knows = knows.knows;
-      hand = knows.hand;
-      means = knows.means;
-      stays = knows.stays;
-      about = knows.about;
-      shown = knows.shown;
-      below = begun_below limit since x (omega (arith, e)) below;
-      time = record {
-        later = omega (arith, e);
-        within = omega (arith, e);
-        below = below;
-        same = λ place late there name inside. ap (λ (m : Map). at m name) (after-whole f.base f.history place (omega (arith, e)));
-      };
-      old = knows.old;
-      placed = knows.placed;
-    }
+    look_mine (times {n = n} {x = x} {limit = limit} clean below) e knows =
+        let begun_so = begun_below limit since x (omega (arith, e)) below in
+        let time : IsTime (range_of l f n) f.base f.history since limit x = record {
+          later = omega (arith, e);
+          within = omega (arith, e);
+          below = below;
+          same = λ place late there name inside. ap (λ (m : Map). at m name) (after-whole f.base f.history place (omega (arith, e)));
+        } in
+        assumption (knows, begun_so, time)
     look_mine (learns {n = n} {w = w} {h = h} {k = k} has positive unready learnt) e knows =
         again l g f caller index since n w h k h.dirty h.hand h.ready (learnt (f.now n) knows.means.tidy knows.knows (sym e)) knows.hand knows
     look_mine (decides {n = n} {w = w} {h = h} {old = old} {pending = pending} has positive clean durable about learnt decided) e knows =
         let means = clean_means n w h knows clean.pending in
         let found = decided (range_of l f n) (f.now n) (map_now f) knows.inside knows.knows (sym e) means in
-        record {
-          here = knows.here;
-          stands = knows.stands;
-          lock = knows.lock;
-          named = knows.named;
-          inside = knows.inside;
-          knows = learnt (f.now n) means.tidy knows.knows (sym e);
-          hand = knows.hand;
-          means = found.1;
-          stays = knows.stays;
-          about = about;
-          shown = where_some pending (clean.placed, refl);
-          below = knows.below;
-          time = knows.time;
-          old = subst (λ (p : Option ℕ). at (map_before f p) h.name ≡ old) (sym clean.placed) found.0;
-          placed = knows.placed;
-        }
+        let known = learnt (f.now n) means.tidy knows.knows (sym e) in
+        let shown : IfSome pending (λ c. (h.placed ≡ None) × IsSome (Some old)) = where_some pending (clean.placed, refl) in
+        let was = subst (λ (p : Option ℕ). at (map_before f p) h.name ≡ old) (sym clean.placed) found.0 in
+        assumption (knows, known, found.1, about, shown, was)
     look_mine (reads_on k) e knows = read_mine f caller index since begun known list live_part settled k e knows
     look_mine (glances {n = n} {w = w} {x = x} {offset = offset} {h = h} has unready) e knows =
         again l g f caller index since n w h h.known h.dirty (Some (offset, x)) h.ready knows.knows (sym e) knows
@@ -237,26 +211,12 @@ module _ {l : Layout} {g : ℕ} (f : Facts) (caller index since : ℕ) where
     -- what a party knows of a node that it has just locked
     locked : (n v w : ℕ) (k : Sight) (name : List ℕ) → k.live ≡ true → ((s t : Spot) → Sees k s t → IsBetween s t (key_of name)) → Stands f n k → f.version n ≡ v → n < l.nodes → IsFree v g
         → IsOwnLock g w → IsName name → SureHolds l g (with_version f n w) caller index since n w (just_held name)
-    locked n v w k name live between stands same here free lock named =
-        let listed = stands.listed live in
+    locked n v w k name live between stands_is same here free lock named =
+        let listed = stands_is.listed live in
         let now = settled n listed (subst (λ (u : ℕ). IsFree u g) (sym same) free) in
-        record {
-          here = here;
-          stands = ap (λ (b : Bool). cond b w (f.version n)) (eq-eqb n n refl);
-          lock = lock;
-          named = named;
-          inside = between_inside l f list n name listed (between (f.now n) (f.now (f.now n next_offset)) stands.sees);
-          knows = record { seen = tt; left = tt };
-          hand = tt;
-          means = now.means;
-          stays = now.stays;
-          about = tt;
-          shown = tt;
-          below = tt;
-          time = tt;
-          old = tt;
-          placed = tt;
-        }
+        let stands = ap (λ (b : Bool). cond b w (f.version n)) (eq-eqb n n refl) in
+        let inside = between_inside l f list n name listed (between (f.now n) (f.now (f.now n next_offset)) stands_is.sees) in
+        assumption (now, stands, inside)
 
     pub mine : {s : Stage} {a : Action} {x : ℕ} {t : Stage} {r : Option (Once Placed)} → (k : Step l g s a x t r) → Gives k f → Sure l g f caller index since s
         → Sure l g (fact_after k f caller index) caller index since t
@@ -265,78 +225,40 @@ module _ {l : Layout} {g : ℕ} (f : Facts) (caller index since : ℕ) where
         locked n v w k name live between (knows.stands (sym e ∙ same)) (sym e ∙ same) knows.word.here knows.word.free (own_lock v w g knows.word.known knows.word.unworn knows.word.lock) named
     mine (locks_read {n = n} {v = v} {w = w} {k = k} {name = name} same named live between unworn taken small) e knows =
         locked n v w k name live between (knows.stands (sym e ∙ same)) (sym e ∙ same) knows.here knows.free (own_lock v w g knows.known unworn taken) named
-    mine (stores {n = n} {y = y} {offset = offset} {h = h} {k = k} has content small clean soils learnt means) e knows = record {
-      here = knows.here;
-      stands = knows.stands;
-      lock = knows.lock;
-      named = knows.named;
-      inside = knows.inside;
-      knows = subst (Knows h.name k) (sym (stored f n offset y)) (learnt (f.now n) knows.means.tidy knows.knows);
-      hand = tt;
-      means = subst (λ (s : Spot). Means l.slots (range_of l f n) s (pended h.pending (map_now f))) (sym (stored f n offset y))
-          (means (range_of l f n) (f.now n) (pended h.pending (map_now f)) (durably h (f.now n) knows.knows) knows.means);
-      stays = subst (StaysIn l.slots (range_of l f n)) (sym (stored f n offset y))
-          (stays_stored l.slots (range_of l f n) (f.now n) (updated (f.now n) offset y) knows.means.tidy (λ other m was. means other (f.now n) m (durably h (f.now n) knows.knows) was) knows.stays);
-      about = knows.about;
-      shown = knows.shown;
-      below = knows.below;
-      time = knows.time;
-      old = knows.old;
-      placed = knows.placed;
-    }
-    mine (commits {n = n} {w = w} {y = y} {offset = offset} {h = h} {k = k} {old = old} {c = c} has content small clean durable soiled old_known about learnt means) e knows = record {
-      here = knows.here;
-      stands = knows.stands;
-      lock = knows.lock;
-      named = knows.named;
-      inside = knows.inside;
-      knows = subst (Knows h.name k) (sym (stored f n offset y)) (learnt (f.now n) knows.means.tidy knows.knows);
-      hand = tt;
-      means = subst (λ (s : Spot). Means l.slots (range_of l f n) s (changed (map_now f) c)) (sym (stored f n offset y))
-          (means (range_of l f n) (f.now n) (map_now f) knows.inside knows.knows (old_is n w h None old knows clean.placed old_known) (clean_means n w h knows clean.pending));
-      stays =
-          let had : at (map_now f) h.name ≡ old = old_is n w h None old knows clean.placed old_known in
-          subst (StaysIn l.slots (range_of l f n)) (sym (stored f n offset y))
-          (stays_changed l.slots (range_of l f n) (f.now n) (updated (f.now n) offset y) (map_now f) c (subst IsName (sym about) knows.named)
-          (subst (λ (name : List ℕ). range_of l f n name ≡ true) (sym about) knows.inside) (clean_means n w h knows clean.pending)
-          (λ m' alike was. means (λ name. true) (f.now n) m' refl knows.knows (ap (at m') (sym about) ∙ alike ∙ ap (at (map_now f)) about ∙ had) was) knows.stays);
-      about = about;
-      shown = (clean.placed, ap is_some old_known);
-      below = knows.below;
-      time = knows.time;
-      old = knows.old;
-      placed = knows.placed;
-    }
+    mine (stores {n = n} {y = y} {offset = offset} {h = h} {k = k} has content small clean soils learnt means) e knows =
+        let known = subst (Knows h.name k) (sym (stored f n offset y)) (learnt (f.now n) knows.means.tidy knows.knows) in
+        let meant = subst (λ (s : Spot). Means l.slots (range_of l f n) s (pended h.pending (map_now f))) (sym (stored f n offset y))
+            (means (range_of l f n) (f.now n) (pended h.pending (map_now f)) (durably h (f.now n) knows.knows) knows.means) in
+        let stays = subst (StaysIn l.slots (range_of l f n)) (sym (stored f n offset y))
+            (stays_stored l.slots (range_of l f n) (f.now n) (updated (f.now n) offset y) knows.means.tidy (λ other m was. means other (f.now n) m (durably h (f.now n) knows.knows) was) knows.stays) in
+        assumption (knows, known, meant, stays)
+    mine (commits {n = n} {w = w} {y = y} {offset = offset} {h = h} {k = k} {old = old} {c = c} has content small clean durable soiled old_known about learnt means) e knows =
+        let known = subst (Knows h.name k) (sym (stored f n offset y)) (learnt (f.now n) knows.means.tidy knows.knows) in
+        let meant = subst (λ (s : Spot). Means l.slots (range_of l f n) s (changed (map_now f) c)) (sym (stored f n offset y))
+            (means (range_of l f n) (f.now n) (map_now f) knows.inside knows.knows (old_is n w h None old knows clean.placed old_known) (clean_means n w h knows clean.pending)) in
+        let had : at (map_now f) h.name ≡ old = old_is n w h None old knows clean.placed old_known in
+        let stays = subst (StaysIn l.slots (range_of l f n)) (sym (stored f n offset y))
+            (stays_changed l.slots (range_of l f n) (f.now n) (updated (f.now n) offset y) (map_now f) c (subst IsName (sym about) knows.named)
+            (subst (λ (name : List ℕ). range_of l f n name ≡ true) (sym about) knows.inside) (clean_means n w h knows clean.pending)
+            (λ m' alike was. means (λ name. true) (f.now n) m' refl knows.knows (ap (at m') (sym about) ∙ alike ∙ ap (at (map_now f)) about ∙ had) was) knows.stays) in
+        assumption (knows, known, meant, stays, about, clean.placed, ap is_some old_known)
     mine (drains {n = n} {w = w} {h = h} {dirty = dirty} {ready = ready} has small unready hand cleans) e knows = again l g f caller index since n w h h.known dirty None ready knows.knows tt knows
     mine (counts {n = n} {w = w} {x = x} {h = h} {c = c} durable ready pending unplaced) e knows =
         let write : Write = record { caller = caller; index = index; change = c } in
         let same : after f.base (f.history ++ write ∷ []) x ≡ map_now f = after-longer f.base f.history (write ∷ []) x (omega (arith, e)) ∙ after-whole f.base f.history x e in
-        record {
-          here = knows.here;
-          stands = knows.stands;
-          lock = knows.lock;
-          named = knows.named;
-          inside = knows.inside;
-          knows = knows.knows;
-          hand = knows.hand;
-          means = subst (Means l.slots (range_of l f n) (f.now n)) (sym (after_all-push f.base f.history write))
-              (subst (λ (p : Option Change). Means l.slots (range_of l f n) (f.now n) (pended p (map_now f))) pending knows.means);
-          stays = knows.stays;
-          about = tt;
-          shown = tt;
-          below = knows.below;
-          time = tt;
-          old = old_then h.old (subst (λ (p : Option ℕ). IfSome h.old (λ old. at (map_before f p) h.name ≡ old)) unplaced knows.old) (ap (λ (m : Map). at m h.name) same);
-          placed = record {
-            later = omega (arith, e);
-            within = omega (arith, e, length-append f.history (write ∷ []));
-            write = record {
-              change = c;
-              about = subst (λ (p : Option Change). IfSome p (λ d. name_of d ≡ h.name)) pending knows.about;
-              stands = ap (slice_get (f.history ++ write ∷ [])) e ∙ slice_get-last f.history write;
-            };
+        let meant = subst (Means l.slots (range_of l f n) (f.now n)) (sym (after_all-push f.base f.history write))
+            (subst (λ (p : Option Change). Means l.slots (range_of l f n) (f.now n) (pended p (map_now f))) pending knows.means) in
+        let was = old_then h.old (subst (λ (p : Option ℕ). IfSome h.old (λ old. at (map_before f p) h.name ≡ old)) unplaced knows.old) (ap (λ (m : Map). at m h.name) same) in
+        let placed : IsPlaced (f.history ++ write ∷ []) caller index since h.name x = record {
+          later = omega (arith, e);
+          within = omega (arith, e, length-append f.history (write ∷ []));
+          write = record {
+            change = c;
+            about = subst (λ (p : Option Change). IfSome p (λ d. name_of d ≡ h.name)) pending knows.about;
+            stands = ap (slice_get (f.history ++ write ∷ [])) e ∙ slice_get-last f.history write;
           };
-        }
+        } in
+        assumption (knows, meant, was, placed)
       where
         old_then : {m m' : Option ℕ} → (o : Option (Option ℕ)) → IfSome o (λ old. m ≡ old) → m' ≡ m → IfSome o (λ old. m' ≡ old)
         old_then None was same = tt

@@ -5,12 +5,12 @@ use lib.ListN.{get_elem?}
 use Rattle.version_lock.specs.Versions.{IsFree}
 use Rattle.call_stages.specs.Stages.{Stage, Idle}
 use Rattle.index_law.specs.Worlds.{Party, World, facts}
-use Rattle.index_law.specs.Twins.{BacksStage}
+use Rattle.index_law.specs.Twins.{AreDurable, BacksStage}
 use Rattle.pm_words.specs.declared.layout.Layout.{Layout}
 use Rattle.pm_words.specs.Layouts.{IsLayout}
-use Rattle.index_law.specs.Facts.{Facts, IsListed}
+use Rattle.index_law.specs.Facts.{Facts, IsListed, durable_spot}
 use Rattle.data_node.proofs.ListLemmas.{all_member}
-use Rattle.index_law.specs.Lawful.{IsList, AreAlone, AreBacked, AreFreeOrHeld, AreSure, HaveBegun, Sure, IsHeld, Lawful}
+use Rattle.index_law.specs.Lawful.{IsList, AreAlone, AreBacked, AreFreeOrHeld, AreSettled, AreSure, HaveBegun, IsSettled, Sure, IsHeld, Lawful}
 use Rattle.call_stages.specs.Stages.{HoldsNode}
 use Rattle.index_law.specs.Laws.{StartKeeps, JoinKeeps, RestIsLawful, IdleIsAtRest}
 use Rattle.index_law.proofs.Parties.{at_set, at_snoc, at_longer, each_snoc, set_else, each_set}
@@ -30,25 +30,7 @@ idle_holds p n idle holds = subst (λ (s : Stage). HoldsNode s n) idle holds
 -- the same words are lawful with other parties
 with_parties : (w : World) (parties : List Party) → Lawful w → AreSure w.layout w.generation (facts w) parties → HaveBegun w.history parties → AreAlone parties
     → AreFreeOrHeld w.layout w.generation (facts w) parties → AreBacked w.layout (facts w) w.words parties → Lawful (record w { parties = parties })
-with_parties w parties lawful sure begun alone held backed = record {
-  named = lawful.named;
-  list = lawful.list;
-  live = lawful.live;
-  run = lawful.run;
-  row = lawful.row;
-  clock = lawful.clock;
-  versions = lawful.versions;
-  sure = sure;
-  begun = begun;
-  alone = alone;
-  settled = lawful.settled;
-  held = held;
-  backed = backed;
-  durable = lawful.durable;
-  durable_versions = lawful.durable_versions;
-  front = lawful.front;
-  durable_front = lawful.durable_front;
-}
+with_parties w parties lawful sure begun alone held backed = assumption lawful
 
 -- a party that relies on nothing may be replaced by another one that relies on nothing
 pub swap_law : (w : World) (i : ℕ) (p q : Party) → Lawful w → get_elem? w.parties i ≡ some p → p.stage ≡ Idle → q.stage ≡ Idle → q.since ≤ length w.history → Lawful (replaced w i q)
@@ -98,25 +80,15 @@ join_law w q lawful idle since = with_parties w (w.parties ++ q ∷ []) lawful
     (subst (λ (s : Stage). BacksStage w.layout (facts w) w.words s) (sym idle) tt))
 
 pub rest_law : RestIsLawful
-rest_law w rest = record {
-  named = rest.named;
-  list = rest.list;
-  live = rest.live;
-  run = rest.run;
-  row = rest.row;
-  clock = rest.clock;
-  versions = rest.versions;
-  sure = λ j d at. subst (λ (s : Stage). Sure w.layout w.generation (facts w) d.caller d.index d.since s) (sym (rest.idle j d at)) tt;
-  begun = rest.begun;
-  alone = λ u v n b d at_u at_v holds_u holds_v. absurd (idle_holds b n (rest.idle u b at_u) holds_u);
-  settled = λ n is free. rest.settled n is;
-  held = λ n here. inl (rest.free n here);
-  backed = λ j d at. subst (λ (s : Stage). BacksStage w.layout (facts w) w.words s) (sym (rest.idle j d at)) tt;
-  durable = λ n here free. rest.durable n here;
-  durable_versions = rest.durable_versions;
-  front = rest.front;
-  durable_front = rest.durable_front;
-}
+rest_law w rest =
+    let sure : AreSure w.layout w.generation (facts w) w.parties =
+    λ j d at. subst (λ (s : Stage). Sure w.layout w.generation (facts w) d.caller d.index d.since s) (sym (rest.idle j d at)) tt in
+    let alone : AreAlone w.parties = λ u v n b d at_u at_v holds_u holds_v. absurd (idle_holds b n (rest.idle u b at_u) holds_u) in
+    let settled : AreSettled w.layout w.generation (facts w) = λ n is free. rest.settled n is in
+    let held : AreFreeOrHeld w.layout w.generation (facts w) w.parties = λ n here. inl (rest.free n here) in
+    let backed : AreBacked w.layout (facts w) w.words w.parties = λ j d at. subst (λ (s : Stage). BacksStage w.layout (facts w) w.words s) (sym (rest.idle j d at)) tt in
+    let durable : AreDurable w.layout w.generation (facts w) w.words = λ n here free. rest.durable n here in
+    assumption rest
 
 pub idle_law : IdleIsAtRest
 idle_law w lawful idle =
@@ -125,20 +97,7 @@ idle_law w lawful idle =
     (λ (free : IsFree ((facts w).version n) w.generation). free)
     (λ (held : IsHeld w.parties n). absurd (idle_holds held.party n (idle held.number held.party held.there) held.holds))
     (lawful.held n here) in
-    record {
-      named = lawful.named;
-      list = lawful.list;
-      live = lawful.live;
-      run = lawful.run;
-      row = lawful.row;
-      clock = lawful.clock;
-      versions = lawful.versions;
-      free = free;
-      settled = λ n is. lawful.settled n is (free n (listed_within w.layout (facts w) lawful.list lawful.row.layout n is));
-      durable = λ n here. lawful.durable n here (free n here);
-      durable_versions = lawful.durable_versions;
-      front = lawful.front;
-      durable_front = lawful.durable_front;
-      idle = idle;
-      begun = lawful.begun;
-    }
+    let settled : (n : ℕ) → IsListed (facts w) n → IsSettled w.layout (facts w) n =
+    λ n is. lawful.settled n is (free n (listed_within w.layout (facts w) lawful.list lawful.row.layout n is)) in
+    let durable : (n : ℕ) → n < w.layout.nodes → (offset : ℕ) → durable_spot w.layout w.words n offset ≡ (facts w).now n offset = λ n here. lawful.durable n here (free n here) in
+    assumption lawful
