@@ -524,37 +524,27 @@ module _ (c : TurnTerms) (f : TurnFacts) (s : TurnStage) (law : TurnLawful c f s
   ]
 
   -- the layer is nobody's but the turn's
+  layers_stay : {f' : TurnFacts} → OtherStep f f' → (f'.layer ≡ f.layer) × (f'.safe_layer ≡ f.safe_layer)
+  layers_stay (notes_kind j x empty) = (refl, refl)
+  layers_stay (notes_node j x empty) = (refl, refl)
+  layers_stay (notes_anchor j x empty) = (refl, refl)
+  layers_stay (opens j empty) = (refl, refl)
+  layers_stay (readies j is_open safe_state safe_anchor ripe) = (refl, refl)
+  layers_stay (drains_lines lines evicts) = (refl, refl)
+  layers_stay (locks p n listed live free) = (refl, refl)
+  layers_stay (claims p n free unheld) = (refl, refl)
+  layers_stay (unlocks p n worn held holds last owner) = (refl, refl)
+  layers_stay (anchors n k free held) = (refl, refl)
+  layers_stay (lights n free held) = (refl, refl)
+  layers_stay (links l n j new live held target same_holder is_open cover apart) = (refl, refl)
+  layers_stay (unlinks l r j here_l here_r apart held held_r same_holder below before is_open cover) = (refl, refl)
+  layers_stay (goes n gone live held) = (refl, refl)
+
   durable_after : {f' : TurnFacts} → OtherStep f f' → IsDurableBut f'.layer f'.safe_layer s
-  durable_after (notes_kind j x empty) = law.durable
-  durable_after (notes_node j x empty) = law.durable
-  durable_after (notes_anchor j x empty) = law.durable
-  durable_after (opens j empty) = law.durable
-  durable_after (readies j is_open safe_state safe_anchor ripe) = law.durable
-  durable_after (drains_lines lines evicts) = law.durable
-  durable_after (locks p n listed live free) = law.durable
-  durable_after (claims p n free unheld) = law.durable
-  durable_after (unlocks p n worn held holds last owner) = law.durable
-  durable_after (anchors n k free held) = law.durable
-  durable_after (lights n free held) = law.durable
-  durable_after (links l n j new live held target same_holder is_open cover apart) = law.durable
-  durable_after (unlinks l r j here_l here_r apart held held_r same_holder below before is_open cover) = law.durable
-  durable_after (goes n gone live held) = law.durable
+  durable_after {f'} step = let same = layers_stay step in subst (λ safe. IsDurableBut f'.layer safe s) (sym same.1) (subst (λ layer. IsDurableBut layer f.safe_layer s) (sym same.0) law.durable)
 
   layer_after : {f' : TurnFacts} → OtherStep f f' → (key node : ℕ) → f'.layer key ≡ Some node → f.layer key ≡ Some node
-  layer_after (notes_kind j x empty) key node is = is
-  layer_after (notes_node j x empty) key node is = is
-  layer_after (notes_anchor j x empty) key node is = is
-  layer_after (opens j empty) key node is = is
-  layer_after (readies j is_open safe_state safe_anchor ripe) key node is = is
-  layer_after (drains_lines lines evicts) key node is = is
-  layer_after (locks p n listed live free) key node is = is
-  layer_after (claims p n free unheld) key node is = is
-  layer_after (unlocks p n worn held holds last owner) key node is = is
-  layer_after (anchors n k free held) key node is = is
-  layer_after (lights n free held) key node is = is
-  layer_after (links l n j new live held target same_holder is_open cover apart) key node is = is
-  layer_after (unlinks l r j here_l here_r apart held held_r same_holder below before is_open cover) key node is = is
-  layer_after (goes n gone live held) key node is = is
+  layer_after step key node is = sym (ap (λ layer. layer key) (layers_stay step).0) ∙ is
 
   merged_gone : (e : ReadyLine) → IsAtHand f e → e.kind ≡ merge_kind → f.status e.node ≡ gone_status
   merged_gone e is kind = ap f.status (sym is.node) ∙ (law.merges e.line is.state (is.kind ∙ kind)).gone

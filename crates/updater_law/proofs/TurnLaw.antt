@@ -13,6 +13,12 @@ use Rattle.updater_law.specs.Laws.{TurnKeeps}
 use Rattle.updater_law.proofs.Columns.{here, other}
 use Rattle.updater_law.proofs.Covers.{covered_layer, covered_empties, cover_apart, target_has}
 
+-- whose a GONE node with no stamp is, once more: a ready line's, its holder's, or the turn's
+owned_on : {Ready Next Held Mine Rest : Type 0} → Ready ⊎ (Held ⊎ Mine) → (Ready → Next) → (Mine → Next ⊎ (Held ⊎ Rest)) → Next ⊎ (Held ⊎ Rest)
+owned_on (inl is) ready mine = inl (ready is)
+owned_on (inr (inl held)) ready mine = inr (inl held)
+owned_on (inr (inr is)) ready mine = mine is
+
 module _ (c : TurnTerms) (f : TurnFacts) (s : TurnStage) (law : TurnLawful c f s) where
   -- with the same facts
   restage : (t : TurnStage) → IsDurableBut f.layer f.safe_layer t → SureTurn c f t → ((n : ℕ) → IsNotFreed t n) → ((j : ℕ) → IsStamped s j → IsStamped t j) → ((n : ℕ) → IsBeingFreed s n → IsBeingFreed t n) → TurnLawful c f t
@@ -119,12 +125,8 @@ layer_keeps c f e found layer safe t law same here_or durable free sure = record
   apart = law.apart;
   live = law.live;
   marked = law.marked;
-  owned = λ n gone bare. elim (law.owned n gone bare) [
-    | inl ready ↦ inl (record { line = ready.line; state = ready.state; kind = ready.kind; node = ready.node })
-    | inr (inl held) ↦ inr (inl held)
-    | inr (inr mine) ↦ absurd mine
-  ];
-  ready = λ j ready. let r = law.ready j ready in record { safe_state = r.safe_state; safe_anchor = r.safe_anchor; busy = r.busy };
+  owned = λ n gone bare. owned_on (law.owned n gone bare) (λ ready. search ready) (λ mine. absurd mine);
+  ready = λ j ready. assumption (law.ready j ready);
   merges = λ j ready kind. let m = law.merges j ready kind in record { gone = m.gone; anchor = m.anchor; stamp = elim m.stamp [ inl none ↦ inl none | inr mine ↦ absurd mine ]; alone = m.alone };
   sure = sure;
 }
@@ -156,12 +158,8 @@ stamps_keep c f e law =
       ];
       owned = λ n gone none.
           let apart : n ≢ e.node = λ same. law.stamped_by (sym (here f.stamp e.node n c.stamp same) ∙ none) in
-          elim (law.owned n gone (sym (other f.stamp e.node n c.stamp apart) ∙ none)) [
-            | inl ready ↦ inl (record { line = ready.line; state = ready.state; kind = ready.kind; node = ready.node })
-            | inr (inl held) ↦ inr (inl held)
-            | inr (inr mine) ↦ absurd mine
-          ];
-      ready = λ j ready. let r = law.ready j ready in record { safe_state = r.safe_state; safe_anchor = r.safe_anchor; busy = r.busy };
+          owned_on (law.owned n gone (sym (other f.stamp e.node n c.stamp apart) ∙ none)) (λ ready. search ready) (λ mine. absurd mine);
+      ready = λ j ready. assumption (law.ready j ready);
       merges = λ j ready kind_j. let m = law.merges j ready kind_j in record {
         gone = m.gone;
         anchor = m.anchor;
@@ -249,13 +247,9 @@ unstamps_keep c f n law =
           law.marked m (λ none. some_stamp (other f.stamp n m 0 ne ∙ none));
       owned = λ m gone none. elim (cases_eq m n) [
         | inl same ↦ inr (inr same)
-        | inr ne ↦ elim (law.owned m gone (sym (other f.stamp n m 0 ne) ∙ none)) [
-          | inl ready ↦ inl (record { line = ready.line; state = ready.state; kind = ready.kind; node = ready.node })
-          | inr (inl held) ↦ inr (inl held)
-          | inr (inr mine) ↦ absurd mine
-        ]
+        | inr ne ↦ owned_on (law.owned m gone (sym (other f.stamp n m 0 ne) ∙ none)) (λ ready. search ready) (λ mine. absurd mine)
       ];
-      ready = λ j ready. let r = law.ready j ready in record { safe_state = r.safe_state; safe_anchor = r.safe_anchor; busy = r.busy };
+      ready = λ j ready. assumption (law.ready j ready);
       merges = λ j ready kind. let m = law.merges j ready kind in record {
         gone = m.gone;
         anchor = m.anchor;
@@ -291,12 +285,8 @@ frees_keep c f n law =
           (other f.status n m free_status (λ same. some_stamp (ap f.stamp same ∙ is.bare)) ∙ old.0, old.1);
       owned = λ m gone none.
           let ne : m ≢ n = λ same. let zero_status : set_at f.status n free_status m ≡ free_status = here f.status n m free_status same in omega arith in
-          elim (law.owned m (sym (other f.status n m free_status ne) ∙ gone) none) [
-            | inl ready ↦ inl (record { line = ready.line; state = ready.state; kind = ready.kind; node = ready.node })
-            | inr (inl held) ↦ inr (inl held)
-            | inr (inr mine) ↦ absurd (ne mine)
-          ];
-      ready = λ j ready. let r = law.ready j ready in record { safe_state = r.safe_state; safe_anchor = r.safe_anchor; busy = r.busy };
+          owned_on (law.owned m (sym (other f.status n m free_status ne) ∙ gone) none) (λ ready. search ready) (λ mine. absurd (ne mine));
+      ready = λ j ready. assumption (law.ready j ready);
       merges = λ j ready kind. let m = law.merges j ready kind in record {
         gone = other f.status n (f.line.node j) free_status (is.alone j ready kind) ∙ m.gone;
         anchor = m.anchor;
