@@ -199,20 +199,13 @@ still_left w0 w w' s s' b same own gone = record {
 -- ---- the steps
 
 module _ (name : List ℕ) (own : Option Change) (w0 : World) (z : Whole) (i : ℕ) (p : Party) (whole : IsWhole z) (o : Trying name own w0 i z.world p) where
+  open z.world use {layout as l, generation as g, words}
+
   abbrev w : World
   w = z.world
 
-  abbrev l : Layout
-  l = z.world.layout
-
-  abbrev g : ℕ
-  g = z.world.generation
-
   abbrev f : Facts
   f = facts z.world
-
-  abbrev words : List ℕ
-  words = z.world.words
 
   knows : Sure l g f p.caller p.index p.since p.stage
   knows = o.lawful.sure i p o.there

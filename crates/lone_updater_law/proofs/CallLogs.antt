@@ -158,14 +158,10 @@ module _ (caller : ℕ) (w0 w : World) (s next : Stage) (layout : w.layout ≡ w
 -- ---- the steps
 
 module _ (name : List ℕ) (own : Option Change) (w0 : World) (z : Layered) (i : ℕ) (p : Party) (is : IsLayered z) (o : Trying name own w0 i z.whole.world p) where
+  open z.whole.world use {layout as l, words}
+
   abbrev w : World
   w = z.whole.world
-
-  abbrev l : Layout
-  l = z.whole.world.layout
-
-  abbrev words : List ℕ
-  words = z.whole.world.words
 
   abbrev row : IsRow z.whole.world.layout z.whole.world.words
   row = is.whole.joint.lawful.row

@@ -67,14 +67,10 @@ record Knows (before : World) (stamp release : ℕ) (terms : Terms) (words : Lis
 
 module _ (before w : World) (stamp release : ℕ) (tally : Tally) (x : ℕ) (nodes : w.layout.nodes ≡ before.layout.nodes) (versions : (n : ℕ) → (facts w).version n ≡ (facts before).version n)
     (entry : Entry) (target : Target) (quiet : AreQuiet w.layout w.generation (nodes_in w.layout w.words)) where
+  open w use {layout as l, words}
+
   abbrev t : Terms
   t = terms_in w stamp release
-
-  abbrev l : Layout
-  l = w.layout
-
-  abbrev words : List ℕ
-  words = w.words
 
   goes_or_finds : (f : Nodes) (hops : ℕ) (key : List ℕ) (turn : Turn Walk Walked) → StaysOnWay w.layout f hops key turn → GoesOrFinds turn
   goes_or_finds f hops key (Go walk) way = tt

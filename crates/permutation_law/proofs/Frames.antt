@@ -36,11 +36,7 @@ sure_same l f f' words words' stage (Stored n lock) same sure =
     let is = same n lock sure.0 in (sure.0, is.1 ∙ sure.1, order_same l words words' f f' n is.2 is.0 sure.2)
 
 module _ (z : Permuted) (words : List ℕ) (parties : List Party) (base : Map) (history : List Write) (is : IsPermuted z) (same : (n : ℕ) → n < z.world.layout.nodes → IsSameNode z.world.layout z.world.words words n) where
-  abbrev l : Layout
-  l = z.world.layout
-
-  abbrev g : ℕ
-  g = z.world.generation
+  open z.world use {layout as l, generation as g}
 
   abbrev f' : Facts
   f' = facts (record (z.world) { words = words; parties = parties; base = base; history = history })

@@ -95,17 +95,10 @@ known_node (Stored n lock) = n
 module _ (z : Permuted) (i : ℕ) (p : Party) (is : IsPermuted z) (there : get_elem? z.world.parties i ≡ some p)
     (n lock : ℕ) (h : Held) (stage : p.stage ≡ Holds n lock h) (offset y : ℕ) (here : n < z.world.layout.nodes) (least : 2 < offset) (most : offset < 16) (fits : y < 2 ^ 64)
     (sorting after : Sorting) (at : get_elem? z.sortings i ≡ some sorting) where
-  abbrev l : Layout
-  l = z.world.layout
-
-  abbrev g : ℕ
-  g = z.world.generation
+  open z.world use {layout as l, generation as g, words}
 
   abbrev f : Facts
   f = facts z.world
-
-  abbrev words : List ℕ
-  words = z.world.words
 
   abbrev words' : List ℕ
   words' = slice_set z.world.words (address_of z.world.layout (Volatile n offset)) y

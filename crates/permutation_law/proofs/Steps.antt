@@ -126,20 +126,13 @@ own_sure l f f' words words' s t a sorting after left loaded sure (gives_back ba
 
 module _ (z : Permuted) (i : ℕ) (p : Party) (a : Action) (x : ℕ) (t : Stage) (r : Option (Once Placed)) (is : IsPermuted z) (there : get_elem? z.world.parties i ≡ some p)
     (k : AnyStep z.world.layout z.world.generation p.stage a x t r) (spares : Spares k) (told : x ≡ got z.world.layout z.world.words a) (room : length z.world.history < 2 ^ 63) where
-  abbrev l : Layout
-  l = z.world.layout
-
-  abbrev g : ℕ
-  g = z.world.generation
+  open z.world use {layout as l, generation as g, words}
 
   abbrev f : Facts
   f = facts z.world
 
   abbrev f' : Facts
   f' = facts (stepped z.world i p a t)
-
-  abbrev words : List ℕ
-  words = z.world.words
 
   abbrev words' : List ℕ
   words' = acted l words a

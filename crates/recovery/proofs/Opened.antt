@@ -41,8 +41,9 @@ use Rattle.image_recovery.specs.image_recovery_law.proofs.SoundColumns.{spots_ar
 use Rattle.index_core.specs.index_opening_law.specs.Openings.{HaveNoOrders, IsOpening, IsUnlocked, TellsList}
 use Rattle.index_core.specs.index_opening_law.proofs.Opened.{spot_is, opening_has_list, opening_is_unlocked}
 use Rattle.index_core.specs.lone_hops_law.proofs.Short.{empty_is_short}
-use Rattle.index_core.specs.Indexes.{Index, layered, world}
+use Rattle.index_core.specs.Indexes.{Index, layered, parties_of, world}
 use Rattle.index_core.specs.Opened.{opened_index, row_with}
+use Rattle.index_core.specs.PartyStates.{idle_states}
 use Rattle.index_core.proofs.Quiet.{can_walk}
 use Rattle.index_core.proofs.Stepping.{respare}
 use Rattle.index_core.proofs.Opening.{opening_is_index, opening_is_unused}
@@ -174,53 +175,16 @@ module _ (from row : Row) (recovered : IsRecoveredTo from row) where
     pub opens : IsSoundByAll l from.words → IsGeneration (suc (columns from).generation) → IsOpenedFrom from s
     opens sound next =
         let unused = opening_is_unused l list (columns from) words base is_opening in
-        record {
-          sound = sound;
-          next = next;
-          index = opening_is_index l list (columns from) words base is_opening;
-          quiet = unused.quiet;
-          layout = refl;
-          generation = is_opening.rests.generation;
-          states = refl;
-          base = pairs;
-          keeps = keeps;
-          history = refl;
-          anchors = unused.anchors;
-          rests = is_opening.rests;
-          tells = is_opening.tells;
-          marks = marks_here;
-          orders = orders_here;
-          weighs = weighs;
-          gone = unused.gone;
-          stamps = unused.stamps;
-          locks = unused.locks;
-          short = empty_is_short (layered s) (opening_is_index l list (columns from) words base is_opening).layered (can_walk s (opening_is_index l list (columns from) words base is_opening) unused.quiet).quiet (no_line l words (columns from) list (columns_in l words Durable) is_opening.rests);
-        }
+        let index = opening_is_index l list (columns from) words base is_opening in
+        let layout : s.layout ≡ from.layout = refl in
+        let states : s.states ≡ idle_states (parties_of from.layout) = refl in
+        let history : s.history ≡ [] = refl in
+        let short = empty_is_short (layered s) index.layered (can_walk s index unused.quiet).quiet (no_line l words (columns from) list (columns_in l words Durable) is_opening.rests) in
+        assumption (unused, is_opening, index, pairs, keeps, marks_here, orders_here, weighs, short)
 
 -- with whatever room
 pub with_room : (from : Row) (s : Index) (room : ℕ) → IsOpenedFrom from s → IsOpenedFrom from (record s { spare = room })
-with_room from s room is = record {
-  sound = is.sound;
-  next = is.next;
-  index = respare s room is.index;
-  quiet = record { calls = is.quiet.calls; turns = is.quiet.turns; rechecks = is.quiet.rechecks };
-  layout = is.layout;
-  generation = is.generation;
-  states = is.states;
-  base = is.base;
-  keeps = is.keeps;
-  history = is.history;
-  anchors = is.anchors;
-  rests = is.rests;
-  tells = is.tells;
-  marks = is.marks;
-  orders = is.orders;
-  weighs = is.weighs;
-  gone = is.gone;
-  stamps = is.stamps;
-  locks = is.locks;
-  short = is.short;
-}
+with_room from s room is = let index = respare s room is.index in assumption (is, index)
 
 -- the words are those of the image's layout, and nothing is written
 pub same_index : (row : Row) (layout : Layout) (base : List Pair) (history : List Write) → row.layout ≡ layout → history ≡ [] → opened_index row base history ≡ opened_index (row_with layout row.words) base []
