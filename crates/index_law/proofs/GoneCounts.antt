@@ -1,5 +1,5 @@
 -- How many nodes are GONE after a step.
-use Rattle.std.proofs.Common.{◌≡◌, ◌≢◌, ℕ, zero, suc, ◌+◌, ◌<◌, ◌==◌, ◌⊎◌, inl, inr, ⊎_elim, cond, if◌then◌else◌, Option, refl, sym, ap, ◌∙◌, subst, arith}
+use Rattle.std.proofs.Common.{◌≡◌, ◌≢◌, ℕ, zero, suc, ◌+◌, ◌<◌, ◌==◌, ◌⊎◌, inl, inr, ⊎_elim, cond, if◌then◌else◌, Option, refl, sym, ap, ◌∙◌, arith}
 use Rattle.std.proofs.lemmas.Bool.{cases_eq, eq-eqb, ne_eqb}
 use Rattle.pm_words.specs.Codes.{live_status, gone_status}
 use Rattle.pm_words.specs.declared.layout.Layout.{Layout}
@@ -15,7 +15,7 @@ use Rattle.index_law.specs.Lawful.{Sure}
 use Rattle.call_stages.specs.Prevs.{IsRetire}
 use Rattle.index_law.specs.Anchors.{gone_nodes}
 use Rattle.index_law.specs.LoneShapes.{StepCountsGone}
-use Rattle.index_law.proofs.Moves.{fact_after, split_after, merge_after, each_after, facts_step}
+use Rattle.index_law.proofs.Moves.{fact_after, split_after, merge_after, each_after, each_merged, of_step}
 
 -- ---- of two facts
 
@@ -74,26 +74,16 @@ module _ {l : Layout} {g : ℕ} (f : Facts) (caller index since : ℕ) where
   split_goes (kinds.trims here small durable soiled anchor told means) knows = inl (λ k. refl)
 
   merge_goes : {s : Stage} {a : Action} {x : ℕ} {t : Stage} → (k : Merge l g s a x t) → Sure l g f caller index since s → Goes l.nodes s t f (merge_after k f)
-  merge_goes (kinds.meets here same untimed leads) knows = inl (λ k. refl)
-  merge_goes (kinds.knows_own has positive learnt) knows = inl (λ k. refl)
-  merge_goes (kinds.knows_right has positive told) knows = inl (λ k. refl)
-  merge_goes (kinds.copies has content small soils learnt means) knows = inl (λ k. refl)
-  merge_goes (kinds.takes_up has) knows = inl (λ k. refl)
-  merge_goes (kinds.puts_down has small hand cleans) knows = inl (λ k. refl)
-  merge_goes (kinds.parts next) knows = inl (λ k. refl)
-  merge_goes (kinds.gathers small durable soiled told gathered) knows = inl (λ k. refl)
-  merge_goes (kinds.joins small durable soiled next told) knows = inl (λ k. refl)
-  merge_goes (kinds.glances_joined has learnt) knows = inl (λ k. refl)
-  merge_goes (kinds.drains_joined has small hand cleans) knows = inl (λ k. refl)
-  merge_goes (kinds.retires {h = h} {left = left} {right = right} durable) knows = inr (record {
-    retire = record { held = h; left = left; right = right; was = refl; is = refl };
-    node = right.node;
-    within = knows.other.here;
-    others = λ k other. ap (λ b. cond b gone_status (f.status k)) (ne_eqb k right.node other);
-    is = ap (λ b. cond b gone_status (f.status right.node)) (eq-eqb right.node right.node refl);
-    wasnt = λ gone. let no : 1 ≡ 2 = sym knows.at.bright ∙ gone in omega arith;
-  })
-  merge_goes (kinds.yields next durable) knows = inl (λ k. refl)
+  merge_goes k = each_merged f k (λ s t φ. Sure l g f caller index since s → Goes l.nodes s t f φ) (λ φ list status knows. inl (λ n. ap (λ (u : ℕ → ℕ). u n == gone_status) status))
+      (λ h left right now y next knows. inl (λ n. refl))
+      (λ h left right knows. inr (record {
+        retire = record { held = h; left = left; right = right; was = refl; is = refl };
+        node = right.node;
+        within = knows.other.here;
+        others = λ k other. ap (λ b. cond b gone_status (f.status k)) (ne_eqb k right.node other);
+        is = ap (λ b. cond b gone_status (f.status right.node)) (eq-eqb right.node right.node refl);
+        wasnt = λ gone. let no : 1 ≡ 2 = sym knows.at.bright ∙ gone in omega arith;
+      }))
 
   goes : {s : Stage} {a : Action} {x : ℕ} {t : Stage} {r : Option (Once Placed)} → (k : Step l g s a x t r) → Sure l g f caller index since s → Goes l.nodes s t f (fact_after k f caller index)
   goes {s = s} {t = t} k knows = each_after f caller index k (λ φ. Goes l.nodes s t f φ) (λ φ list status. inl (λ n. ap (λ (u : ℕ → ℕ). u n == gone_status) status)) (λ k. split_goes k knows) (λ k. merge_goes k knows)
@@ -102,10 +92,9 @@ pub step_counts_gone : StepCountsGone
 step_counts_gone w i p a x t r lawful there k told =
     let l = w.layout in
     let f = facts w in
-    let known = lawful.sure i p there in
-    let same = facts_step w.words w.base w.history p.caller p.index p.since k lawful.row lawful.list told known in
-    subst (λ (φ : Facts). (gone_nodes l.nodes φ ≡ gone_nodes l.nodes f) ⊎ (IsRetire p.stage t × (gone_nodes l.nodes φ ≡ gone_nodes l.nodes f + 1))) (sym same)
-    (⊎_elim
+    of_step w i p a x t lawful there k told
+    (λ (φ : Facts). (gone_nodes l.nodes φ ≡ gone_nodes l.nodes f) ⊎ (IsRetire p.stage t × (gone_nodes l.nodes φ ≡ gone_nodes l.nodes f + 1)))
+    (λ known. ⊎_elim
     (λ stays. inl (gone-alike l.nodes f (fact_after k f p.caller p.index) (λ n below. stays n)))
     (λ (one : OneGone l.nodes p.stage t f (fact_after k f p.caller p.index)). inr (one.retire, gone-one l.nodes one.node f (fact_after k f p.caller p.index) one.within one.others one.is one.wasnt))
     (goes f p.caller p.index p.since k known))

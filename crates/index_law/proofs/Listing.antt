@@ -19,7 +19,7 @@ use Rattle.index_law.specs.Lawful.{IsList, AreLive, Sure}
 use Rattle.call_stages.specs.Stages.{HoldsNode}
 use Rattle.data_node.proofs.ListLemmas.{chain_same}
 use Rattle.index_law.proofs.Locks.{cut_now, own_of, holds_or, steady_else, given_back, lead}
-use Rattle.index_law.proofs.Moves.{fact_after, split_after, merge_after, each_after}
+use Rattle.index_law.proofs.Moves.{fact_after, split_after, merge_after, each_after, each_merged}
 use Rattle.index_law.proofs.Past.{list_past, listed_was}
 use Rattle.index_law.proofs.Rows.{with_word, SameLinks, links_content, links_else}
 use Rattle.index_law.proofs.Switch.{list_after, listed_after}
@@ -38,22 +38,11 @@ relist l f f' same links list = record {
 -- a merge leaves each status, or makes it GONE
 pub merge_gone : {l : Layout} {g : ℕ} (f : Facts) {s : Stage} {a : Action} {x : ℕ} {t : Stage} → (k : Merge l g s a x t) → (n : ℕ)
     → ((merge_after k f).status n ≡ f.status n) ⊎ ((merge_after k f).status n ≡ gone_status)
-merge_gone f (meets here same untimed leads) n = inl refl
-merge_gone f (knows_own has positive learnt) n = inl refl
-merge_gone f (knows_right has positive told) n = inl refl
-merge_gone f (copies has content small soils learnt means) n = inl refl
-merge_gone f (takes_up has) n = inl refl
-merge_gone f (puts_down has small hand cleans) n = inl refl
-merge_gone f (parts next) n = inl refl
-merge_gone f (gathers small durable soiled told gathered) n = inl refl
-merge_gone f (joins small durable soiled next told) n = inl refl
-merge_gone f (glances_joined has learnt) n = inl refl
-merge_gone f (drains_joined has small hand cleans) n = inl refl
-merge_gone f (retires {right = right} durable) n = ⊎_elim
+merge_gone f k n = each_merged f k (λ s t φ. (φ.status n ≡ f.status n) ⊎ (φ.status n ≡ gone_status)) (λ φ list status. inl (ap (λ (u : ℕ → ℕ). u n) status)) (λ h left right now y next. inl refl)
+    (λ h left right. ⊎_elim
     (λ (e : n ≡ right.node). inr (ap (λ (b : Bool). cond b gone_status (f.status n)) (eq-eqb n right.node e)))
     (λ (other : n ≢ right.node). inl (ap (λ (b : Bool). cond b gone_status (f.status n)) (ne_eqb n right.node other)))
-    (cases_eq n right.node)
-merge_gone f (yields next durable) n = inl refl
+    (cases_eq n right.node))
 
 module _ {l : Layout} {g : ℕ} (f : Facts) (caller index since : ℕ) where
   split_list : {s : Stage} {a : Action} {x : ℕ} {t : Stage} → (k : Split l g s a x t) → IsList l f → Sure l g f caller index since s → IsList l (split_after k f)
@@ -128,26 +117,18 @@ module _ {l : Layout} {g : ℕ} (f : Facts) (caller index since : ℕ) where
   -- a merge leaves the statuses, or it makes one GONE
   merge_status : {s : Stage} {a : Action} {x : ℕ} {t : Stage} → (k : Merge l g s a x t) → Sure l g f caller index since s → (m : ℕ)
       → ((merge_after k f).status m ≡ f.status m) ⊎ (((merge_after k f).status m ≢ live_status) × (IsListed f m → ⊥) × ((merge_after k f).status m ≤ gone_status))
-  merge_status (meets here same untimed leads) mine m = inl refl
-  merge_status (knows_own has positive learnt) mine m = inl refl
-  merge_status (knows_right has positive told) mine m = inl refl
-  merge_status (copies has content small soils learnt means) mine m = inl refl
-  merge_status (takes_up has) mine m = inl refl
-  merge_status (puts_down has small hand cleans) mine m = inl refl
-  merge_status (parts next) mine m = inl refl
-  merge_status (gathers small durable soiled told gathered) mine m = inl refl
-  merge_status (joins small durable soiled next told) mine m = inl refl
-  merge_status (glances_joined has learnt) mine m = inl refl
-  merge_status (drains_joined has small hand cleans) mine m = inl refl
-  merge_status (retires {right = right} durable) mine m = ⊎_elim
+  merge_status k mine m = each_merged f k
+      (λ s t φ. Sure l g f caller index since s → (φ.status m ≡ f.status m) ⊎ ((φ.status m ≢ live_status) × (IsListed f m → ⊥) × (φ.status m ≤ gone_status)))
+      (λ φ list status mine. inl (ap (λ (u : ℕ → ℕ). u m) status)) (λ h left right now y next mine. inl refl)
+      (λ h left right mine. ⊎_elim
       (λ (e : m ≡ right.node). inr (
         λ lit. absurd (let no : 2 ≡ 1 = sym (ap (λ (b : Bool). cond b gone_status (f.status m)) (eq-eqb m right.node e)) ∙ lit in omega arith),
         λ is. mine.at.unlisted (subst (IsListed f) e is),
         subst (λ u. u ≤ gone_status) (sym (ap (λ (b : Bool). cond b gone_status (f.status m)) (eq-eqb m right.node e))) (omega arith),
       ))
       (λ (other : m ≢ right.node). inl (ap (λ (b : Bool). cond b gone_status (f.status m)) (ne_eqb m right.node other)))
-      (cases_eq m right.node)
-  merge_status (yields next durable) mine m = inl refl
+      (cases_eq m right.node))
+      mine
 
   status : {s : Stage} {a : Action} {x : ℕ} {t : Stage} {r : Option (Once Placed)} → (k : Step l g s a x t r) → Sure l g f caller index since s → (m : ℕ)
       → ((fact_after k f caller index).status m ≡ f.status m) ⊎ ((((fact_after k f caller index).status m ≡ live_status) × ((fact_after k f caller index).now m next_offset < l.nodes))
@@ -171,20 +152,11 @@ module _ {l : Layout} {g : ℕ} (f : Facts) (caller index since : ℕ) where
   split_members (trims here small durable soiled anchor told means) list mine m is = inl is
 
   merge_members : {s : Stage} {a : Action} {x : ℕ} {t : Stage} → (k : Merge l g s a x t) → IsList l f → Sure l g f caller index since s → (m : ℕ) → IsListed (merge_after k f) m → IsListed f m
-  merge_members (meets here same untimed leads) list mine m is = is
-  merge_members (knows_own has positive learnt) list mine m is = is
-  merge_members (knows_right has positive told) list mine m is = is
-  merge_members (copies has content small soils learnt means) list mine m is = is
-  merge_members (takes_up has) list mine m is = is
-  merge_members (puts_down has small hand cleans) list mine m is = is
-  merge_members (parts next) list mine m is = is
-  merge_members (gathers small durable soiled told gathered) list mine m is = is
-  merge_members (joins {y = y} {left = left} {right = right} small durable soiled next told) list mine m is =
-      listed_was l f list left.node y right.node mine.at.linked.listed mine.at.linked.leads mine.nonzero (next (f.now right.node) mine.other.seen) m is
-  merge_members (glances_joined has learnt) list mine m is = is
-  merge_members (drains_joined has small hand cleans) list mine m is = is
-  merge_members (retires durable) list mine m is = is
-  merge_members (yields next durable) list mine m is = is
+  merge_members k list mine m = each_merged f k (λ s t φ. Sure l g f caller index since s → IsListed φ m → IsListed f m)
+      (λ φ listed status mine is. subst (λ (ns : List ListNode). IsIn ns m) listed is)
+      (λ h left right now y next mine is. listed_was l f list left.node y right.node mine.at.linked.listed mine.at.linked.leads mine.nonzero (next (f.now right.node) mine.other.seen) m is)
+      (λ h left right mine is. is)
+      mine
 
   -- a node that is listed then was listed, or is LIVE
   members : {s : Stage} {a : Action} {x : ℕ} {t : Stage} {r : Option (Once Placed)} → (k : Step l g s a x t r) → IsList l f → Sure l g f caller index since s → (m : ℕ)

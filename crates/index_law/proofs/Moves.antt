@@ -1,6 +1,8 @@
 -- What a step of each kind makes of the facts, and what the number that it is told says of them.
 use Rattle.std.proofs.Common.{◌≡◌, ◌≢◌, ℕ, ◌+◌, ◌<◌, inl, ⊎_elim, subst, Bool, true, false, cond, List, [], ◌∷◌, ◌++◌, length, slice_index, slice_set, refl, sym, ap, ◌∙◌, arith}
 use Rattle.std.specs.Prelude.{◌==◌, Option, Some, None}
+use mathlib.Core.Option.{some}
+use lib.ListN.{get_elem?}
 use Rattle.std.proofs.lemmas.Bool.{eq-eqb, ne_eqb}
 use Rattle.std.proofs.lemmas.List.{set-get_or, append-nil, length-append}
 use Rattle.pm_words.specs.Codes.{live_status, gone_status}
@@ -14,17 +16,18 @@ use Rattle.pm_words.proofs.Kept.{action_address-drain}
 use Rattle.cat_history.specs.Maps.{Map}
 use Rattle.cat_history.specs.declared.op.Change.{Change}
 use Rattle.cat_history.specs.declared.op.Write.{Write}
+use Rattle.data_node.specs.Spots.{Spot}
 use Rattle.call_stages.specs.declared.once.Once.{Once}
 use Rattle.call_stages.specs.declared.once.Placed.{Placed}
-use Rattle.call_stages.specs.Stages.{Held, Sight, Stage, Saw, Holds, IsLoose, counted}
+use Rattle.call_stages.specs.Stages.{Held, Grip, Sight, Stage, Saw, Holds, Joins, Gathered, Joined, Gone, Tells, IsLoose, counted}
 use Rattle.call_stages.specs.Kinds.{Read, views, views_live, views_word, views_next, dates, notes, finds, confirms, wavers, reads_on}
 use Rattle.call_stages.specs.Kinds.{Look, turns_back, is_worn, wears, roams, roams_status, sees, misses, misses_read, times, learns, decides, glances, finds_live, watches, watches_next, turns_away, steps_back, wanders, Split, fills, lights, switches, glances_left, glances_fresh, drains_left, drains_fresh, trims, splits, Merge, meets, knows_own, knows_right, copies, takes_up, puts_down, parts, gathers, joins, glances_joined, drains_joined, retires, yields, merges, peeks, peeks_status, eyes, eyes_free, passes, loses, claims, publishes, leaves, Step, looks, locks, locks_read, stores, commits, drains, counts, unlocks, clock_address, word_address, version_address}
 use Rattle.index_law.specs.Facts.{Facts, facts_of, cached_word, spot_in, map_now, range_of}
-use Rattle.index_law.specs.Worlds.{written}
+use Rattle.index_law.specs.Worlds.{World, Party, facts, stepped, written}
 use Rattle.pm_words.specs.Offsets.{version_offset, bitmap_offset, next_offset, status_offset}
 use Rattle.call_stages.specs.Kinds.{status_address, prev_address, IsContent}
 use Rattle.index_law.specs.Facts.{IsListed}
-use Rattle.index_law.specs.Lawful.{IsList, Sure}
+use Rattle.index_law.specs.Lawful.{IsList, Lawful, Sure}
 use Rattle.index_law.proofs.Rows.{with_version, with_status, with_word, with_next, with_past, with_writes, version_in-here, status_in-here, spot_in-here, cached_word-here, facts-elsewhere, facts-version, facts-status, facts-word, facts-next, facts-past, links_content, links_else}
 use Rattle.index_law.proofs.Switch.{members_after}
 use Rattle.index_law.proofs.Past.{members_past}
@@ -128,6 +131,25 @@ module _ {l : Layout} {g : ℕ} where
   each_after f caller index (leaves {freed = freed} {left = left} next) P same split merge = same (with_version f left.node freed) refl refl
   each_after f caller index (splits k) P same split merge = split k
   each_after f caller index (merges k) P same split merge = merge k
+
+  -- likewise of a merge: one store takes a node out of the list, and one makes its status GONE
+  pub each_merged : (f : Facts) {s : Stage} {a : Action} {x : ℕ} {t : Stage} (k : Merge l g s a x t) (P : Stage → Stage → Facts → Type 0) → ((φ : Facts) → φ.list ≡ f.list → φ.status ≡ f.status → P s t φ)
+      → ((h : Held) (left right now : Grip) (y : ℕ) → ((spot : Spot) → Tells right.seen spot → spot next_offset ≡ y) → P (Joins h left right Gathered) (Joins h now right Joined) (with_past f left.node y right.node))
+      → ((h : Held) (left right : Grip) → P (Joins h left right Joined) (Joins h left right Gone) (with_status f right.node gone_status)) → P s t (merge_after k f)
+  each_merged f (meets {m = m} {u = u} here is untimed leads) P same join retire = same (with_version f m u) refl refl
+  each_merged f (knows_own has positive learnt) P same join retire = same f refl refl
+  each_merged f (knows_right has positive told) P same join retire = same f refl refl
+  each_merged f (copies {n = n} {y = y} {offset = offset} has content small soils learnt means) P same join retire = same (with_word f n offset y) refl refl
+  each_merged f (takes_up has) P same join retire = same f refl refl
+  each_merged f (puts_down has small hand cleans) P same join retire = same f refl refl
+  each_merged f (parts {freed = freed} {right = right} next) P same join retire = same (with_version f right.node freed) refl refl
+  each_merged f (gathers {n = n} {y = y} small durable soiled told gathered) P same join retire = same (with_word f n bitmap_offset y) refl refl
+  each_merged f (joins {y = y} {h = h} {left = left} {right = right} {seen = seen} {dirty = dirty} small durable soiled next told) P same join retire =
+      join h left right (record left { seen = seen; dirty = dirty; hand = None }) y next
+  each_merged f (glances_joined has learnt) P same join retire = same f refl refl
+  each_merged f (drains_joined has small hand cleans) P same join retire = same f refl refl
+  each_merged f (retires {h = h} {left = left} {right = right} durable) P same join retire = retire h left right
+  each_merged f (yields {freed = freed} {right = right} next durable) P same join retire = same (with_version f right.node freed) refl refl
 
   -- the number that a step of a reader gives
   abbrev pub ReadGave : {s : Stage} {a : Action} {x : ℕ} {t : Stage} {r : Option (Once Placed)} → Read l g s a x t r → Facts → Type 0
@@ -554,3 +576,10 @@ module _ {l : Layout} {g : ℕ} where
         beside l ws (Cached (Node left.node version_offset)) freed (knows.grip.here, omega arith) (λ alike. cc) ∙ clock ∙ lengths h [] refl
     clock_step (splits k) row clock e knows = split_clock k row clock e ∙ lengths h _ (split_adds k caller index)
     clock_step (merges k) row clock e knows = merge_clock k row clock e knows ∙ lengths h _ (merge_adds k caller index)
+
+-- what holds of the facts that the kind of a step makes holds of those of the index behind it
+pub of_step : (w : World) (i : ℕ) (p : Party) (a : Action) (x : ℕ) (t : Stage) {r : Option (Once Placed)} → Lawful w → get_elem? w.parties i ≡ some p → (k : Step w.layout w.generation p.stage a x t r)
+    → x ≡ got w.layout w.words a → (P : Facts → Type 0) → (Sure w.layout w.generation (facts w) p.caller p.index p.since p.stage → P (fact_after k (facts w) p.caller p.index)) → P (facts (stepped w i p a t))
+of_step w i p a x t lawful there k told P holds =
+    let known = lawful.sure i p there in
+    subst P (sym (facts_step w.words w.base w.history p.caller p.index p.since k lawful.row lawful.list told known)) (holds known)

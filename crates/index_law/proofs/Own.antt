@@ -30,7 +30,7 @@ use Rattle.index_law.proofs.Rows.{with_version, with_word}
 use Rattle.index_law.proofs.Switch.{between_inside, inside_listed}
 use Rattle.index_law.proofs.Bystanders.{grip_kept, later-version, steady-version, saw_on, eyes_on}
 use Rattle.index_law.proofs.Versions.{own_lock, unfree}
-use Rattle.index_law.proofs.Reading.{read_allowed, read_mine, read_legal, stands_live, stands_next, stands_word}
+use Rattle.index_law.proofs.Reading.{read_allowed, read_mine, read_legal, stands_live, stands_next, stands_none, stands_word}
 use Rattle.call_stages.specs.Kinds.{reads_on}
 use Rattle.index_law.proofs.Loose.{loose_legal, loose_gives}
 use Rattle.index_law.proofs.Stays.{stays_stored, stays_changed}
@@ -152,11 +152,7 @@ module _ {l : Layout} {g : ℕ} (f : Facts) (caller index since : ℕ) where
       word = record { here = here; known = subst (λ (v : ℕ). generation_of v ≤ g) (sym e) (known n here); free = free; unworn = unworn; lock = lock };
       seen = omega (arith, e);
       leads = λ no. absurd (let none : false ≡ true = no in cc);
-      stands = λ is. record {
-        listed = λ no. absurd (let none : false ≡ true = no in cc);
-        sees = record { seen = tt; leads = λ ne. absurd (ne refl); beyond = λ ne. absurd (ne refl) };
-        leads = λ ne. absurd (ne refl);
-      };
+      stands = λ is. stands_none f n;
     }
     look_mine (finds_live {n = n} {v = v} {w = w} {k = k} here is) e knows =
         saw_on l g f f n v w k (record k { live = true }) knows.seen (λ _. live_part.leads n here (sym e ∙ is))

@@ -9,7 +9,7 @@ use Rattle.cat_history.specs.Maps.{Map, at}
 use Rattle.data_node.specs.Spots.{Spot}
 use Rattle.call_stages.specs.declared.once.Once.{Once}
 use Rattle.call_stages.specs.declared.once.Placed.{Placed}
-use Rattle.call_stages.specs.Stages.{Stage, Held, Known, Knows, Sight, Sees}
+use Rattle.call_stages.specs.Stages.{Stage, Held, Known, Knows, Sight, Sees, no_sight}
 use Rattle.call_stages.specs.Kinds.{Read, views, views_live, views_word, views_next, dates, notes, finds, confirms, wavers}
 use Rattle.index_law.specs.Facts.{Facts, IsListed, map_now, range_of}
 use Rattle.index_law.specs.Lawful.{IsList, AreLive, AreKnown, AreSettled, IsTime, HasWriteAt, IsRead, Stands, Sure, SureReads}
@@ -20,6 +20,13 @@ use Rattle.index_law.proofs.Switch.{between_inside}
 
 -- What was seen of a node stands once its status is seen, another word of it, or one of the node that it leads to.
 module _ (f : Facts) (n : ℕ) where
+  pub stands_none : Stands f n no_sight
+  stands_none = record {
+    listed = λ no. absurd (let none : false ≡ true = no in cc);
+    sees = record { seen = tt; leads = λ ne. absurd (ne refl); beyond = λ ne. absurd (ne refl) };
+    leads = λ ne. absurd (ne refl);
+  }
+
   pub stands_live : (k : Sight) → IsListed f n → Stands f n k → Stands f n (record k { live = true })
   stands_live k listed was = record {
     listed = λ _. listed;

@@ -1,5 +1,5 @@
 -- What a step makes of the list.
-use Rattle.std.proofs.Common.{◌≡◌, ℕ, ◌+◌, ◌≤◌, ◌/◌, ◌⊎◌, inl, inr, ⊎_elim, Bool, true, false, List, refl, sym, ap, ◌∙◌, subst, arith}
+use Rattle.std.proofs.Common.{◌≡◌, ℕ, ◌+◌, ◌≤◌, ◌/◌, ◌⊎◌, inl, inr, ⊎_elim, Bool, true, false, List, refl, sym, ap, ◌∙◌, arith}
 use Rattle.std.specs.Prelude.{◌||◌, Option, None}
 use Rattle.pm_words.specs.declared.layout.Layout.{Layout}
 use Rattle.pm_words.specs.declared.action.Action.{Action}
@@ -9,7 +9,7 @@ use Rattle.data_node.specs.Weights.{names_in}
 use Rattle.call_stages.specs.declared.once.Once.{Once}
 use Rattle.call_stages.specs.declared.once.Placed.{Placed}
 use Rattle.call_stages.specs.Stages.{Stage}
-use Rattle.call_stages.specs.Kinds.{below_key, IsCut, Split, fills, lights, switches, glances_left, glances_fresh, drains_left, drains_fresh, trims, Merge, meets, knows_own, knows_right, copies, takes_up, puts_down, parts, gathers, joins, glances_joined, drains_joined, retires, yields, from_key, Step}
+use Rattle.call_stages.specs.Kinds.{below_key, IsCut, Split, fills, lights, switches, glances_left, glances_fresh, drains_left, drains_fresh, trims, Merge, from_key, Step}
 use Rattle.index_law.specs.Facts.{Facts, map_now, range_of}
 use Rattle.index_law.specs.Lawful.{IsList, SureJoins, SureSplits, Sure}
 use Rattle.index_law.proofs.Past.{range_right}
@@ -23,7 +23,7 @@ use Rattle.call_stages.specs.Prevs.{IsSwitch, IsJoin}
 use Rattle.index_law.specs.Worlds.{facts}
 use Rattle.index_law.proofs.Locks.{cut_now}
 use Rattle.index_law.proofs.Rows.{with_next}
-use Rattle.index_law.proofs.Moves.{fact_after, split_after, merge_after, each_after, facts_step}
+use Rattle.index_law.proofs.Moves.{fact_after, split_after, merge_after, each_after, each_merged, of_step}
 
 or_true : (b : Bool) → (b || true) ≡ true
 or_true true = refl
@@ -86,34 +86,25 @@ module _ {l : Layout} {g : ℕ} (f : Facts) (caller index since : ℕ) where
 
   merge_shapes : {s : Stage} {a : Action} {x : ℕ} {t : Stage} → (k : Merge l g s a x t) → IsList l f → Sure l g f caller index since s
       → ((merge_after k f).list ≡ f.list) ⊎ ((join : IsJoin s t) × (merged : IsMerged l f (merge_after k f).list) × (merged.node ≡ join.left.node))
-  merge_shapes (meets here same untimed leads) list knows = inl refl
-  merge_shapes (knows_own has positive learnt) list knows = inl refl
-  merge_shapes (knows_right has positive told) list knows = inl refl
-  merge_shapes (copies has content small soils learnt means) list knows = inl refl
-  merge_shapes (takes_up has) list knows = inl refl
-  merge_shapes (puts_down has small hand cleans) list knows = inl refl
-  merge_shapes (parts next) list knows = inl refl
-  merge_shapes (gathers small durable soiled told gathered) list knows = inl refl
-  merge_shapes (joins {y = y} {h = h} {left = left} {right = right} {seen = seen} {dirty = dirty} small durable soiled next told) list knows = inr (
-    record { held = h; left = left; right = right; after = record left { seen = seen; dirty = dirty; hand = None }; was = refl; is = refl },
-    record {
-      node = left.node;
-      right = right.node;
-      listed = knows.at.linked.listed;
-      listed_right = knows.at.linked.listed_fresh;
-      leads = knows.at.linked.leads;
-      nonzero = knows.nonzero;
-      means = knows.at.linked.means;
-      together = knows.at.few;
-      few = few_names list h left right y knows (next (f.now right.node) knows.other.seen);
-      shorter = refl;
-    },
-    refl,
-  )
-  merge_shapes (glances_joined has learnt) list knows = inl refl
-  merge_shapes (drains_joined has small hand cleans) list knows = inl refl
-  merge_shapes (retires durable) list knows = inl refl
-  merge_shapes (yields next durable) list knows = inl refl
+  merge_shapes k list = each_merged f k (λ s t φ. Sure l g f caller index since s → (φ.list ≡ f.list) ⊎ ((join : IsJoin s t) × (merged : IsMerged l f φ.list) × (merged.node ≡ join.left.node)))
+      (λ φ listed status knows. inl listed)
+      (λ h left right now y next knows. inr (
+        record { held = h; left = left; right = right; after = now; was = refl; is = refl },
+        record {
+          node = left.node;
+          right = right.node;
+          listed = knows.at.linked.listed;
+          listed_right = knows.at.linked.listed_fresh;
+          leads = knows.at.linked.leads;
+          nonzero = knows.nonzero;
+          means = knows.at.linked.means;
+          together = knows.at.few;
+          few = few_names list h left right y knows (next (f.now right.node) knows.other.seen);
+          shorter = refl;
+        },
+        refl,
+      ))
+      (λ h left right knows. inl refl)
 
   shapes : {s : Stage} {a : Action} {x : ℕ} {t : Stage} {r : Option (Once Placed)} → (k : Step l g s a x t r) → IsList l f → Sure l g f caller index since s
       → ((fact_after k f caller index).list ≡ f.list) ⊎ (((switch : IsSwitch s t) × (halved : IsHalved l f (fact_after k f caller index).list) × (halved.node ≡ switch.left.node))
@@ -123,9 +114,7 @@ module _ {l : Layout} {g : ℕ} (f : Facts) (caller index since : ℕ) where
       (λ φ list status. inl list) (λ k. ⊎_elim (λ same. inl same) (λ cut. inr (inl cut)) (split_shapes k knows)) (λ k. ⊎_elim (λ same. inl same) (λ one. inr (inr one)) (merge_shapes k list knows))
 
 pub step_shapes : StepShapes
-step_shapes w i p a x t r lawful there k told =
-    let l = w.layout in
-    let f = facts w in
-    let known = lawful.sure i p there in
-    let same = facts_step w.words w.base w.history p.caller p.index p.since k lawful.row lawful.list told known in
-    subst (λ (φ : Facts). (φ.list ≡ f.list) ⊎ (((switch : IsSwitch p.stage t) × (halved : IsHalved l f φ.list) × (halved.node ≡ switch.left.node)) ⊎ ((join : IsJoin p.stage t) × (merged : IsMerged l f φ.list) × (merged.node ≡ join.left.node)))) (sym same) (shapes f p.caller p.index p.since k lawful.list known)
+step_shapes w i p a x t r lawful there k told = of_step w i p a x t lawful there k told
+    (λ (φ : Facts). (φ.list ≡ (facts w).list) ⊎ (((switch : IsSwitch p.stage t) × (halved : IsHalved w.layout (facts w) φ.list) × (halved.node ≡ switch.left.node))
+    ⊎ ((join : IsJoin p.stage t) × (merged : IsMerged w.layout (facts w) φ.list) × (merged.node ≡ join.left.node))))
+    (λ known. shapes (facts w) p.caller p.index p.since k lawful.list known)

@@ -106,17 +106,23 @@ module _ (l : Layout) (f : Facts) (list : IsList l f) (n y : ℕ) (listed : IsLi
       ≡ cond ((target_from 0 f.list (key_of name) == n) && nat_le (anchor_in (f.now y)) (key_of name)) y (target_from 0 f.list (key_of name))
   target_after name = target_cut f.now (word_set f.now n next_offset y) n (new_member f.now y) cuts 0 f.list (key_of name) list.chain (rise_from l f list) listed
 
+  -- the node that a name belonged to, and the anchor of the new one
+  abbrev had : List ℕ → ℕ
+  had name = target_from 0 f.list (key_of name)
+
+  abbrev new_anchor : ℕ
+  new_anchor = anchor_in (f.now y)
+
   -- the ranges of the other nodes stay
   pub range_other : (k : ℕ) → k ≢ n → k ≢ y → range_of l (with_next f n y) k ≡ range_of l f k
   range_other k other apart = λ i name. by name i where
     by : (name : List ℕ) → range_of l (with_next f n y) k name ≡ range_of l f k name
     by name =
-        let T : ℕ = target_from 0 f.list (key_of name) in
         ap (λ t. t == k) (target_after name)
-        ∙ elim (T == n) as (λ b. (T == n) ≡ b → (cond (b && nat_le (anchor_in (f.now y)) (key_of name)) y T == k) ≡ (T == k)) [
+        ∙ elim (had name == n) as (λ b. (had name == n) ≡ b → (cond (b && nat_le new_anchor (key_of name)) y (had name) == k) ≡ (had name == k)) [
           | true ↦ λ is.
-              elim (nat_le (anchor_in (f.now y)) (key_of name)) as (λ c. (cond (true && c) y T == k) ≡ (T == k)) [
-                | true ↦ ne_eqb y k (λ e. apart (sym e)) ∙ sym (ne_eqb T k (λ e. other (sym e ∙ eqb-true T n is)))
+              elim (nat_le new_anchor (key_of name)) as (λ c. (cond (true && c) y (had name) == k) ≡ (had name == k)) [
+                | true ↦ ne_eqb y k (λ e. apart (sym e)) ∙ sym (ne_eqb (had name) k (λ e. other (sym e ∙ eqb-true (had name) n is)))
                 | false ↦ refl
               ]
           | false ↦ λ not. refl
@@ -127,14 +133,12 @@ module _ (l : Layout) (f : Facts) (list : IsList l f) (n y : ℕ) (listed : IsLi
   range_left = λ i name. by name i where
     by : (name : List ℕ) → range_of l (with_next f n y) n name ≡ below_key (range_of l f n) (anchor_in (f.now y)) name
     by name =
-        let T : ℕ = target_from 0 f.list (key_of name) in
-        let a : ℕ = anchor_in (f.now y) in
         ap (λ t. t == n) (target_after name)
-        ∙ elim (T == n) as (λ b. (T == n) ≡ b → (cond (b && nat_le a (key_of name)) y T == n) ≡ (b && nat_lt (key_of name) a)) [
+        ∙ elim (had name == n) as (λ b. (had name == n) ≡ b → (cond (b && nat_le new_anchor (key_of name)) y (had name) == n) ≡ (b && nat_lt (key_of name) new_anchor)) [
           | true ↦ λ is.
-              elim (nat_le a (key_of name)) as (λ c. nat_le a (key_of name) ≡ c → (cond (true && c) y T == n) ≡ (true && nat_lt (key_of name) a)) [
-                | true ↦ λ reached. ne_eqb y n (λ e. differ (sym e)) ∙ sym (le-ltb (key_of name) a (leb-true a (key_of name) reached))
-                | false ↦ λ low. is ∙ sym (lt-ltb (key_of name) a (leb-false a (key_of name) low))
+              elim (nat_le new_anchor (key_of name)) as (λ c. nat_le new_anchor (key_of name) ≡ c → (cond (true && c) y (had name) == n) ≡ (true && nat_lt (key_of name) new_anchor)) [
+                | true ↦ λ reached. ne_eqb y n (λ e. differ (sym e)) ∙ sym (le-ltb (key_of name) new_anchor (leb-true new_anchor (key_of name) reached))
+                | false ↦ λ low. is ∙ sym (lt-ltb (key_of name) new_anchor (leb-false new_anchor (key_of name) low))
               ] refl
           | false ↦ λ not. not
         ] refl
@@ -144,16 +148,14 @@ module _ (l : Layout) (f : Facts) (list : IsList l f) (n y : ℕ) (listed : IsLi
   range_fresh = λ i name. by name i where
     by : (name : List ℕ) → range_of l (with_next f n y) y name ≡ from_key (range_of l f n) (anchor_in (f.now y)) name
     by name =
-        let T : ℕ = target_from 0 f.list (key_of name) in
-        let a : ℕ = anchor_in (f.now y) in
         ap (λ t. t == y) (target_after name)
-        ∙ elim (T == n) as (λ b. (T == n) ≡ b → (cond (b && nat_le a (key_of name)) y T == y) ≡ (b && nat_le a (key_of name))) [
+        ∙ elim (had name == n) as (λ b. (had name == n) ≡ b → (cond (b && nat_le new_anchor (key_of name)) y (had name) == y) ≡ (b && nat_le new_anchor (key_of name))) [
           | true ↦ λ is.
-              elim (nat_le a (key_of name)) as (λ c. (cond (true && c) y T == y) ≡ (true && c)) [
+              elim (nat_le new_anchor (key_of name)) as (λ c. (cond (true && c) y (had name) == y) ≡ (true && c)) [
                 | true ↦ eq-eqb y y refl
-                | false ↦ ne_eqb T y (λ e. differ (sym (eqb-true T n is) ∙ e))
+                | false ↦ ne_eqb (had name) y (λ e. differ (sym (eqb-true (had name) n is) ∙ e))
               ]
-          | false ↦ λ not. ne_eqb T y (λ e. out (subst (IsIn f.list) e (target_in 0 f.list (key_of name))))
+          | false ↦ λ not. ne_eqb (had name) y (λ e. out (subst (IsIn f.list) e (target_in 0 f.list (key_of name))))
         ] refl
 
   -- the nodes that are listed then
