@@ -1,5 +1,5 @@
 -- A word of the image that becomes durable keeps the row of a turn lawful.
-use Rattle.std.proofs.Common.{◌≡◌, ◌≢◌, ℕ, zero, suc, ◌+◌, ◌^◌, ◌<◌, ◌⊎◌, not, List, length, slice_index, None, inl, inr, sym, subst, ap, ap₂, ◌∙◌, arith}
+use Rattle.std.proofs.Common.{◌≡◌, ◌≢◌, ℕ, zero, suc, ◌+◌, ◌^◌, ◌<◌, ◌⊎◌, List, length, slice_index, None, inl, inr, sym, subst, ap, ap₂, ◌∙◌, arith}
 use Rattle.std.proofs.lemmas.Bool.{cases_eq, cases_lt}
 use Rattle.std.proofs.lemmas.List.{get_or-set_same, get_or-set_other}
 use Rattle.pm_words.specs.declared.layout.Layout.{Layout}
@@ -7,7 +7,6 @@ use Rattle.pm_words.specs.Locations.{Word, Location, Node, Cached, Durable, Vola
 use Rattle.pm_words.specs.Rows.{evicted}
 use Rattle.pm_words.proofs.Apart.{words_within}
 use Rattle.pm_words.specs.Offsets.{version_offset, anchor_offset}
-use Rattle.version_lock.specs.Versions.{is_free_word, is_worn_word}
 use Rattle.layer_map.specs.Layers.{Layer, AreSame}
 use Rattle.layer_map.specs.Keys.{key_of, key_number}
 use Rattle.search_layer.specs.Rows.{LayerWords, layer_words, layer_marks, AreEven, EvictsLayer}
@@ -28,6 +27,7 @@ use Rattle.updater_law.proofs.Crash.{layer_evicts}
 use Rattle.updater_row_law.specs.Columns.{RowTerms, Ghosts, line_count, line_word, line_field, lines_in, node_field, volatile_field, terms_of, facts_in}
 use Rattle.updater_row_law.specs.RowStages.{RowLine, RowTarget, aim_of, RowStage, Resting, Between, Reads, Lands, HasTarget, Changes, Stamps, Clears, Sweeps, Gone, HasStamp, IsUnworn, Frees, Counts, reading_stage, turn_stage}
 use Rattle.updater_row_law.specs.RowLaw.{LayerRests, HasLoaded, IsTargetFor, SureRow, RowLawful, EvictionKeepsTurn}
+use Rattle.updater_row_law.proofs.RowStores.{cached_path}
 use Rattle.updater_row_law.proofs.RowColumns.{column-here, column-alike, column-same, column_fits}
 use Rattle.updater_row_law.proofs.RowChanges.{mix_but}
 
@@ -123,29 +123,9 @@ module _ (r : RowTerms) (ghosts : Ghosts) (words : List ℕ) (word : ℕ) (whole
 
   evicted_facts : facts_in r ghosts after ≡ record f { safe_line = lines; safe_layer = kept l d' }
   evicted_facts =
-      let n0 = node_same l words word whole within 0 (omega arith) in
-      let l0 = line_same l words word whole within 0 (omega arith) in
-      let l1 = line_same l words word whole within 1 (omega arith) in
-      let l2 = line_same l words word whole within 2 (omega arith) in
-      let l3 = line_same l words word whole within 3 (omega arith) in
-      let l4 = line_same l words word whole within 4 (omega arith) in
-      let l5 = line_same l words word whole within 5 (omega arith) in
-      let v0 = volatile_same l words word whole within 0 (omega arith) in
-      let v2 = volatile_same l words word whole within 2 (omega arith) in
-      let same = evicts.cached in
-      λ i. record {
-        listed = ghosts.listed;
-        anchor = anchor_path i;
-        status = v0 i;
-        stamp = v2 i;
-        held = λ n. not (is_free_word (n0 i n) r.generation);
-        holder = ghosts.holder;
-        worn = λ n. is_worn_word (n0 i n) r.generation;
-        line = record { state = l0 i; kind = l1 i; node = l2 i; anchor = λ j. key_of (l3 i j) (l4 i j) (l5 i j) };
-        safe_line = lines;
-        layer = kept l (same i);
-        safe_layer = kept l d';
-      }
+      cached_path r ghosts words after f.status f.stamp f.line.state (node_same l words word whole within) (λ o some. line_same l words word whole within o)
+      (volatile_same l words word whole within 0 (omega arith)) (volatile_same l words word whole within 2 (omega arith)) (line_same l words word whole within 0 (omega arith))
+      ∙ (λ i. record f { safe_line = lines; layer = kept l (evicts.cached i); safe_layer = kept l d' })
 
   even_after : LayerRests r words → AreEven w d'
   even_after rests = mixes_are_even w d d' rests.even evicts.durable

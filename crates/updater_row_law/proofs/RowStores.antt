@@ -11,10 +11,10 @@ use Rattle.layer_map.specs.Keys.{key_of}
 use Rattle.search_layer.specs.Rows.{layer_words, KeepsOthers, HasSameLayer}
 use Rattle.search_layer.specs.Kept.{kept}
 use Rattle.search_layer.proofs.RowLemmas.{layer_words_stay}
-use Rattle.updater_law.specs.Covers.{set_at}
+use Rattle.updater_law.specs.Covers.{set_at, Lines}
 use Rattle.updater_law.specs.Facts.{TurnFacts}
 use Rattle.updater_law.specs.TurnSteps.{emptied}
-use Rattle.updater_row_law.specs.Columns.{RowTerms, Ghosts, line_count, line_word, line_field, node_field, volatile_field, facts_in}
+use Rattle.updater_row_law.specs.Columns.{RowTerms, Ghosts, line_count, line_word, line_field, lines_in, node_field, volatile_field, facts_in}
 use Rattle.updater_row_law.proofs.RowColumns.{column-same, column-set}
 
 -- the words of the row but for statuses, stamps, states of lines, and those of the layer
@@ -23,7 +23,43 @@ pub record SameRest (l : Layout) (words words' : List ℕ) : Type 0 where
   pub line : (o : ℕ) → 0 < o → o < 8 → line_field l words' Cached o ≡ line_field l words Cached o
   pub safe : (o : ℕ) → o < 8 → line_field l words' Durable o ≡ line_field l words Durable o
 
--- the facts, but for what these words say
+-- The facts, but for what these words say; of durable lines they say what they may.
+pub cached_path : (r : RowTerms) (ghosts : Ghosts) (words words' : List ℕ) (status stamp state : ℕ → ℕ) → ((o : ℕ) → o < 16 → node_field r.layout words' o ≡ node_field r.layout words o)
+    → ((o : ℕ) → 0 < o → o < 8 → line_field r.layout words' Cached o ≡ line_field r.layout words Cached o) → volatile_field r.layout words' status_offset ≡ status
+    → volatile_field r.layout words' stamp_offset ≡ stamp → line_field r.layout words' Cached state_offset ≡ state
+    → facts_in r ghosts words' ≡ record (facts_in r ghosts words) {
+      status = status;
+      stamp = stamp;
+      line = record ((facts_in r ghosts words).line) { state = state };
+      safe_line = lines_in r.layout words' Durable;
+      layer = kept r.layout (layer_words r.layout words' Cached);
+      safe_layer = kept r.layout (layer_words r.layout words' Durable);
+    }
+cached_path r ghosts words words' status stamp state nodes lines is_status is_stamp is_state =
+    let n0 = nodes version_offset (omega arith) in
+    let n3 = nodes anchor_offset (omega arith) in
+    let n4 = nodes (anchor_offset + 1) (omega arith) in
+    let n5 = nodes (anchor_offset + 2) (omega arith) in
+    let l1 = lines kind_offset (omega arith) (omega arith) in
+    let l2 = lines line_node_offset (omega arith) (omega arith) in
+    let l3 = lines anchor_offset (omega arith) (omega arith) in
+    let l4 = lines (anchor_offset + 1) (omega arith) (omega arith) in
+    let l5 = lines (anchor_offset + 2) (omega arith) (omega arith) in
+    λ i. record {
+      listed = ghosts.listed;
+      anchor = λ n. key_of (n3 i n) (n4 i n) (n5 i n);
+      status = is_status i;
+      stamp = is_stamp i;
+      held = λ n. not (is_free_word (n0 i n) r.generation);
+      holder = ghosts.holder;
+      worn = λ n. is_worn_word (n0 i n) r.generation;
+      line = record { state = is_state i; kind = l1 i; node = l2 i; anchor = λ j. key_of (l3 i j) (l4 i j) (l5 i j) };
+      safe_line = lines_in r.layout words' Durable;
+      layer = kept r.layout (layer_words r.layout words' Cached);
+      safe_layer = kept r.layout (layer_words r.layout words' Durable);
+    }
+
+-- where durable lines stay too
 pub facts_path : (r : RowTerms) (ghosts : Ghosts) (words words' : List ℕ) (status stamp state : ℕ → ℕ) → SameRest r.layout words words' → volatile_field r.layout words' status_offset ≡ status → volatile_field r.layout words' stamp_offset ≡ stamp
     → line_field r.layout words' Cached state_offset ≡ state
     → facts_in r ghosts words' ≡ record (facts_in r ghosts words) {
@@ -34,34 +70,22 @@ pub facts_path : (r : RowTerms) (ghosts : Ghosts) (words words' : List ℕ) (sta
       safe_layer = kept r.layout (layer_words r.layout words' Durable);
     }
 facts_path r ghosts words words' status stamp state rest is_status is_stamp is_state =
-    let n0 = rest.node version_offset (omega arith) in
-    let n3 = rest.node anchor_offset (omega arith) in
-    let n4 = rest.node (anchor_offset + 1) (omega arith) in
-    let n5 = rest.node (anchor_offset + 2) (omega arith) in
-    let l1 = rest.line kind_offset (omega arith) (omega arith) in
-    let l2 = rest.line line_node_offset (omega arith) (omega arith) in
-    let l3 = rest.line anchor_offset (omega arith) (omega arith) in
-    let l4 = rest.line (anchor_offset + 1) (omega arith) (omega arith) in
-    let l5 = rest.line (anchor_offset + 2) (omega arith) (omega arith) in
     let s0 = rest.safe state_offset (omega arith) in
     let s1 = rest.safe kind_offset (omega arith) in
     let s2 = rest.safe line_node_offset (omega arith) in
     let s3 = rest.safe anchor_offset (omega arith) in
     let s4 = rest.safe (anchor_offset + 1) (omega arith) in
     let s5 = rest.safe (anchor_offset + 2) (omega arith) in
-    λ i. record {
-      listed = ghosts.listed;
-      anchor = λ n. key_of (n3 i n) (n4 i n) (n5 i n);
-      status = is_status i;
-      stamp = is_stamp i;
-      held = λ n. not (is_free_word (n0 i n) r.generation);
-      holder = ghosts.holder;
-      worn = λ n. is_worn_word (n0 i n) r.generation;
-      line = record { state = is_state i; kind = l1 i; node = l2 i; anchor = λ j. key_of (l3 i j) (l4 i j) (l5 i j) };
-      safe_line = record { state = s0 i; kind = s1 i; node = s2 i; anchor = λ j. key_of (s3 i j) (s4 i j) (s5 i j) };
+    let safe : lines_in r.layout words' Durable ≡ lines_in r.layout words Durable = λ i. record { state = s0 i; kind = s1 i; node = s2 i; anchor = λ j. key_of (s3 i j) (s4 i j) (s5 i j) } in
+    cached_path r ghosts words words' status stamp state rest.node rest.line is_status is_stamp is_state
+    ∙ ap (λ (lines : Lines). record (facts_in r ghosts words) {
+      status = status;
+      stamp = stamp;
+      line = record ((facts_in r ghosts words).line) { state = state };
+      safe_line = lines;
       layer = kept r.layout (layer_words r.layout words' Cached);
       safe_layer = kept r.layout (layer_words r.layout words' Durable);
-    }
+    }) safe
 
 -- no word but the layer's is another
 module _ (l : Layout) (words words' : List ℕ) (same : KeepsOthers l words words') where
