@@ -5,7 +5,6 @@ use Rattle.std.specs.Prelude.{IfSome}
 use Rattle.std.proofs.lemmas.List.{set-get_or}
 use mathlib.Core.Option.{some}
 use lib.ListN.{get_elem?}
-use Rattle.pm_words.specs.declared.layout.Layout.{Layout}
 use Rattle.pm_words.specs.declared.action.Action.{Action}
 use Rattle.pm_words.specs.declared.action.Action.TheVariants.{Drain}
 use Rattle.pm_words.specs.Locations.{Location, Line, Updater, Volatile, Cached, Durable, HasLocation, address_of, at}
@@ -71,17 +70,10 @@ apart_anchors z is n m listed other same =
     (ap (λ (F : TurnFacts). F.anchor n) path ∙ same ∙ sym (ap (λ (F : TurnFacts). F.anchor m) path))
 
 module _ (z : Layered) (i : ℕ) (p : Party) (is : IsLayered z) (there : get_elem? z.whole.world.parties i ≡ some p) where
+  open z.whole.world use {layout as l, generation as g, words}
+
   abbrev w : World
   w = z.whole.world
-
-  abbrev l : Layout
-  l = z.whole.world.layout
-
-  abbrev g : ℕ
-  g = z.whole.world.generation
-
-  abbrev words : List ℕ
-  words = z.whole.world.words
 
   abbrev f : Facts
   f = facts z.whole.world

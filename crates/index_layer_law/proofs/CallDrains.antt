@@ -3,7 +3,7 @@ use Rattle.std.proofs.Common.{◌≡◌, ◌≢◌, ℕ, ◌+◌, ◌<◌, ◌^�
 use Rattle.std.proofs.Common.{subst, arith}
 use Rattle.std.proofs.lemmas.Bool.{cases_eq}
 use Rattle.pm_words.specs.declared.layout.Layout.{Layout}
-use Rattle.pm_words.specs.Locations.{Word, Location, Line, Cached, Durable, Volatile, HasLocation, address_of}
+use Rattle.pm_words.specs.Locations.{Word, Location, Line, Cached, Durable, Volatile, address_of}
 use Rattle.pm_words.specs.Rows.{IsRow}
 use Rattle.pm_words.proofs.Apart.{at-set_other}
 use Rattle.pm_words.specs.Offsets.{anchor_offset, state_offset, stamp_offset}
@@ -21,7 +21,7 @@ use Rattle.updater_row_law.specs.Columns.{line_field, line_count, line_word, lin
 use Rattle.updater_row_law.proofs.RowColumns.{column-alike, column-same, column-set, column_fits}
 use Rattle.index_layer_law.proofs.FactTies.{rest_in, known, lines_same}
 use Rattle.index_layer_law.proofs.CallMoves.{Moved, now_known}
-use Rattle.index_layer_law.proofs.CallNotes.{number, number_within, same_number, own_place}
+use Rattle.index_layer_law.proofs.CallNotes.{line_there, number, number_within, same_number, own_place}
 use Rattle.updater_row_law.specs.search_layer.specs.Rows.{HasSameLayer}
 use Rattle.updater_row_law.specs.search_layer.proofs.RowLemmas.{layer_words_stay}
 use Rattle.index_law.proofs.Places.{caller_at, number_at, offset_at}
@@ -31,9 +31,6 @@ module _ (l : Layout) (words : List ℕ) (row : IsRow l words) (e : HeldLine) (s
   abbrev p : Location
   p = Durable (Line e.caller e.number offset)
 
-  has : HasLocation l p
-  has = (sure.here.0, sure.here.1, small)
-
   abbrev pub drained : List ℕ
   drained = slice_set words (address_of l p) y
 
@@ -41,23 +38,23 @@ module _ (l : Layout) (words : List ℕ) (row : IsRow l words) (e : HeldLine) (s
   mine = number l words row e sure offset y small
 
   field_else : (o j : ℕ) → o < 8 → (j ≢ mine) ⊎ (o ≢ offset) → line_field l drained Durable o j ≡ line_field l words Durable o j
-  field_else o j within apart = column-alike l words drained (line_count l) (λ i. Durable (line_word o i)) j (λ there. at-set_other l words p (Durable (line_word o j)) y has (omega arith, omega arith, within)
+  field_else o j within apart = column-alike l words drained (line_count l) (λ i. Durable (line_word o i)) j (λ there. at-set_other l words p (Durable (line_word o j)) y (line_there l words row e sure offset y small) (omega arith, omega arith, within)
       (λ same. ⊎_elim (λ no. no (same_number l words row e sure offset y small j (ap caller_at same) (ap number_at same))) (λ no. no (ap offset_at same)) apart))
 
   field_here : line_field l drained Durable offset mine ≡ y
   field_here =
-      ap (λ (column : ℕ → ℕ). column mine) (column-set l words p y has (line_count l) (λ j. Durable (line_word offset j)) mine row.whole (number_within l words row e sure offset y small)
+      ap (λ (column : ℕ → ℕ). column mine) (column-set l words p y (line_there l words row e sure offset y small) (line_count l) (λ j. Durable (line_word offset j)) mine row.whole (number_within l words row e sure offset y small)
       (own_place l words row e sure offset y small (λ w. Durable w)) (λ j there. (omega arith, omega arith, small)) (λ j there same. same_number l words row e sure offset y small j (ap caller_at same) (ap number_at same)))
       ∙ here (line_field l words Durable offset) mine mine y refl
 
   line_same : (o : ℕ) → o < 8 → line_field l drained Cached o ≡ line_field l words Cached o
-  line_same o within = column-same l words drained (line_count l) (λ j. Cached (line_word o j)) (λ j there. at-set_other l words p (Cached (line_word o j)) y has (omega arith, omega arith, within) (λ same. cc))
+  line_same o within = column-same l words drained (line_count l) (λ j. Cached (line_word o j)) (λ j there. at-set_other l words p (Cached (line_word o j)) y (line_there l words row e sure offset y small) (omega arith, omega arith, within) (λ same. cc))
 
   stamp_same : volatile_field l drained stamp_offset ≡ volatile_field l words stamp_offset
-  stamp_same = column-same l words drained l.nodes (λ n. Volatile n stamp_offset) (λ n there. at-set_other l words p (Volatile n stamp_offset) y has (there, omega arith) (λ same. cc))
+  stamp_same = column-same l words drained l.nodes (λ n. Volatile n stamp_offset) (λ n there. at-set_other l words p (Volatile n stamp_offset) y (line_there l words row e sure offset y small) (there, omega arith) (λ same. cc))
 
   pub layer_stay : HasSameLayer l words drained
-  layer_stay = layer_words_stay l words p y has refl
+  layer_stay = layer_words_stay l words p y (line_there l words row e sure offset y small) refl
 
   pub drained_path : rest_in l drained ≡ record (rest_in l words) { safe_line = lines_in l drained Durable }
   drained_path =

@@ -3,7 +3,6 @@ use Rattle.std.proofs.Common.{◌≡◌, ◌≢◌, ℕ, ◌<◌, ◌⊎◌, inl
 use Rattle.std.specs.Prelude.{IfSome}
 use mathlib.Core.Option.{some, some-injective}
 use lib.ListN.{get_elem?}
-use Rattle.pm_words.specs.declared.layout.Layout.{Layout}
 use Rattle.pm_words.specs.declared.action.Action.{Action}
 use Rattle.pm_words.specs.Locations.{Updater, Cached, Durable, at}
 use Rattle.pm_words.specs.Rows.{acted, got}
@@ -58,20 +57,13 @@ module _ (z : Layered) (i : ℕ) (p : Party) (is : IsLayered z) (there : get_ele
     (at_line : get_elem? z.whole.lines i ≡ some line) (k : Step z.whole.world.layout z.whole.world.generation p.stage a x t r) (minds : Minds p.stage t line) (kept : KeepsOrLetsGo t line after)
     (told : x ≡ got z.whole.world.layout z.whole.world.words a)
     (whole : IsWhole (stepped_whole z.whole i p a (record { stage = t; line = after; debt = debt })) × AreTended (stepped_whole z.whole i p a (record { stage = t; line = after; debt = debt }))) where
+  open z.whole.world use {layout as l, generation as g, words}
+
   abbrev w : World
   w = z.whole.world
 
   abbrev w' : World
   w' = stepped z.whole.world i p a t
-
-  abbrev l : Layout
-  l = z.whole.world.layout
-
-  abbrev g : ℕ
-  g = z.whole.world.generation
-
-  abbrev words : List ℕ
-  words = z.whole.world.words
 
   abbrev words' : List ℕ
   words' = acted l words a

@@ -4,7 +4,7 @@ use Rattle.std.proofs.Common.{◌+◌}
 use Rattle.std.proofs.Common.{sym, ap, ◌∙◌, subst, arith}
 use Rattle.std.proofs.lemmas.Bool.{cases_eq}
 use Rattle.pm_words.specs.declared.layout.Layout.{Layout}
-use Rattle.pm_words.specs.Locations.{Word, Location, Line, Cached, Durable, Volatile, HasLocation, address_of}
+use Rattle.pm_words.specs.Locations.{Word, Location, Line, Cached, Durable, Volatile, HasWord, address_of}
 use Rattle.pm_words.specs.Rows.{IsRow}
 use Rattle.pm_words.proofs.Apart.{at-set_other}
 use Rattle.data_node.specs.Lists.{anchor_in}
@@ -48,34 +48,34 @@ module _ (l : Layout) (words : List ℕ) (row : IsRow l words) (e : HeldLine) (s
       let index : number % 8 ≡ e.number = let index = sure.here.1 in omega arith in
       λ k. twin (Line (caller k) (index k) offset)
 
+  pub line_there : HasWord l (Line e.caller e.number offset)
+  line_there = (sure.here.0, sure.here.1, small)
+
   -- in the cached row
   abbrev p : Location
   p = Cached (Line e.caller e.number offset)
-
-  has : HasLocation l p
-  has = (sure.here.0, sure.here.1, small)
 
   abbrev pub stored : List ℕ
   stored = slice_set words (address_of l p) y
 
   pub field_else : (o : ℕ) → o < 8 → o ≢ offset → line_field l stored Cached o ≡ line_field l words Cached o
-  field_else o within apart = column-same l words stored (line_count l) (λ j. Cached (line_word o j)) (λ j there. at-set_other l words p (Cached (line_word o j)) y has (omega arith, omega arith, within) (λ same. apart (ap offset_at same)))
+  field_else o within apart = column-same l words stored (line_count l) (λ j. Cached (line_word o j)) (λ j there. at-set_other l words p (Cached (line_word o j)) y line_there (omega arith, omega arith, within) (λ same. apart (ap offset_at same)))
 
   pub field_other : (o j : ℕ) → o < 8 → j ≢ number → line_field l stored Cached o j ≡ line_field l words Cached o j
-  field_other o j within apart = column-alike l words stored (line_count l) (λ i. Cached (line_word o i)) j (λ there. at-set_other l words p (Cached (line_word o j)) y has (omega arith, omega arith, within) (λ same. apart (same_number j (ap caller_at same) (ap number_at same))))
+  field_other o j within apart = column-alike l words stored (line_count l) (λ i. Cached (line_word o i)) j (λ there. at-set_other l words p (Cached (line_word o j)) y line_there (omega arith, omega arith, within) (λ same. apart (same_number j (ap caller_at same) (ap number_at same))))
 
   field_here : line_field l stored Cached offset ≡ set_at (line_field l words Cached offset) number y
-  field_here = column-set l words p y has (line_count l) (λ j. Cached (line_word offset j)) number row.whole number_within (own_place (λ w. Cached w)) (λ j there. (omega arith, omega arith, small))
+  field_here = column-set l words p y line_there (line_count l) (λ j. Cached (line_word offset j)) number row.whole number_within (own_place (λ w. Cached w)) (λ j there. (omega arith, omega arith, small))
       (λ j there same. same_number j (ap caller_at same) (ap number_at same))
 
   safe_same : (o : ℕ) → o < 8 → line_field l stored Durable o ≡ line_field l words Durable o
-  safe_same o within = column-same l words stored (line_count l) (λ j. Durable (line_word o j)) (λ j there. at-set_other l words p (Durable (line_word o j)) y has (omega arith, omega arith, within) (λ same. cc))
+  safe_same o within = column-same l words stored (line_count l) (λ j. Durable (line_word o j)) (λ j there. at-set_other l words p (Durable (line_word o j)) y line_there (omega arith, omega arith, within) (λ same. cc))
 
   stamp_same : volatile_field l stored stamp_offset ≡ volatile_field l words stamp_offset
-  stamp_same = column-same l words stored l.nodes (λ n. Volatile n stamp_offset) (λ n there. at-set_other l words p (Volatile n stamp_offset) y has (there, omega arith) (λ same. cc))
+  stamp_same = column-same l words stored l.nodes (λ n. Volatile n stamp_offset) (λ n there. at-set_other l words p (Volatile n stamp_offset) y line_there (there, omega arith) (λ same. cc))
 
   pub layer_same : HasSameLayer l words stored
-  layer_same = layer_words_stay l words p y has refl
+  layer_same = layer_words_stay l words p y line_there refl
 
   -- the rest, but for what the cached lines say
   rest_path : (lines : Lines) → lines_in l stored Cached ≡ lines → rest_in l stored ≡ record (rest_in l words) { line = lines }

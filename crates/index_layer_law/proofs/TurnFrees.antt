@@ -11,7 +11,7 @@ use Rattle.version_lock.specs.Versions.{IsFree}
 use Rattle.call_stages.specs.Stages.{Held, Sight, Stage, HoldsNode}
 use Rattle.index_law.specs.Facts.{Facts}
 use Rattle.index_law.specs.Worlds.{facts}
-use Rattle.index_law.specs.Lawful.{SureSaw, SureEyes, SureWears, Sure, IsList, AreLive, AreKnown, AreSettled, AreFreeOrHeld, AreSure, AreBacked, Lawful}
+use Rattle.index_law.specs.Lawful.{Stands, SureSaw, SureEyes, SureWears, Sure, IsList, AreLive, AreKnown, AreSettled, AreFreeOrHeld, AreSure, AreBacked, Lawful}
 use Rattle.index_law.specs.Twins.{BacksStage, AreDurable}
 use Rattle.index_law.specs.Whole.{Whole, IsWhole}
 use Rattle.index_law.proofs.Backing.{backs_steady}
@@ -24,7 +24,7 @@ use Rattle.index_law.proofs.Twins.{IsNearer, nearer, store_closer, closer_stage,
 use Rattle.index_law.proofs.Versions.{unfree}
 use Rattle.index_law.proofs.Whole.{traced_fewer, joint_same}
 use Rattle.index_law.specs.Lawful.{IsRead, SureReads}
-use Rattle.std.specs.Prelude.{Option}
+use Rattle.std.specs.Prelude.{IfSome, Option}
 use Rattle.pm_words.specs.Offsets.{status_offset}
 
 -- the facts with a node that is FREE instead of GONE
@@ -71,26 +71,13 @@ module _ (l : Layout) (g : ℕ) (f : Facts) (n : ℕ) (gone : f.status n ≡ gon
   wears_freed m v knows = record { here = knows.here; free = knows.free; worn = knows.worn; stands = knows.stands }
 
   read_freed : (since m : ℕ) (h : Held) → IsRead l f since m h → IsRead l freed since m h
-  read_freed since m h knows = record {
-    listed = knows.listed;
-    named = knows.named;
-    inside = knows.inside;
-    settled = record { means = knows.settled.means; stays = knows.settled.stays };
-    knows = knows.knows;
-    time = knows.time;
-    old = knows.old;
-  }
+  read_freed since m h knows = assumption knows
 
   reads_freed : (since m v : ℕ) (k : Sight) (h : Option Held) → SureReads l g f since m v k h → SureReads l g freed since m v k h
-  reads_freed since m v k h knows = record {
-    here = knows.here;
-    known = knows.known;
-    free = knows.free;
-    seen = knows.seen;
-    reader = knows.reader;
-    stands = λ is. let was = knows.stands is in record { listed = was.listed; sees = was.sees; leads = was.leads };
-    read = λ is. if_some (IsRead l f since m) (IsRead l freed since m) h (read_freed since m) (knows.read is);
-  }
+  reads_freed since m v k h knows =
+      let stands : f.version m ≡ v → Stands freed m k = λ is. assumption (knows.stands is) in
+      let read : f.version m ≡ v → IfSome h (IsRead l freed since m) = λ is. if_some (IsRead l f since m) (IsRead l freed since m) h (read_freed since m) (knows.read is) in
+      assumption (knows, stands, read)
 
   -- who holds a node holds another one
   steady_freed : (caller index since : ℕ) (u : Stage) → Sure l g f caller index since u → (m : ℕ) → HoldsNode u m → IsSteady l f freed m
@@ -114,14 +101,7 @@ offset_at _ = 0
 -- the index with it
 module _ (z : Whole) (n : ℕ) (here : n < z.world.layout.nodes) (gone : (facts z.world).status n ≡ gone_status) (free : IsFree ((facts z.world).version n) z.world.generation)
     (row : IsRow z.world.layout z.world.words) where
-  abbrev l : Layout
-  l = z.world.layout
-
-  abbrev g : ℕ
-  g = z.world.generation
-
-  abbrev words : List ℕ
-  words = z.world.words
+  open z.world use {layout as l, generation as g, words}
 
   abbrev f : Facts
   f = facts z.world

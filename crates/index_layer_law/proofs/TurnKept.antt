@@ -78,14 +78,7 @@ pub record Keeps (z : Whole) (holder : ℕ → ℕ) (after : List ℕ) : Type 0 
       → IsSwitched p.stage n → CoversNode z.world line n → CoversNode (record (z.world) { words = after }) line n
 
 module _ (z : Whole) (holder : ℕ → ℕ) (t : Turning) (whole : IsWhole z) (tended : AreTended z) where
-  abbrev l : Layout
-  l = z.world.layout
-
-  abbrev g : ℕ
-  g = z.world.generation
-
-  abbrev words : List ℕ
-  words = z.world.words
+  open z.world use {layout as l, generation as g, words}
 
   abbrev f : Facts
   f = facts z.world

@@ -88,11 +88,7 @@ word_in _ = Header 0
 
 -- the row once a line is emptied
 module _ (z : Whole) (c j : ℕ) (here : c < z.world.layout.callers) (small : j < 8) where
-  abbrev l : Layout
-  l = z.world.layout
-
-  abbrev words : List ℕ
-  words = z.world.words
+  open z.world use {layout as l, words}
 
   abbrev p : Location
   p = Cached (Line c j state_offset)

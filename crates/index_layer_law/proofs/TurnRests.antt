@@ -25,19 +25,7 @@ other_for w ghosts words t u s stamp sure own is = record {
   order = is.order;
   rooted = is.rooted;
   sure = sure;
-  law = record {
-    stamped_by = stamp;
-    durable = is.law.durable;
-    led = is.law.led;
-    covered = is.law.covered;
-    apart = is.law.apart;
-    live = is.law.live;
-    marked = is.law.marked;
-    owned = is.law.owned;
-    ready = is.law.ready;
-    merges = is.law.merges;
-    sure = own;
-  };
+  law = assumption (is.law, stamp, own);
 }
 
 -- what holds where a turn rests holds for any other that rests

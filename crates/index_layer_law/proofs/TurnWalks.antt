@@ -1,5 +1,5 @@
 -- What the walk of a turn relies on: each of its loads keeps that, and what it found is its key's target.
-use Rattle.std.proofs.Common.{◌≡◌, ℕ, ◌+◌, ◌≤◌, true, false, List, refl, sym, ap, ◌∙◌, subst, arith}
+use Rattle.std.proofs.Common.{◌≡◌, ℕ, ◌+◌, ◌≤◌, true, false, List, sym, ◌∙◌, subst, arith}
 use Rattle.pm_words.specs.declared.layout.Layout.{Layout}
 use Rattle.pm_words.specs.declared.action.Action.{Action}
 use Rattle.pm_words.specs.Rows.{got}
@@ -18,6 +18,7 @@ use Rattle.updater_row_law.specs.RowStages.{RowTarget}
 use Rattle.updater_row_law.specs.RowLaw.{IsTargetFor}
 use Rattle.index_law.specs.Facts.{Facts, facts_of}
 use Rattle.index_law.specs.Lawful.{IsList, AreLive, AreKnown, Stands}
+use Rattle.index_law.proofs.Reading.{stands_none, stands_live, stands_word, stands_next}
 use Rattle.index_law.proofs.Rows.{version_in-here, status_in-here, spot_in-here}
 use Rattle.index_law.specs.Worlds.{World, facts}
 use Rattle.index_layer_law.specs.Turnings.{is_listed, SureWatches, SureWatch, IsShown}
@@ -40,13 +41,9 @@ module _ (l : Layout) (g : ℕ) (words : List ℕ) (base : Map) (history : List 
         free = free;
         seen = omega (arith, is);
         leads = λ no. absurd (let none : false ≡ true = no in cc);
-        stands = λ same. record {
-          listed = λ no. absurd (let none : false ≡ true = no in cc);
-          sees = record { seen = tt; leads = λ ne. absurd (ne refl); beyond = λ ne. absurd (ne refl) };
-          leads = λ ne. absurd (ne refl);
-        };
+        stands = λ same. stands_none f n;
       }
-  watch_keeps before after a x known live (finds_live {n = n} here is) told knows =
+  watch_keeps before after a x known live (finds_live {n = n} {k = k} here is) told knows =
       let lit : f.status n ≡ live_status = status_in-here l words n here ∙ sym told ∙ is in
       record {
         here = knows.here;
@@ -54,46 +51,27 @@ module _ (l : Layout) (g : ℕ) (words : List ℕ) (base : Map) (history : List 
         free = knows.free;
         seen = knows.seen;
         leads = λ _. live.leads n here lit;
-        stands = λ same.
-            let was = knows.stands same in
-            record {
-              listed = λ _. live.listed n here lit (subst (λ v. IsFree v g) (sym same) knows.free);
-              sees = record { seen = was.sees.seen; leads = was.sees.leads; beyond = was.sees.beyond };
-              leads = was.leads;
-            };
+        stands = λ same. stands_live f n k (live.listed n here lit (subst (λ v. IsFree v g) (sym same) knows.free)) (knows.stands same);
       }
-  watch_keeps before after a x known live (watches {n = n} {offset = offset} has positive stays next learnt) told knows =
-      let is : f.now n offset ≡ x = spot_in-here l words n offset has positive ∙ sym told in
+  watch_keeps before after a x known live (watches {n = n} {offset = offset} {k = k} {k' = k'} has positive stays next learnt) told knows =
+      let is : x ≡ f.now n offset = told ∙ sym (spot_in-here l words n offset has positive) in
       record {
         here = knows.here;
         known = knows.known;
         free = knows.free;
         seen = knows.seen;
         leads = λ lit. knows.leads (sym stays ∙ lit);
-        stands = λ same.
-            let was = knows.stands same in
-            record {
-              listed = λ lit. was.listed (sym stays ∙ lit);
-              sees = learnt (f.now n) (f.now (f.now n next_offset)) was.sees is;
-              leads = λ ne. was.leads (λ z. ne (next ∙ z));
-            };
+        stands = λ same. stands_word f n offset x k k' stays next learnt is (knows.stands same);
       }
-  watch_keeps before after a x known live (watches_next {n = n} {m = m} {offset = offset} has low high ne lit lit' next leads learnt) told knows =
-      let is : f.now m offset ≡ x = spot_in-here l words m offset has (omega arith) ∙ sym told in
+  watch_keeps before after a x known live (watches_next {n = n} {m = m} {offset = offset} {k = k} {k' = k'} has low high ne lit lit' next leads learnt) told knows =
+      let is : x ≡ f.now m offset = told ∙ sym (spot_in-here l words m offset has (omega arith)) in
       record {
         here = knows.here;
         known = knows.known;
         free = knows.free;
         seen = knows.seen;
         leads = λ _. knows.leads lit;
-        stands = λ same.
-            let was = knows.stands same in
-            let to : f.now n next_offset ≡ m = leads (f.now n) (f.now (f.now n next_offset)) was.sees in
-            record {
-              listed = λ _. was.listed lit;
-              sees = learnt (f.now n) (f.now (f.now n next_offset)) was.sees (ap (λ k. f.now k offset) to ∙ is);
-              leads = λ _. was.listed lit;
-            };
+        stands = λ same. stands_next f n m offset x k k' lit leads learnt is (knows.stands same);
       }
   watch_keeps before after a x known live lets_go told knows = tt
 
@@ -105,14 +83,8 @@ watch_same l g before after (Watches n v k) version now list knows =
     let moved : SureWatches l g (record { version = after.version; status = before.status; now = after.now; list = after.list; base = before.base; history = before.history }) n v k =
     subst (λ φ. SureWatches l g φ n v k)
     (λ i. record { version = sym version i; status = before.status; now = sym now i; list = sym list i; base = before.base; history = before.history }) knows in
-    record {
-      here = moved.here;
-      known = moved.known;
-      free = moved.free;
-      seen = moved.seen;
-      leads = moved.leads;
-      stands = λ same. let was = moved.stands same in record { listed = was.listed; sees = was.sees; leads = was.leads };
-    }
+    let stands : after.version n ≡ v → Stands after n k = λ same. assumption (moved.stands same) in
+    assumption (moved, stands)
 
 -- so does what a target was seen to be
 pub shown_same : (l : Layout) (g : ℕ) (before after : Facts) (key : List ℕ) (target : RowTarget) → after.version ≡ before.version → after.now ≡ before.now → after.list ≡ before.list
