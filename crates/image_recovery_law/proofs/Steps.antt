@@ -27,7 +27,7 @@ use Rattle.image_recovery_law.specs.Stages.{with_bits, with_empty, with_layer, n
 use Rattle.image_recovery_law.specs.Stages.{aim_at, Stage, ChangesTo, Step, raises, raised, passes_node, trims}
 use Rattle.image_recovery_law.specs.Stages.{trimmed, all_trimmed, passes_unset, unsets, unsetting, unset, all_unset}
 use Rattle.image_recovery_law.specs.Stages.{passes_set, sets, setting, set, all_set, passes_empty, empties, emptied}
-use Rattle.image_recovery_law.specs.Stages.{all_empty, Nothing, Bits, State, IsStill, IsChanging, AreUntouched}
+use Rattle.image_recovery_law.specs.Stages.{all_empty, Nothing, Bits, State, IsEvenBut, IsStill, IsChanging, AreUntouched}
 use Rattle.image_recovery_law.specs.Stages.{AreListed, Sure}
 use Rattle.image_recovery_law.specs.Laws.{Starts, StepsKeep}
 use Rattle.image_recovery_law.proofs.Alike.{anchor_same, anchor_kept, trim_twice}
@@ -259,36 +259,28 @@ module _ (l : Layout) (list : List ListNode) (o : Columns) (sound : IsSound l li
         | inl among ↦ elim among [ inl e ↦ inr (subst (λ x. StaysIn l.slots (range_in list x) (now.spot x)) (sym e) stays) | inr later ↦ inl later ]
       ],
     )
-    step (trims n left bits trim stays) (still, untouched, generation, done) = (
-      record {
-        cached = record {
-          nodes = record {
-            generation = still.cached.nodes.generation;
-            spare = still.cached.nodes.spare;
-            version = still.cached.nodes.version;
-            words = λ m offset ne. bits_other now n bits m offset (λ e. ne) ∙ still.cached.nodes.words m offset ne;
-            bits = λ m is. elim (cases_eq m n) [
-              | inr ne ↦ subst (λ (x : Spot). IsTrim l.slots (range_in list m) (o.spot m) (x bitmap_offset)) (sym (bits_apart now n bits m ne)) (still.cached.nodes.bits m is)
-              | inl e ↦ subst (λ x. IsTrim l.slots (range_in list x) (o.spot x) ((with_bits now n bits).spot x bitmap_offset)) (sym e)
-                  (subst (IsTrim l.slots (range_in list n) (o.spot n)) (sym (bits_word now n bits))
-                  (trim_twice l.slots (range_in list n) (o.spot n) (now.spot n) bits (still.cached.nodes.words n) (still.cached.nodes.bits n (subst (IsIn list) e is)) trim))
-            ];
-            fields = still.cached.nodes.fields;
-          };
-          states = still.cached.states;
-          row = still.cached.row;
-          layer = still.cached.layer;
-        };
-        durable = still.durable;
-        even = record {
-          generation = λ ne. still.even.generation (λ e. cc);
-          spare = still.even.spare;
-          version = still.even.version;
-          spot = λ m k ne. still.even.spot m k (λ e. absurd cc) ∙ sym (bits_other now n bits m k (λ e. ne (ap Bits (sym e))));
-          line = λ m k ne. still.even.line m k (λ e. absurd cc);
-        };
-        layer = still.layer;
-      },
+    step (trims n left bits trim stays) (still, untouched, generation, done) =
+      let nodes : MendsNodes l list o (with_bits now n bits) = record {
+        generation = still.cached.nodes.generation;
+        spare = still.cached.nodes.spare;
+        version = still.cached.nodes.version;
+        words = λ m offset ne. bits_other now n bits m offset (λ e. ne) ∙ still.cached.nodes.words m offset ne;
+        bits = λ m is. elim (cases_eq m n) [
+          | inr ne ↦ subst (λ (x : Spot). IsTrim l.slots (range_in list m) (o.spot m) (x bitmap_offset)) (sym (bits_apart now n bits m ne)) (still.cached.nodes.bits m is)
+          | inl e ↦ subst (λ x. IsTrim l.slots (range_in list x) (o.spot x) ((with_bits now n bits).spot x bitmap_offset)) (sym e)
+              (subst (IsTrim l.slots (range_in list n) (o.spot n)) (sym (bits_word now n bits))
+              (trim_twice l.slots (range_in list n) (o.spot n) (now.spot n) bits (still.cached.nodes.words n) (still.cached.nodes.bits n (subst (IsIn list) e is)) trim))
+        ];
+        fields = still.cached.nodes.fields;
+      } in
+      let even : IsEvenBut (Bits n) (with_bits now n bits) safe = record {
+        generation = λ ne. still.even.generation (λ e. cc);
+        spare = still.even.spare;
+        version = still.even.version;
+        spot = λ m k ne. still.even.spot m k (λ e. absurd cc) ∙ sym (bits_other now n bits m k (λ e. ne (ap Bits (sym e))));
+        line = λ m k ne. still.even.line m k (λ e. absurd cc);
+      } in (
+      assumption (still, nodes, even),
       untouched,
       generation,
       λ m is. elim (cases_eq m n) [
