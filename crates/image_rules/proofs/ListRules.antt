@@ -16,7 +16,7 @@ use Rattle.image_rules.specs.Sound.{leads_out, AreKept}
 use Rattle.image_rules.specs.declared.listed.NodeRule.{NodeRule}
 use Rattle.image_rules.specs.declared.node_set.NodeSet.{NodeSet}
 use Rattle.image_rules.specs.NodeSets.{HasNode, AreListed}
-use Rattle.image_rules.proofs.WalkLemmas.{IsOfList, Walks, none_more, one_word, same_node}
+use Rattle.image_rules.proofs.WalkLemmas.{IsOfList, Walks, none_more, one_word, same_node, walk_inside, walk_on}
 
 -- each rule is broken at positions of the list alone
 pub out_listed : (l : Layout) (image : List ℕ) → IsOfList l image (LeadsOut l image)
@@ -172,7 +172,12 @@ pub record Ordered (l : Layout) (image : List ℕ) (position node : ℕ) : Type 
   pub walks : Walks l image (BreaksAnchors l image) position node
   pub kept : (w : Word) → ¬ BreaksAnchors l image position w
 
--- past the last node that the list can have, all are
+-- it goes on to the next node
+pub ordered_next : {l : Layout} {image : List ℕ} {position node : ℕ} (next : ℕ) → LeadWithin l image → Ordered l image position node → position ≤ l.nodes → next ≡ next_in l image node → next ≢ 0
+    → Walks l image (BreaksAnchors l image) (position + 1) next
+ordered_next next lead ordered within is leads = walk_on next ordered.walks within is leads (walk_inside next lead ordered.walks within is leads) ordered.kept
+
+-- past the last node that the list can have, all are in order
 pub ordered_all : {l : Layout} {image : List ℕ} {position node : ℕ} → Ordered l image position node → l.nodes ≤ position → IsFirst l (BreaksAnchors l image) None
 ordered_all {l} {image} {position} ordered more other w breaks =
     let there = anchor_listed l image other w breaks in

@@ -2,8 +2,8 @@ use Rattle.std.proofs.Common.{◌∙◌, sym, arith}
 use Rattle.std.proofs.lemmas.Bool.{false≢true}
 use Rattle.data_node.proofs.KeyLemmas.{anchor_zero, zero_anchor}
 use Rattle.image_rules.specs.Nodes.{image_spot}
-use Rattle.image_rules.proofs.WalkLemmas.{walk_begins, walk_on, walk_inside, walk_found, walk_ends}
-use Rattle.image_rules.proofs.ListRules.{anchors_listed, anchor_kept, anchor_found, first_anchor_kept, first_anchor_found, ordered_all}
+use Rattle.image_rules.proofs.WalkLemmas.{walk_begins, walk_inside, walk_found, walk_ends}
+use Rattle.image_rules.proofs.ListRules.{anchors_listed, anchor_kept, anchor_found, first_anchor_kept, first_anchor_found, ordered_all, ordered_next}
 use Rattle.image_rules.proofs.list.wrong_anchor.Goals as goal
 
 pub returns-then-not-is_zero : goal.returns-then-not-is_zero
@@ -39,8 +39,7 @@ pub returns-then-is_misplaced : goal.returns-then-is_misplaced
 returns-then-is_misplaced c =
     let walk = c.loop-position.invariant in
     let next = c.next_of-next.result in
-    let inside = walk_inside next c.requires walk.walks (omega arith) c.next_of-next.ensures c.if-next-eq0.false in
-    let behind = walk_on next walk.walks (omega arith) c.next_of-next.ensures c.if-next-eq0.false inside walk.kept in
+    let behind = ordered_next next c.requires walk (omega arith) c.next_of-next.ensures c.if-next-eq0.false in
     walk_found c.number_of-then-is_misplaced.result behind
     (anchor_found walk.walks (omega arith) next behind (omega arith) c.number_of-then-is_misplaced.result c.number_of-then-is_misplaced.ensures (c.is_misplaced.ensures.0 c.if-is_misplaced.true))
 
@@ -48,8 +47,7 @@ pub loop-position-preserved : goal.loop-position-preserved
 loop-position-preserved c =
     let walk = c.loop-position.invariant in
     let next = c.next_of-next.result in
-    let inside = walk_inside next c.requires walk.walks (omega arith) c.next_of-next.ensures c.if-next-eq0.false in
-    let behind = walk_on next walk.walks (omega arith) c.next_of-next.ensures c.if-next-eq0.false inside walk.kept in
+    let behind = ordered_next next c.requires walk (omega arith) c.next_of-next.ensures c.if-next-eq0.false in
     record { walks = behind; kept = anchor_kept walk.walks (omega arith) next behind (omega arith) (λ wrong. false≢true (sym c.if-is_misplaced.false ∙ c.is_misplaced.ensures.1 wrong)) }
 
 pub returns : goal.returns
