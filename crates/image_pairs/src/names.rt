@@ -1,9 +1,9 @@
 //! The names of one node.
 
-ghost use Rattle.std.specs.Prelude.{◌≡◌, ◌==◌, ◌<◌, if◌then◌else◌, Some, None, IfOk};
+ghost use Rattle.std.specs.Prelude.{◌≡◌, ◌==◌, ◌<◌, nat_lt, if◌then◌else◌, Some, None, IfOk};
 ghost use Rattle.std.specs.FinMap.{empty, entries};
 ghost use Rattle.cat_key.specs.Names.{bytes_of};
-ghost use Rattle.data_node.specs.Lists.{number_of, target_from};
+ghost use Rattle.data_node.specs.Lists.{anchor_in, number_of, target_from};
 ghost use Rattle.data_node.specs.Spots.{name_words};
 ghost use Rattle.data_node.specs.Weights.{has_name_in};
 ghost use Rattle.image_rules.specs.Nodes.{image_spot, image_list, image_range, next_in, IsListedNode};
@@ -17,6 +17,13 @@ use pm_words::Image;
 use std::alloc::Global;
 use std::collections::BTreeMap;
 
+/// Whether a key is below a node's anchor.
+fn is_under(image: &Image, node: u64, key: &[u64; WORDS]) -> bool
+    ensures { result ≡ nat_lt (number_of key.now) (anchor_in (image_spot image.now.layout image.now.words node)) }
+{
+    is_below(key, &anchor_of(image, node))
+}
+
 /// Whether a key is in the range of a listed node, which leads to `next`.
 fn has_in_range(image: &Image, node: u64, next: u64, key: &[u64; WORDS]) -> bool
     requires sound { IsSound image.now.layout image.now.words }
@@ -25,7 +32,7 @@ fn has_in_range(image: &Image, node: u64, next: u64, key: &[u64; WORDS]) -> bool
     requires next { next ≡ next_in image.now.layout image.now.words node }
     ensures { result ≡ (target_from 0 (image_list image.now.layout image.now.words) (number_of key.now) == node) }
 {
-    !is_below(key, &anchor_of(image, node)) && (next == 0 || is_below(key, &anchor_of(image, next)))
+    !is_under(image, node, key) && (next == 0 || is_under(image, next, key))
 }
 
 /// The name in a slot of a listed node that leads to `next`, if the slot is live and the name belongs to the node.
