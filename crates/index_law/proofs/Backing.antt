@@ -25,7 +25,7 @@ use Rattle.index_law.proofs.Bystanders.{IsLater, IsSteady, pended_alike}
 use Rattle.index_law.proofs.Locks.{cut_now, steadies, steady_else, goes_on, own_of, holds_or, look_holds, split_holds}
 use Rattle.index_law.proofs.Stays.{means_less}
 use Rattle.index_law.proofs.Maps.{means_alike}
-use Rattle.index_law.proofs.Moves.{fact_after, split_after, merge_after, MergeGave, Gives}
+use Rattle.index_law.proofs.Moves.{fact_after, split_after, merge_after, each_given, MergeGave, Gives}
 use Rattle.index_law.proofs.Own.{stored, clean_means}
 use Rattle.index_law.proofs.Rows.{with_version, with_word, with_next, with_past, with_writes, set_here, set_else}
 use Rattle.index_law.proofs.Versions.{unfree}
@@ -513,21 +513,10 @@ module _ {l : Layout} {g : ℕ} (f : Facts) (words : List ℕ) (caller index sin
 
   merge_given : {s : Stage} {a : Action} {x : ℕ} {t : Stage} → (k : Merge l g s a x t) → BacksStage l f words s
       → (m : ℕ) → HoldsNode s m → (HoldsNode t m → ⊥) → (offset : ℕ) → durable_spot l words m offset ≡ (merge_after k f).now m offset
-  merge_given (meets here same untimed leads) backed m held gone offset = absurd (gone (inl held))
-  merge_given (knows_own has positive learnt) backed m held gone offset = absurd (gone held)
-  merge_given (knows_right has positive told) backed m held gone offset = absurd (gone held)
-  merge_given (copies has content small soils learnt means) backed m held gone offset = absurd (gone held)
-  merge_given (takes_up has) backed m held gone offset = absurd (gone held)
-  merge_given (puts_down has small hand cleans) backed m held gone offset = absurd (gone held)
-  merge_given (parts next) backed m (inl held) gone offset = absurd (gone held)
-  merge_given (parts {right = right} next) backed m (inr held) gone offset = subst (λ (k : ℕ). durable_spot l words k offset ≡ f.now k offset) held (backed.1 offset)
-  merge_given (gathers small durable soiled told gathered) backed m held gone offset = absurd (gone held)
-  merge_given (joins small durable soiled next told) backed m held gone offset = absurd (gone held)
-  merge_given (glances_joined has learnt) backed m held gone offset = absurd (gone held)
-  merge_given (drains_joined has small hand cleans) backed m held gone offset = absurd (gone held)
-  merge_given (retires durable) backed m held gone offset = absurd (gone held)
-  merge_given (yields next durable) backed m (inl held) gone offset = absurd (gone held)
-  merge_given (yields {right = right} next durable) backed m (inr held) gone offset = subst (λ (k : ℕ). durable_spot l words k offset ≡ f.now k offset) held (backed.right_backed offset)
+  merge_given k backed m held gone offset = each_given f k m (λ s φ. BacksStage l f words s → durable_spot l words m offset ≡ φ.now m offset)
+      (λ n w freed h right next is backed. subst (λ (k : ℕ). durable_spot l words k offset ≡ f.now k offset) is (backed.1 offset))
+      (λ freed h left right next is backed. subst (λ (k : ℕ). durable_spot l words k offset ≡ f.now k offset) is (backed.right_backed offset))
+      held gone backed
 
   -- a node that is given back is durable
   given_durable : {s : Stage} {a : Action} {x : ℕ} {t : Stage} {r : Option (Once Placed)} → (k : Step l g s a x t r) → BacksStage l f words s

@@ -162,6 +162,10 @@ evict_footed z word is within =
 no_line_held : (e : HeldLine) → Some e ≡ None → ⊥
 no_line_held e is = cc
 
+-- where no node is GONE, none has to come before another
+pub none_in_order : (most : ℕ) (gone : ℕ → Type 0) (prev : ℕ → ℕ) → ((n : ℕ) → gone n → ⊥) → AreInOrder most gone prev
+none_in_order most gone prev none = record { order = []; all = λ n is. absurd (none n is); ordered = tt; within = tt; once = tt }
+
 -- an index of parties that have nothing, whose log lines need no party
 pub free_footed : (z : Whole) → AreFree z.world.parties z.lines z.debts → Lawful z.world → AreFit z.world.layout z.world.words
     → ((c j : ℕ) → c < z.world.layout.callers → j < 8 → NeedsNoParty (line_in z.world.layout z.world.words c j state_offset))
@@ -241,13 +245,7 @@ fresh_footed l parties lines debts layout free since =
     (λ c j mix is. inl (⊎_elim (λ durably. durably ∙ empty_safe l layout c j) (λ cached. cached ∙ empty_line l layout c j) (is 0)))
     (λ c j here low. inl (empty_line l layout c j))
     (λ n listed ne. absurd (ne (zero_next l layout n (listed_within l (facts w) lawful.list layout n listed))))
-    (record {
-      order = [];
-      all = λ n gone. absurd (none_gone n gone);
-      ordered = tt;
-      within = tt;
-      once = tt;
-    })
+    (none_in_order _ _ _ none_gone)
     (λ n. let zero = zero_prev l layout n in let here = first_here l layout in omega arith)
   where
     none_gone : (n : ℕ) → IsGone (facts (fresh_world l parties)) n → ⊥

@@ -28,7 +28,7 @@ use Rattle.index_law.proofs.Past.{range_past, listed_was, listed_else}
 use Rattle.data_node.proofs.ListLemmas.{all_member}
 use Rattle.index_law.proofs.Bystanders.{IsLater, IsSteady, IsCalm, keeps, settled_kept, steady-status, later-version, rises-version, steady-version, later-word, steady-word, later-write, steady-write}
 use Rattle.index_law.proofs.Loose.{loose_holds}
-use Rattle.index_law.proofs.Moves.{fact_after, split_after, merge_after, MergeGave, Gives}
+use Rattle.index_law.proofs.Moves.{fact_after, split_after, merge_after, each_given, MergeGave, Gives}
 use Rattle.index_law.proofs.Rows.{with_version, word_set, set_here, set_else, set_other}
 use Rattle.index_law.proofs.Versions.{own_lock, unfree, freed-free, freed-known}
 use Rattle.call_stages.specs.Kinds.{reads_on}
@@ -565,33 +565,22 @@ module _ {l : Layout} {g : ℕ} (f : Facts) (caller index since : ℕ) where
 
   merge_back : {s : Stage} {a : Action} {x : ℕ} {t : Stage} → (k : Merge l g s a x t) → IsList l f → Sure l g f caller index since s
       → (m : ℕ) → HoldsNode s m → (HoldsNode t m → ⊥) → IsGivenBack l g (merge_after k f) m
-  merge_back (meets here same untimed leads) list mine m held gone = absurd (gone (inl held))
-  merge_back (knows_own has positive learnt) list mine m held gone = absurd (gone held)
-  merge_back (knows_right has positive told) list mine m held gone = absurd (gone held)
-  merge_back (copies has content small soils learnt means) list mine m held gone = absurd (gone held)
-  merge_back (takes_up has) list mine m held gone = absurd (gone held)
-  merge_back (puts_down has small hand cleans) list mine m held gone = absurd (gone held)
-  merge_back (parts next) list mine m (inl held) gone = absurd (gone held)
-  merge_back (parts {n = n} {freed = freed} {right = right} next) list mine m (inr held) gone = record {
-    free = subst (λ (v : ℕ). IsFree v g) (sym (version_there f right.node freed m (sym held) ∙ next)) (freed-free right.lock g mine.1.grip.lock);
-    rest = inl (
-      subst (IsListed f) (mine.1.leads ∙ held) (leads_on l f list n (inside_listed l f list n _ mine.0.inside) (λ z. mine.1.nonzero (sym mine.1.leads ∙ z))),
-      subst (IsSettled l (with_version f right.node freed)) held (record { means = mine.1.settled.means; stays = mine.1.settled.stays }),
-    );
-  }
-  merge_back (gathers small durable soiled told gathered) list mine m held gone = absurd (gone held)
-  merge_back (joins small durable soiled next told) list mine m held gone = absurd (gone held)
-  merge_back (glances_joined has learnt) list mine m held gone = absurd (gone held)
-  merge_back (drains_joined has small hand cleans) list mine m held gone = absurd (gone held)
-  merge_back (retires durable) list mine m held gone = absurd (gone held)
-  merge_back (yields next durable) list mine m (inl held) gone = absurd (gone held)
-  merge_back (yields {freed = freed} {right = right} next durable) list mine m (inr held) gone = record {
-    free = subst (λ (v : ℕ). IsFree v g) (sym (version_there f right.node freed m (sym held) ∙ next)) (freed-free right.lock g mine.other.lock);
-    rest = inr (
-      λ is. mine.at.unlisted (subst (IsListed f) (sym held) is),
-      λ lit. absurd (let no : 2 ≡ 1 = sym mine.at.gone ∙ ap f.status held ∙ lit in omega arith),
-    );
-  }
+  merge_back k list mine m held gone = each_given f k m (λ s φ. Sure l g f caller index since s → IsGivenBack l g φ m)
+      (λ n w freed h right next held mine. record {
+        free = subst (λ (v : ℕ). IsFree v g) (sym (version_there f right.node freed m (sym held) ∙ next)) (freed-free right.lock g mine.1.grip.lock);
+        rest = inl (
+          subst (IsListed f) (mine.1.leads ∙ held) (leads_on l f list n (inside_listed l f list n _ mine.0.inside) (λ z. mine.1.nonzero (sym mine.1.leads ∙ z))),
+          subst (IsSettled l (with_version f right.node freed)) held (record { means = mine.1.settled.means; stays = mine.1.settled.stays }),
+        );
+      })
+      (λ freed h left right next held mine. record {
+        free = subst (λ (v : ℕ). IsFree v g) (sym (version_there f right.node freed m (sym held) ∙ next)) (freed-free right.lock g mine.other.lock);
+        rest = inr (
+          λ is. mine.at.unlisted (subst (IsListed f) (sym held) is),
+          λ lit. absurd (let no : 2 ≡ 1 = sym mine.at.gone ∙ ap f.status held ∙ lit in omega arith),
+        );
+      })
+      held gone mine
 
   pub given_back : {s : Stage} {a : Action} {x : ℕ} {t : Stage} {r : Option (Once Placed)} → (k : Step l g s a x t r) → IsList l f → Sure l g f caller index since s
       → (m : ℕ) → HoldsNode s m → (HoldsNode t m → ⊥) → IsGivenBack l g (fact_after k f caller index) m

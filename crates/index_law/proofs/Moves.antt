@@ -1,5 +1,5 @@
 -- What a step of each kind makes of the facts, and what the number that it is told says of them.
-use Rattle.std.proofs.Common.{◌≡◌, ◌≢◌, ℕ, ◌+◌, ◌<◌, inl, ⊎_elim, subst, Bool, true, false, cond, List, [], ◌∷◌, ◌++◌, length, slice_index, slice_set, refl, sym, ap, ◌∙◌, arith}
+use Rattle.std.proofs.Common.{◌≡◌, ◌≢◌, ℕ, ◌+◌, ◌<◌, inl, inr, ⊎_elim, subst, Bool, true, false, cond, List, [], ◌∷◌, ◌++◌, length, slice_index, slice_set, refl, sym, ap, ◌∙◌, arith}
 use Rattle.std.specs.Prelude.{◌==◌, Option, Some, None}
 use mathlib.Core.Option.{some}
 use lib.ListN.{get_elem?}
@@ -19,7 +19,7 @@ use Rattle.cat_history.specs.declared.op.Write.{Write}
 use Rattle.data_node.specs.Spots.{Spot}
 use Rattle.call_stages.specs.declared.once.Once.{Once}
 use Rattle.call_stages.specs.declared.once.Placed.{Placed}
-use Rattle.call_stages.specs.Stages.{Held, Grip, Sight, Stage, Saw, Holds, Joins, Gathered, Joined, Gone, Tells, IsLoose, counted}
+use Rattle.call_stages.specs.Stages.{Held, Grip, Sight, Stage, Saw, Holds, HoldsNode, Joins, Meets, Gathered, Joined, Gone, Tells, IsLoose, counted}
 use Rattle.call_stages.specs.Kinds.{Read, views, views_live, views_word, views_next, dates, notes, finds, confirms, wavers, reads_on}
 use Rattle.call_stages.specs.Kinds.{Look, turns_back, is_worn, wears, roams, roams_status, sees, misses, misses_read, times, learns, decides, glances, finds_live, watches, watches_next, turns_away, steps_back, wanders, Split, fills, lights, switches, glances_left, glances_fresh, drains_left, drains_fresh, trims, splits, Merge, meets, knows_own, knows_right, copies, takes_up, puts_down, parts, gathers, joins, glances_joined, drains_joined, retires, yields, merges, peeks, peeks_status, eyes, eyes_free, passes, loses, claims, publishes, leaves, Step, looks, locks, locks_read, stores, commits, drains, counts, unlocks, clock_address, word_address, version_address}
 use Rattle.index_law.specs.Facts.{Facts, facts_of, cached_word, spot_in, map_now, range_of}
@@ -150,6 +150,28 @@ module _ {l : Layout} {g : ℕ} where
   each_merged f (drains_joined has small hand cleans) P same join retire = same f refl refl
   each_merged f (retires {h = h} {left = left} {right = right} durable) P same join retire = retire h left right
   each_merged f (yields {freed = freed} {right = right} next durable) P same join retire = same (with_version f right.node freed) refl refl
+
+  -- what holds where a merge gives the right node back, before it has gathered names and at its end, holds of each node
+  -- that it gives back
+  pub each_given : (f : Facts) {s : Stage} {a : Action} {x : ℕ} {t : Stage} (k : Merge l g s a x t) (m : ℕ) (P : Stage → Facts → Type 0)
+      → ((n w freed : ℕ) (h : Held) (right : Grip) → freed ≡ right.lock + 1 → right.node ≡ m → P (Meets n w h right) (with_version f right.node freed))
+      → ((freed : ℕ) (h : Held) (left right : Grip) → freed ≡ right.lock + 1 → right.node ≡ m → P (Joins h left right Gone) (with_version f right.node freed))
+      → HoldsNode s m → (HoldsNode t m → ⊥) → P s (merge_after k f)
+  each_given f (meets here is untimed leads) m P part yield held gone = absurd (gone (inl held))
+  each_given f (knows_own has positive learnt) m P part yield held gone = absurd (gone held)
+  each_given f (knows_right has positive told) m P part yield held gone = absurd (gone held)
+  each_given f (copies has content small soils learnt means) m P part yield held gone = absurd (gone held)
+  each_given f (takes_up has) m P part yield held gone = absurd (gone held)
+  each_given f (puts_down has small hand cleans) m P part yield held gone = absurd (gone held)
+  each_given f (parts next) m P part yield (inl held) gone = absurd (gone held)
+  each_given f (parts {n = n} {w = w} {freed = freed} {h = h} {right = right} next) m P part yield (inr held) gone = part n w freed h right next held
+  each_given f (gathers small durable soiled told gathered) m P part yield held gone = absurd (gone held)
+  each_given f (joins small durable soiled next told) m P part yield held gone = absurd (gone held)
+  each_given f (glances_joined has learnt) m P part yield held gone = absurd (gone held)
+  each_given f (drains_joined has small hand cleans) m P part yield held gone = absurd (gone held)
+  each_given f (retires durable) m P part yield held gone = absurd (gone held)
+  each_given f (yields next durable) m P part yield (inl held) gone = absurd (gone held)
+  each_given f (yields {freed = freed} {h = h} {left = left} {right = right} next durable) m P part yield (inr held) gone = yield freed h left right next held
 
   -- the number that a step of a reader gives
   abbrev pub ReadGave : {s : Stage} {a : Action} {x : ℕ} {t : Stage} {r : Option (Once Placed)} → Read l g s a x t r → Facts → Type 0

@@ -533,11 +533,10 @@ prev_else l words m y n here other = prev_in-alike l words (slice_set words (pre
 -- A prev is stored that leads to a listed node.
 module _ (z : Traced) (i : ℕ) (p : Party) (d d' : Debt) (m y : ℕ) (traced : IsTraced z) (there : get_elem? z.world.parties i ≡ some p) (owing : get_elem? z.debts i ≡ some d)
     (here : m < z.world.layout.nodes) (listed : IsListed (facts z.world) y) where
+  open z.world use {layout as l}
+
   abbrev w : World
   w = z.world
-
-  abbrev l : Layout
-  l = z.world.layout
 
   abbrev f : Facts
   f = facts z.world

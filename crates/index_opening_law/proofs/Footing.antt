@@ -21,7 +21,7 @@ use Rattle.index_law.specs.Lines.{AreFit, line_in, safe_line}
 use Rattle.index_law.specs.Prevs.{prev_in}
 use Rattle.index_law.specs.Worlds.{Party}
 use Rattle.index_law.proofs.Starts.{rest_law}
-use Rattle.index_law.proofs.Footed.{free_footed}
+use Rattle.index_law.proofs.Footed.{free_footed, none_in_order}
 use Rattle.image_recovery_law.specs.updater_row_law.specs.Columns.{line_count, line_word}
 use Rattle.image_recovery_law.specs.Columns.{Columns}
 use Rattle.image_recovery_law.specs.Rows.{columns_in}
@@ -110,13 +110,7 @@ module _ (l : Layout) (list : List ListNode) (o : Columns) (words : List ℕ) (m
       let rest = opening_at_rest l list o words m is parties free.idle since in
       free_footed (record { world = w; lines = lines; debts = debts }) free (rest_law w rest) fits
       (λ c j here low. inl (line_zero c j)) follow
-      (record {
-        order = [];
-        all = λ n gone. absurd (not_gone n gone);
-        ordered = tt;
-        within = tt;
-        once = tt;
-      })
+      (none_in_order _ _ _ not_gone)
       below
     where
       not_gone : (n : ℕ) → status_in l words n ≡ gone_status → ⊥
