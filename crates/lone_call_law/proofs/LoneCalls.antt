@@ -473,11 +473,7 @@ split_mine l f caller index since h split (split_at.Refuse next why) is knows al
 
 module _ (w0 : World) (i : ℕ) (asked : NameOp) (limit : Option ℕ) (w : World) (p : Party) (machine : Running) (x : ℕ) (o : LoneCall w0 i asked limit w p machine) (rest : IsAtRest w0)
     (told : x ≡ got w.layout w.words (running_asks machine)) (room : length w.history < 2 ^ 63) where
-  abbrev l : Layout
-  l = w.layout
-
-  abbrev g : ℕ
-  g = w.generation
+  open w use {layout as l, generation as g}
 
   abbrev a : Action
   a = running_asks machine
@@ -932,20 +928,7 @@ lone_calls_begin w0 i (op.Del name) limit p index view rest can there is_view la
 -- to the law a part is a get of its low name
 as_part : {w0 w : World} {i : ℕ} {asked : NameOp} {limit : Option ℕ} {p : Party} (call : Call) (count : ℕ) → LoneCall w0 i asked limit w p (Getting (get.Looking (starts call)))
     → LoneCall w0 i asked limit w p (Parting (part.Looking (starts call) count))
-as_part call count o = record {
-  trying = o.trying;
-  walks = o.walks;
-  stage = o.stage;
-  sound = record { layout = o.sound.layout; generation = o.sound.generation; here = (o.sound.here.0, o.sound.here.1, tt) };
-  of = of_part _ o.of;
-  limited = o.limited;
-  limits = o.limits;
-  own = o.own;
-  stands = o.stands;
-  foresees = tt;
-  locks = o.locks;
-  timely = λ past. absurd past;
-}
+as_part call count o = assumption (o, of_part _ o.of)
   where
     of_part : (asked : NameOp) → IsOf asked (Getting (get.Looking (starts call))) → IsOf asked (Parting (part.Looking (starts call) count))
     of_part (op.Get name) is = is

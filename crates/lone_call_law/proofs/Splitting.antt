@@ -109,20 +109,9 @@ worn_or_fresh v g = elim (is_worn_word v g) as (λ b. is_worn_word v g ≡ b →
 ] refl
 
 module _ (split : Split) (sound : IsSplit split) (words0 words : List ℕ) (ready : IsReadyToSplit split.view.layout split.view.generation words0 split.node) (x : ℕ) where
-  abbrev layout : Layout
-  layout = split.view.layout
+  open split.view use {layout, generation as g, caller}
 
-  abbrev g : ℕ
-  g = split.view.generation
-
-  abbrev n : ℕ
-  n = split.node
-
-  abbrev w : ℕ
-  w = split.word
-
-  abbrev caller : ℕ
-  caller = split.view.caller
+  open split use {node as n, word as w}
 
   abbrev heard : Heard
   heard = heard_in layout words0 n w x

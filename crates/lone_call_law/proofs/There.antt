@@ -62,16 +62,7 @@ use Rattle.pm_words.specs.Offsets.{state_offset, status_offset}
 use Rattle.index_law.proofs.Places.{node_at, offset_at}
 
 pub rest_is_still : RestIsStill
-rest_is_still w rest =
-    let f = facts w in
-    record {
-      chain = rest.list.chain;
-      lowest = rest.list.lowest;
-      rise = rest.list.rise;
-      within = rest.list.within;
-      live = rest.live.live;
-      free = rest.free;
-    }
+rest_is_still w rest = assumption (rest, rest.list, rest.live)
 
 pub idle_is_quiet : IdleIsQuiet
 idle_is_quiet z traced idle =
@@ -140,11 +131,7 @@ locked_unmoved l words0 words n old new here same =
     })
 
 module _ (call : Call) (sound : IsCall call) (words0 words : List ℕ) where
-  abbrev l : Layout
-  l = call.view.layout
-
-  abbrev g : ℕ
-  g = call.view.generation
+  open call.view use {layout as l, generation as g}
 
   abbrev Stands : List ℕ → Turn Lookup Looked → Type 0
   Stands words' = LookedStands l g words0 words' call
