@@ -313,24 +313,11 @@ module _ {l : Layout} {g : ℕ} (f : Facts) (caller index since : ℕ) where
       let told = subst (λ (c : Option ℕ). IfSome c (IsTime (range_of l f n) f.base f.history since h.limit)) time knows.time in
       let means = clean_means n w h knows clean in
       let lacks = old_is n w h None None knows unplaced old_known in
-      let all_live = full (f.now n) means.tidy knows.knows in (
-        unplaced,
-        inl (
-          refl,
-          record {
-            inside = knows.inside;
-            lacks = lacks;
-            full = all_live;
-            means = means;
-            clock = clock;
-            later = told.later;
-            within = told.within;
-            lacked = told.same clock (omega arith) told.within h.name knows.inside ∙ lacks;
-            many = full_has_in l.slots (range_of l f n) (f.now n) (after f.base f.history clock)
-                (means_alike l.slots (range_of l f n) (f.now n) (map_now f) (after f.base f.history clock) (told.same clock (omega arith) told.within) means) knows.stays all_live;
-          },
-        ),
-      )
+      let all_live = full (f.now n) means.tidy knows.knows in
+      let lacked = told.same clock (omega arith) told.within h.name knows.inside ∙ lacks in
+      let many = full_has_in l.slots (range_of l f n) (f.now n) (after f.base f.history clock)
+          (means_alike l.slots (range_of l f n) (f.now n) (map_now f) (after f.base f.history clock) (told.same clock (omega arith) told.within) means) knows.stays all_live in
+      (unplaced, inl (refl, search (knows.inside, lacks, all_live, means, told, lacked, many)))
   answered n w freed h r clean (refuses unplaced is) knows = (unplaced, inr is)
 
   -- an answer is legal

@@ -229,6 +229,15 @@ module _ (l : Layout) (g : ℕ) (f f' : Nodes) (all : AreQuiet l g f) (after : A
     far : (x : ℕ) → position_from f'.list x + one_at (anchor_in (f.now right)) x ≡ position_from f.list x
     far x = ap (λ (m : List ListNode). position_from m x + one_at (anchor_in (f.now right)) x) joined.list ∙ position_joined f.now right 0 0 f.list x all.quiet.chain all.quiet.rise among
 
+    -- two keys with the right node's anchor between them come nearer
+    across : (low high : ℕ) → low < anchor_in (f.now right) → anchor_in (f.now right) ≤ high → one_at (anchor_in (f.now right)) low ≡ 0 → one_at (anchor_in (f.now right)) high ≡ 1
+        → apart f'.list low high ≤ apart f.list low high
+    across low high under over none one =
+        let at_low = far low in
+        let at_high = far high in
+        let rises = position_rises f'.list low high (omega (arith, under, over)) in
+        omega (arith, none, one)
+
     -- how far the keys of two nodes are apart once the right node is gone
     nearer : (own key : ℕ) → apart f'.list own key ≤ apart f.list own key
     nearer own key =
@@ -238,22 +247,10 @@ module _ (l : Layout) (g : ℕ) (f f' : Nodes) (all : AreQuiet l g f) (after : A
         ⊎_elim
         (λ (a : (its ≤ own) × (one_at its own ≡ 1)). ⊎_elim
         (λ (b : (its ≤ key) × (one_at its key ≡ 1)). let x = a.1 in let y = b.1 in omega arith)
-        (λ (b : (key < its) × (one_at its key ≡ 0)).
-        let low = a.0 in
-        let high = b.0 in
-        let rises = position_rises f'.list key own (omega arith) in
-        let x = a.1 in
-        let y = b.1 in
-        omega arith)
+        (λ (b : (key < its) × (one_at its key ≡ 0)). let nearer_both = across key own b.0 a.0 b.1 a.1 in omega arith)
         (one_or its key))
         (λ (a : (own < its) × (one_at its own ≡ 0)). ⊎_elim
-        (λ (b : (its ≤ key) × (one_at its key ≡ 1)).
-        let low = a.0 in
-        let high = b.0 in
-        let rises = position_rises f'.list own key (omega arith) in
-        let x = a.1 in
-        let y = b.1 in
-        omega arith)
+        (λ (b : (its ≤ key) × (one_at its key ≡ 1)). across own key a.0 b.0 a.1 b.1)
         (λ (b : (key < its) × (one_at its key ≡ 0)). let x = a.1 in let y = b.1 in omega arith)
         (one_or its key))
         (one_or its own)
