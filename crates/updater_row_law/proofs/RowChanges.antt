@@ -86,16 +86,9 @@ module _ (r : RowTerms) (words : List ℕ) (e : RowLine) (word : ℕ) (s t : Cha
       let w : LayerWords = layer_words l after Cached in
       let d : LayerWords = layer_words l after Durable in
       let backs = change_is_backed l (aim_of e word) is.before t w d (layer_marks l after) keeps.sure in
+      let holds = (root_step_keeps l (aim_of e word) words s a t row.whole step is.holds).0 in
       record {
-        changing = record {
-          before = is.before;
-          few = is.few;
-          rooted = is.rooted;
-          zero = is.zero;
-          holds = (root_step_keeps l (aim_of e word) words s a t row.whole step is.holds).0;
-          sure = keeps.sure;
-          layer = keeps.layer;
-        };
+        changing = search (is.few, is.rooted, is.zero, holds, keeps.sure, keeps.layer);
         rooted = layer_stays_rooted (aim_of e word) is.before t (layer_of l after) is.zero is.rooted keeps.layer;
         differs = differs (aim_of e word) s (layer_of l words) (layer_of l after) keeps.changes;
         durable = mix_but (aim_of e word) is.before t (layer_of l after) (kept l d) keeps.layer (backs.layer d (mix_of_durable w d));
