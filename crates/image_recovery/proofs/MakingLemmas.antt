@@ -74,39 +74,30 @@ module _ (l : Layout) (list : List ListNode) (o : Columns) (rest : List law.Move
       let last = generation.fits in
       let same : generation_at here ≡ o.generation = sure.sure.2 in (
         omega arith,
-        λ fits. record {
-          row = row;
-          clear = clear;
-          fits = fits;
-          sure = sure_stores (stores l (word_number l (Header generation_offset)) (generation_at here + 1)) Begins Raised (Trims (nodes_of list)) refl
-              (record { place = Header generation_offset; value = suc o.generation; move = of_generation; word = refl; stored = omega arith; plan = plan }) sure;
-        },
+        λ fits.
+            let begun = sure_stores (stores l (word_number l (Header generation_offset)) (generation_at here + 1)) Begins Raised (Trims (nodes_of list)) refl
+              (record { place = Header generation_offset; value = suc o.generation; move = of_generation; word = refl; stored = omega arith; plan = plan }) sure in
+            assumption (row, clear, begun),
       )
 
   starts_trim : (n bits : ℕ) (s : Stage) → law.Takes l list o s (law.Trim n bits) rest → RowSure l list o s words → Started (Trim n bits)
   starts_trim _ _ s (law.trims_now n bits {left} is trims plan) sure =
       let within = in_image l list o sound n is in (
         within,
-        λ fits. record {
-          row = row;
-          clear = clear;
-          fits = fits;
-          sure = sure_stores (stores l (word_number l (Node n bitmap_offset)) bits) (Trims (n ∷ left)) (Trimmed n left) (Trims left) refl
-              (record { place = Node n bitmap_offset; value = bits; move = of_bits n bits left within is trims; word = refl; stored = refl; plan = plan }) sure;
-        },
+        λ fits.
+            let begun = sure_stores (stores l (word_number l (Node n bitmap_offset)) bits) (Trims (n ∷ left)) (Trimmed n left) (Trims left) refl
+              (record { place = Node n bitmap_offset; value = bits; move = of_bits n bits left within is trims; word = refl; stored = refl; plan = plan }) sure in
+            assumption (row, clear, begun),
       )
 
   starts_empty : (j : ℕ) (s : Stage) → law.Takes l list o s (law.Empty j) rest → RowSure l list o s words → Started (Empty j)
   starts_empty _ s (law.empties_now j busy plan) sure =
       let within = used_line l list o sound j busy in (
         within,
-        λ fits. record {
-          row = row;
-          clear = clear;
-          fits = fits;
-          sure = sure_stores (stores l (word_number l (line_word state_offset j)) 0) (Empties j) (Emptied j) (Empties (suc j)) refl
-              (record { place = line_word state_offset j; value = 0; move = of_empty j within; word = refl; stored = refl; plan = plan }) sure;
-        },
+        λ fits.
+            let begun = sure_stores (stores l (word_number l (line_word state_offset j)) 0) (Empties j) (Emptied j) (Empties (suc j)) refl
+              (record { place = line_word state_offset j; value = 0; move = of_empty j within; word = refl; stored = refl; plan = plan }) sure in
+            assumption (row, clear, begun),
       )
 
   -- the anchor of a line that is read then
@@ -125,13 +116,10 @@ module _ (l : Layout) (list : List ListNode) (o : Columns) (rest : List law.Move
       let within = used_line l list o sound j busy in
       let aim = aims j 0 within known.sure.0.cached.nodes in (
         within,
-        λ fits. record {
-          row = row;
-          clear = clear;
-          fits = fits;
-          sure = sure_unsets (change_starts l (anchor_at here j) 0) j (layer_of l words) refl aim
-              (subst (λ (x : Aim). RowSure l list o (Unsetting j (layer_of l words) (start_stage l x)) words) (sym aim) (unset_begins l list o words j row sound known busy lacks)) plan;
-        },
+        λ fits.
+            let begun = sure_unsets (change_starts l (anchor_at here j) 0) j (layer_of l words) refl aim
+              (subst (λ (x : Aim). RowSure l list o (Unsetting j (layer_of l words) (start_stage l x)) words) (sym aim) (unset_begins l list o words j row sound known busy lacks)) plan in
+            assumption (row, clear, begun),
       )
 
   starts_set : (j n : ℕ) (s : Stage) → law.Takes l list o s (law.Set j n) rest → RowSure l list o s words → Started (Set j n)
@@ -141,13 +129,10 @@ module _ (l : Layout) (list : List ListNode) (o : Columns) (rest : List law.Move
       let one : n + 1 ≡ suc n = omega arith in
       let aim = aims j (n + 1) within known.sure.0.cached.nodes ∙ ap (aim_at o j) one in (
         (within, node),
-        λ fits. record {
-          row = row;
-          clear = clear;
-          fits = fits;
-          sure = sure_sets (change_starts l (anchor_at here j) (n + 1)) j n (layer_of l words) refl aim
-              (subst (λ (x : Aim). RowSure l list o (Setting j n (layer_of l words) (start_stage l x)) words) (sym aim) (set_begins l list o words j n row sound known busy is anchor)) plan;
-        },
+        λ fits.
+            let begun = sure_sets (change_starts l (anchor_at here j) (n + 1)) j n (layer_of l words) refl aim
+              (subst (λ (x : Aim). RowSure l list o (Setting j n (layer_of l words) (start_stage l x)) words) (sym aim) (set_begins l list o words j n row sound known busy is anchor)) plan in
+            assumption (row, clear, begun),
       )
 
   starts_move : IsGeneration (suc o.generation) → (next : Move) (s : Stage) → law.Takes l list o s (move_of next) rest → RowSure l list o s words → Started next
