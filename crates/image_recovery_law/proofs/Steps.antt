@@ -291,25 +291,21 @@ module _ (l : Layout) (list : List ListNode) (o : Columns) (sound : IsSound l li
         ]
       ],
     )
-    step (trimmed n left same) (still, untouched, generation, done) = (
-      record {
-        cached = still.cached;
-        durable = still.durable;
-        even = record {
-          generation = λ ne. still.even.generation (λ e. cc);
-          spare = still.even.spare;
-          version = still.even.version;
-          spot = λ m k ne. elim (cases_eq m n) [
-            | inr apart ↦ still.even.spot m k (λ e. absurd (let one : n ≡ m = cc in apart (sym one)))
-            | inl e ↦ elim (cases_eq k bitmap_offset) [
-              | inl f ↦ subst (λ x. safe.spot x k ≡ now.spot x k) (sym e) (subst (λ x. safe.spot n x ≡ now.spot n x) (sym f) same)
-              | inr apart ↦ still.even.spot m k (λ e. apart)
-            ]
-          ];
-          line = λ m k ne. still.even.line m k (λ e. absurd cc);
-        };
-        layer = still.layer;
-      },
+    step (trimmed n left same) (still, untouched, generation, done) =
+      let even : IsEvenBut Nothing now safe = record {
+        generation = λ ne. still.even.generation (λ e. cc);
+        spare = still.even.spare;
+        version = still.even.version;
+        spot = λ m k ne. elim (cases_eq m n) [
+          | inr apart ↦ still.even.spot m k (λ e. absurd (let one : n ≡ m = cc in apart (sym one)))
+          | inl e ↦ elim (cases_eq k bitmap_offset) [
+            | inl f ↦ subst (λ x. safe.spot x k ≡ now.spot x k) (sym e) (subst (λ x. safe.spot n x ≡ now.spot n x) (sym f) same)
+            | inr apart ↦ still.even.spot m k (λ e. apart)
+          ]
+        ];
+        line = λ m k ne. still.even.line m k (λ e. absurd cc);
+      } in (
+      assumption (still, even),
       untouched,
       generation,
       done,
@@ -480,25 +476,21 @@ module _ (l : Layout) (list : List ListNode) (o : Columns) (sound : IsSound l li
         exact_has : (found : Option ℕ) (key : ℕ) → ((node : ℕ) → (found ≡ Some node) ↔ (IsIn list node × (anchor_of o node ≡ key))) → ListHas (IsIn list) (anchor_of o) key found
         exact_has None key is = λ node has anchor. let no_way : None ≡ Some node = (is node).1 (has, anchor) in absurd cc
         exact_has (Some m) key is = (is m).0 refl
-    step (emptied j same) (still, generation, done, exact, empty) = (
-      record {
-        cached = still.cached;
-        durable = still.durable;
-        even = record {
-          generation = λ ne. still.even.generation (λ e. cc);
-          spare = still.even.spare;
-          version = still.even.version;
-          spot = λ m k ne. still.even.spot m k (λ e. absurd cc);
-          line = λ m k ne. elim (cases_eq m j) [
-            | inr apart ↦ still.even.line m k (λ e. absurd (let one : j ≡ m = cc in apart (sym one)))
-            | inl e ↦ elim (cases_eq k 0) [
-              | inl f ↦ subst (λ x. safe.line x k ≡ now.line x k) (sym e) (subst (λ x. safe.line j x ≡ now.line j x) (sym f) same)
-              | inr apart ↦ still.even.line m k (λ e. apart)
-            ]
-          ];
-        };
-        layer = still.layer;
-      },
+    step (emptied j same) (still, generation, done, exact, empty) =
+      let even : IsEvenBut Nothing now safe = record {
+        generation = λ ne. still.even.generation (λ e. cc);
+        spare = still.even.spare;
+        version = still.even.version;
+        spot = λ m k ne. still.even.spot m k (λ e. absurd cc);
+        line = λ m k ne. elim (cases_eq m j) [
+          | inr apart ↦ still.even.line m k (λ e. absurd (let one : j ≡ m = cc in apart (sym one)))
+          | inl e ↦ elim (cases_eq k 0) [
+            | inl f ↦ subst (λ x. safe.line x k ≡ now.line x k) (sym e) (subst (λ x. safe.line j x ≡ now.line j x) (sym f) same)
+            | inr apart ↦ still.even.line m k (λ e. apart)
+          ]
+        ];
+      } in (
+      assumption (still, even),
       generation,
       done,
       exact,
