@@ -185,16 +185,7 @@ retire_known (joins one none) q = absurd (let no = q.was in cc)
 -- what a merge has left of the nodes, where the list stays and its nodes stay the call's own
 still_left : (w0 w w' : World) (s s' : Stage) (b : HasLeftOut w0 w s) → (facts w').list ≡ (facts w).list → IsOwn s' b.left b.right
     → (has_retired s' ≡ true → ((facts w').status b.right ≡ gone_status) × (prev_in w'.layout w'.words b.right ≡ b.left)) → HasLeftOut w0 w' s'
-still_left w0 w w' s s' b same own gone = record {
-  left = b.left;
-  right = b.right;
-  listed = b.listed;
-  some = b.some;
-  leads = b.leads;
-  list = same ∙ b.list;
-  own = own;
-  gone = gone;
-}
+still_left w0 w w' s s' b same own gone = let list = same ∙ b.list in search (b.listed, b.some, b.leads, list, own, gone)
 
 -- ---- the steps
 
