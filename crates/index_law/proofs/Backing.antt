@@ -22,7 +22,7 @@ use Rattle.index_law.specs.Lawful.{IsList, Sure}
 use Rattle.call_stages.specs.Stages.{HoldsNode}
 use Rattle.index_law.specs.Twins.{IsMix, IsBacked, IsCleanBut, IsBackedLeft, IsBackedFresh, BacksSplit, IsBackedJoin, BacksStage, AreDurable}
 use Rattle.index_law.proofs.Bystanders.{IsLater, IsSteady, pended_alike}
-use Rattle.index_law.proofs.Locks.{cut_now, steadies, steady_else, goes_on, own_of, holds_or, look_holds, split_holds}
+use Rattle.index_law.proofs.Locks.{cut_now, each_freed, steadies, steady_else, goes_on, own_of, holds_or}
 use Rattle.index_law.proofs.Stays.{means_less}
 use Rattle.index_law.proofs.Maps.{means_alike}
 use Rattle.index_law.proofs.Moves.{fact_after, split_after, merge_after, each_given, MergeGave, Gives}
@@ -521,22 +521,13 @@ module _ {l : Layout} {g : ℕ} (f : Facts) (words : List ℕ) (caller index sin
   -- a node that is given back is durable
   given_durable : {s : Stage} {a : Action} {x : ℕ} {t : Stage} {r : Option (Once Placed)} → (k : Step l g s a x t r) → BacksStage l f words s
       → (m : ℕ) → HoldsNode s m → (HoldsNode t m → ⊥) → (offset : ℕ) → durable_spot l words m offset ≡ (fact_after k f caller index).now m offset
-  given_durable (looks look) backed m held gone offset = absurd (gone ((look_holds f caller index since look m).0 held))
-  given_durable (locks same named live between) backed m held gone offset = absurd held
-  given_durable (locks_read same named live between unworn taken small) backed m held gone offset = absurd held
-  given_durable (stores has content small clean soils learnt means) backed m held gone offset = absurd (gone held)
-  given_durable (commits has content small clean all_durable soiled old about learnt means) backed m held gone offset = absurd (gone held)
-  given_durable (drains has small unready hand cleans) backed m held gone offset = absurd (gone held)
-  given_durable (counts all_durable ready pending unplaced) backed m held gone offset = absurd (gone held)
-  given_durable (unlocks {n = n} {h = h} next pending all_durable unready answers) backed m held gone offset =
-      subst (λ (k : ℕ). durable_spot l words k offset ≡ f.now k offset) held (none_dirty (durable_spot l words n) (f.now n) h.dirty all_durable backed.clean offset)
-  given_durable (claims unplaced here same) backed m held gone offset = absurd (gone (inl held))
-  given_durable (publishes next left fresh) backed m (inl held) gone offset = absurd (gone held)
-  given_durable (publishes {fresh = fresh} next left fresh') backed m (inr held) gone offset =
-      subst (λ (k : ℕ). durable_spot l words k offset ≡ f.now k offset) held (backed.fresh_backed offset)
-  given_durable (leaves {left = left} next) backed m held gone offset = subst (λ (k : ℕ). durable_spot l words k offset ≡ f.now k offset) held (backed offset)
-  given_durable (merges k) backed m held gone offset = merge_given k backed m held gone offset
-  given_durable (splits k) backed m held gone offset = absurd (gone ((split_holds f caller index since k m).0 held))
+  given_durable k backed m held gone offset = each_freed f caller index since k m (λ s φ. BacksStage l f words s → durable_spot l words m offset ≡ φ.now m offset)
+      (λ n w freed h next pending all_durable is backed.
+      subst (λ (k : ℕ). durable_spot l words k offset ≡ f.now k offset) is (none_dirty (durable_spot l words n) (f.now n) h.dirty all_durable backed.clean offset))
+      (λ freed left fresh next is backed. subst (λ (k : ℕ). durable_spot l words k offset ≡ f.now k offset) is (backed.fresh_backed offset))
+      (λ freed left next is backed. subst (λ (k : ℕ). durable_spot l words k offset ≡ f.now k offset) is (backed offset))
+      (λ k backed. merge_given k backed m held gone offset)
+      held gone backed
 
   -- the free nodes
   pub free_backs : {s : Stage} {a : Action} {x : ℕ} {t : Stage} {r : Option (Once Placed)} → (k : Step l g s a x t r) → IsList l f → Sure l g f caller index since s

@@ -1,5 +1,5 @@
 -- What a step makes of the locks, of the free nodes and of the other parties.
-use Rattle.std.proofs.Common.{◌≡◌, ◌≢◌, ℕ, ◌<◌, ◌≤◌, ◌⊎◌, inl, inr, ⊎_elim, Bool, true, cond, List, [], refl, sym, ap, ◌∙◌, subst, arith}
+use Rattle.std.proofs.Common.{◌≡◌, ◌≢◌, ℕ, ◌+◌, ◌<◌, ◌≤◌, ◌⊎◌, inl, inr, ⊎_elim, Bool, true, cond, List, [], None, refl, sym, ap, ◌∙◌, subst, arith}
 use Rattle.std.specs.Prelude.{◌↔◌, Option, Some, IfSome}
 use Rattle.std.proofs.lemmas.Bool.{eq-eqb, ne_eqb, cases_eq}
 use Rattle.pm_words.specs.Codes.{live_status, gone_status}
@@ -16,7 +16,7 @@ use Rattle.call_stages.specs.declared.once.Placed.{Placed}
 use Rattle.cat_history.specs.Maps.{Map}
 use Rattle.data_node.specs.Lists.{StaysIn}
 use Rattle.data_node.proofs.SpotLemmas.{updated-same}
-use Rattle.call_stages.specs.Stages.{Held, Grip, Tells, Filling, Stage, Idle, Saw, Wears, Reads, Holds, Eyes, Splits, Leaves, Meets, Joins, pended}
+use Rattle.call_stages.specs.Stages.{Held, Grip, Tells, Filling, Stage, Idle, Saw, Wears, Reads, Holds, Eyes, Splits, Parted, Leaves, Meets, Joins, pended}
 use Rattle.call_stages.specs.Kinds.{IsContent, IsCut, finds_live, watches, watches_next, turns_away, steps_back, wanders, Look, Split, fills, lights, switches, glances_left, glances_fresh, drains_left, drains_fresh, trims, splits, Merge, meets, knows_own, knows_right, copies, takes_up, puts_down, parts, gathers, joins, glances_joined, drains_joined, retires, yields, merges, peeks, peeks_status, eyes, eyes_free, passes, loses, claims, publishes, leaves}
 use Rattle.call_stages.specs.Kinds.{turns_back, is_worn, wears, roams, roams_status, sees, misses, misses_read, times, learns, decides, glances, Step, looks, locks, locks_read, stores, commits, drains, counts, unlocks}
 use Rattle.index_law.specs.Facts.{Facts, map_now, range_of, IsListed}
@@ -582,35 +582,48 @@ module _ {l : Layout} {g : ℕ} (f : Facts) (caller index since : ℕ) where
       })
       held gone mine
 
+  -- what holds at each store that gives a node back holds of each node that a step gives back
+  pub each_freed : {s : Stage} {a : Action} {x : ℕ} {t : Stage} {r : Option (Once Placed)} → (k : Step l g s a x t r) → (m : ℕ) → (P : Stage → Facts → Type 0)
+      → ((n w freed : ℕ) (h : Held) → freed ≡ w + 1 → h.pending ≡ None → h.dirty ≡ [] → n ≡ m → P (Holds n w h) (with_version f n freed))
+      → ((freed : ℕ) (left fresh : Grip) → freed ≡ fresh.lock + 1 → fresh.node ≡ m → P (Splits left fresh Parted) (with_version f fresh.node freed))
+      → ((freed : ℕ) (left : Grip) → freed ≡ left.lock + 1 → left.node ≡ m → P (Leaves left) (with_version f left.node freed))
+      → ((k : Merge l g s a x t) → P s (merge_after k f)) → HoldsNode s m → (HoldsNode t m → ⊥) → P s (fact_after k f caller index)
+  each_freed (looks look) m P unlock publish leave merge held gone = absurd (gone ((look_holds look m).0 held))
+  each_freed (locks same named live between) m P unlock publish leave merge held gone = absurd held
+  each_freed (locks_read same named live between unworn taken small) m P unlock publish leave merge held gone = absurd held
+  each_freed (stores has content small clean soils learnt means) m P unlock publish leave merge held gone = absurd (gone held)
+  each_freed (commits has content small clean durable soiled old about learnt means) m P unlock publish leave merge held gone = absurd (gone held)
+  each_freed (drains has small unready hand cleans) m P unlock publish leave merge held gone = absurd (gone held)
+  each_freed (counts durable ready pending unplaced) m P unlock publish leave merge held gone = absurd (gone held)
+  each_freed (unlocks {n = n} {w = w} {f = freed} {h = h} next pending durable unready answers) m P unlock publish leave merge held gone = unlock n w freed h next pending durable held
+  each_freed (claims unplaced here same) m P unlock publish leave merge held gone = absurd (gone (inl held))
+  each_freed (publishes next left_durable durable) m P unlock publish leave merge (inl held) gone = absurd (gone held)
+  each_freed (publishes {freed = freed} {left = left} {fresh = fresh} next left_durable durable) m P unlock publish leave merge (inr held) gone = publish freed left fresh next held
+  each_freed (leaves {freed = freed} {left = left} next) m P unlock publish leave merge held gone = leave freed left next held
+  each_freed (splits k) m P unlock publish leave merge held gone = absurd (gone ((split_holds k m).0 held))
+  each_freed (merges k) m P unlock publish leave merge held gone = merge k
+
   pub given_back : {s : Stage} {a : Action} {x : ℕ} {t : Stage} {r : Option (Once Placed)} → (k : Step l g s a x t r) → IsList l f → Sure l g f caller index since s
       → (m : ℕ) → HoldsNode s m → (HoldsNode t m → ⊥) → IsGivenBack l g (fact_after k f caller index) m
-  given_back (looks look) list mine m held gone = absurd (gone ((look_holds look m).0 held))
-  given_back (locks same named live between) list mine m held gone = absurd held
-  given_back (locks_read same named live between unworn taken small) list mine m held gone = absurd held
-  given_back (stores has content small clean soils learnt means) list mine m held gone = absurd (gone held)
-  given_back (commits has content small clean durable soiled old about learnt means) list mine m held gone = absurd (gone held)
-  given_back (drains has small unready hand cleans) list mine m held gone = absurd (gone held)
-  given_back (counts durable ready pending unplaced) list mine m held gone = absurd (gone held)
-  given_back (unlocks {n = n} {w = w} {f = freed} {h = h} next pending durable unready answers) list mine m held gone = record {
-    free = subst (λ (v : ℕ). IsFree v g) (sym (version_there f n freed m (sym held) ∙ next)) (freed-free w g mine.lock);
-    rest = inl (
-      subst (IsListed f) held (inside_listed l f list n h.name mine.inside),
-      subst (IsSettled l (with_version f n freed)) held
-          (record { means = subst (λ (p : Option Change). Means l.slots (range_of l f n) (f.now n) (pended p (map_now f))) pending mine.means; stays = mine.stays }),
-    );
-  }
-  given_back (claims unplaced here same) list mine m held gone = absurd (gone (inl held))
-  given_back (publishes {freed = freed} {fresh = fresh} next left fresh') list mine m (inl held) gone = absurd (gone held)
-  given_back (publishes {freed = freed} {fresh = fresh} next left fresh') list mine m (inr held) gone = record {
-    free = subst (λ (v : ℕ). IsFree v g) (sym (version_there f fresh.node freed m (sym held) ∙ next)) (freed-free fresh.lock g mine.new.lock);
-    rest = inl (subst (IsListed f) held mine.at.listed_fresh, subst (IsSettled l (with_version f fresh.node freed)) held (record { means = mine.at.settled.means; stays = mine.at.settled.stays }));
-  }
-  given_back (leaves {freed = freed} {left = left} next) list mine m held gone = record {
-    free = subst (λ (v : ℕ). IsFree v g) (sym (version_there f left.node freed m (sym held) ∙ next)) (freed-free left.lock g mine.grip.lock);
-    rest = inl (subst (IsListed f) held mine.listed, subst (IsSettled l (with_version f left.node freed)) held (record { means = mine.settled.means; stays = mine.settled.stays }));
-  }
-  given_back (splits k) list mine m held gone = absurd (gone ((split_holds k m).0 held))
-  given_back (merges k) list mine m held gone = merge_back k list mine m held gone
+  given_back k list mine m held gone = each_freed k m (λ s φ. Sure l g f caller index since s → IsGivenBack l g φ m)
+      (λ n w freed h next pending durable is mine. record {
+        free = subst (λ (v : ℕ). IsFree v g) (sym (version_there f n freed m (sym is) ∙ next)) (freed-free w g mine.lock);
+        rest = inl (
+          subst (IsListed f) is (inside_listed l f list n h.name mine.inside),
+          subst (IsSettled l (with_version f n freed)) is
+              (record { means = subst (λ (p : Option Change). Means l.slots (range_of l f n) (f.now n) (pended p (map_now f))) pending mine.means; stays = mine.stays }),
+        );
+      })
+      (λ freed left fresh next is mine. record {
+        free = subst (λ (v : ℕ). IsFree v g) (sym (version_there f fresh.node freed m (sym is) ∙ next)) (freed-free fresh.lock g mine.new.lock);
+        rest = inl (subst (IsListed f) is mine.at.listed_fresh, subst (IsSettled l (with_version f fresh.node freed)) is (record { means = mine.at.settled.means; stays = mine.at.settled.stays }));
+      })
+      (λ freed left next is mine. record {
+        free = subst (λ (v : ℕ). IsFree v g) (sym (version_there f left.node freed m (sym is) ∙ next)) (freed-free left.lock g mine.grip.lock);
+        rest = inl (subst (IsListed f) is mine.listed, subst (IsSettled l (with_version f left.node freed)) is (record { means = mine.settled.means; stays = mine.settled.stays }));
+      })
+      (λ k mine. merge_back k list mine m held gone)
+      held gone mine
 
   -- each listed free node means the map on its range
   pub settles : {s : Stage} {a : Action} {x : ℕ} {t : Stage} {r : Option (Once Placed)} → (k : Step l g s a x t r) → IsList l f → Sure l g f caller index since s
