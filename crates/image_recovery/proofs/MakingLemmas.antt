@@ -76,7 +76,7 @@ module _ (l : Layout) (list : List ListNode) (o : Columns) (rest : List law.Move
         omega arith,
         λ fits.
             let begun = sure_stores (stores l (word_number l (Header generation_offset)) (generation_at here + 1)) Begins Raised (Trims (nodes_of list)) refl
-              (record { place = Header generation_offset; value = suc o.generation; move = of_generation; word = refl; stored = omega arith; plan = plan }) sure in
+            (record { place = Header generation_offset; value = suc o.generation; move = of_generation; word = refl; stored = omega arith; plan = plan }) sure in
             assumption (row, clear, begun),
       )
 
@@ -86,7 +86,7 @@ module _ (l : Layout) (list : List ListNode) (o : Columns) (rest : List law.Move
         within,
         λ fits.
             let begun = sure_stores (stores l (word_number l (Node n bitmap_offset)) bits) (Trims (n ∷ left)) (Trimmed n left) (Trims left) refl
-              (record { place = Node n bitmap_offset; value = bits; move = of_bits n bits left within is trims; word = refl; stored = refl; plan = plan }) sure in
+            (record { place = Node n bitmap_offset; value = bits; move = of_bits n bits left within is trims; word = refl; stored = refl; plan = plan }) sure in
             assumption (row, clear, begun),
       )
 
@@ -96,7 +96,7 @@ module _ (l : Layout) (list : List ListNode) (o : Columns) (rest : List law.Move
         within,
         λ fits.
             let begun = sure_stores (stores l (word_number l (line_word state_offset j)) 0) (Empties j) (Emptied j) (Empties (suc j)) refl
-              (record { place = line_word state_offset j; value = 0; move = of_empty j within; word = refl; stored = refl; plan = plan }) sure in
+            (record { place = line_word state_offset j; value = 0; move = of_empty j within; word = refl; stored = refl; plan = plan }) sure in
             assumption (row, clear, begun),
       )
 
@@ -118,7 +118,7 @@ module _ (l : Layout) (list : List ListNode) (o : Columns) (rest : List law.Move
         within,
         λ fits.
             let begun = sure_unsets (change_starts l (anchor_at here j) 0) j (layer_of l words) refl aim
-              (subst (λ (x : Aim). RowSure l list o (Unsetting j (layer_of l words) (start_stage l x)) words) (sym aim) (unset_begins l list o words j row sound known busy lacks)) plan in
+            (subst (λ (x : Aim). RowSure l list o (Unsetting j (layer_of l words) (start_stage l x)) words) (sym aim) (unset_begins l list o words j row sound known busy lacks)) plan in
             assumption (row, clear, begun),
       )
 
@@ -131,7 +131,7 @@ module _ (l : Layout) (list : List ListNode) (o : Columns) (rest : List law.Move
         (within, node),
         λ fits.
             let begun = sure_sets (change_starts l (anchor_at here j) (n + 1)) j n (layer_of l words) refl aim
-              (subst (λ (x : Aim). RowSure l list o (Setting j n (layer_of l words) (start_stage l x)) words) (sym aim) (set_begins l list o words j n row sound known busy is anchor)) plan in
+            (subst (λ (x : Aim). RowSure l list o (Setting j n (layer_of l words) (start_stage l x)) words) (sym aim) (set_begins l list o words j n row sound known busy is anchor)) plan in
             assumption (row, clear, begun),
       )
 

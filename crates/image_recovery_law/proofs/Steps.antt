@@ -260,56 +260,56 @@ module _ (l : Layout) (list : List ListNode) (o : Columns) (sound : IsSound l li
       ],
     )
     step (trims n left bits trim stays) (still, untouched, generation, done) =
-      let nodes : MendsNodes l list o (with_bits now n bits) = record {
-        generation = still.cached.nodes.generation;
-        spare = still.cached.nodes.spare;
-        version = still.cached.nodes.version;
-        words = λ m offset ne. bits_other now n bits m offset (λ e. ne) ∙ still.cached.nodes.words m offset ne;
-        bits = λ m is. elim (cases_eq m n) [
-          | inr ne ↦ subst (λ (x : Spot). IsTrim l.slots (range_in list m) (o.spot m) (x bitmap_offset)) (sym (bits_apart now n bits m ne)) (still.cached.nodes.bits m is)
-          | inl e ↦ subst (λ x. IsTrim l.slots (range_in list x) (o.spot x) ((with_bits now n bits).spot x bitmap_offset)) (sym e)
-              (subst (IsTrim l.slots (range_in list n) (o.spot n)) (sym (bits_word now n bits))
-              (trim_twice l.slots (range_in list n) (o.spot n) (now.spot n) bits (still.cached.nodes.words n) (still.cached.nodes.bits n (subst (IsIn list) e is)) trim))
-        ];
-        fields = still.cached.nodes.fields;
-      } in
-      let even : IsEvenBut (Bits n) (with_bits now n bits) safe = record {
-        generation = λ ne. still.even.generation (λ e. cc);
-        spare = still.even.spare;
-        version = still.even.version;
-        spot = λ m k ne. still.even.spot m k (λ e. absurd cc) ∙ sym (bits_other now n bits m k (λ e. ne (ap Bits (sym e))));
-        line = λ m k ne. still.even.line m k (λ e. absurd cc);
-      } in (
-      assumption (still, nodes, even),
-      untouched,
-      generation,
-      λ m is. elim (cases_eq m n) [
-        | inl e ↦ inr (subst (λ x. StaysIn l.slots (range_in list x) ((with_bits now n bits).spot x)) (sym e) (subst (StaysIn l.slots (range_in list n)) (sym (bits_here now n bits)) stays))
-        | inr ne ↦ elim (done m is) [
-          | inr has ↦ inr (subst (StaysIn l.slots (range_in list m)) (sym (bits_apart now n bits m ne)) has)
-          | inl among ↦ elim among [ inl e ↦ absurd (ne e) | inr later ↦ inl later ]
-        ]
-      ],
-    )
+        let nodes : MendsNodes l list o (with_bits now n bits) = record {
+          generation = still.cached.nodes.generation;
+          spare = still.cached.nodes.spare;
+          version = still.cached.nodes.version;
+          words = λ m offset ne. bits_other now n bits m offset (λ e. ne) ∙ still.cached.nodes.words m offset ne;
+          bits = λ m is. elim (cases_eq m n) [
+            | inr ne ↦ subst (λ (x : Spot). IsTrim l.slots (range_in list m) (o.spot m) (x bitmap_offset)) (sym (bits_apart now n bits m ne)) (still.cached.nodes.bits m is)
+            | inl e ↦ subst (λ x. IsTrim l.slots (range_in list x) (o.spot x) ((with_bits now n bits).spot x bitmap_offset)) (sym e)
+                (subst (IsTrim l.slots (range_in list n) (o.spot n)) (sym (bits_word now n bits))
+                (trim_twice l.slots (range_in list n) (o.spot n) (now.spot n) bits (still.cached.nodes.words n) (still.cached.nodes.bits n (subst (IsIn list) e is)) trim))
+          ];
+          fields = still.cached.nodes.fields;
+        } in
+        let even : IsEvenBut (Bits n) (with_bits now n bits) safe = record {
+          generation = λ ne. still.even.generation (λ e. cc);
+          spare = still.even.spare;
+          version = still.even.version;
+          spot = λ m k ne. still.even.spot m k (λ e. absurd cc) ∙ sym (bits_other now n bits m k (λ e. ne (ap Bits (sym e))));
+          line = λ m k ne. still.even.line m k (λ e. absurd cc);
+        } in (
+          assumption (still, nodes, even),
+          untouched,
+          generation,
+          λ m is. elim (cases_eq m n) [
+            | inl e ↦ inr (subst (λ x. StaysIn l.slots (range_in list x) ((with_bits now n bits).spot x)) (sym e) (subst (StaysIn l.slots (range_in list n)) (sym (bits_here now n bits)) stays))
+            | inr ne ↦ elim (done m is) [
+              | inr has ↦ inr (subst (StaysIn l.slots (range_in list m)) (sym (bits_apart now n bits m ne)) has)
+              | inl among ↦ elim among [ inl e ↦ absurd (ne e) | inr later ↦ inl later ]
+            ]
+          ],
+        )
     step (trimmed n left same) (still, untouched, generation, done) =
-      let even : IsEvenBut Nothing now safe = record {
-        generation = λ ne. still.even.generation (λ e. cc);
-        spare = still.even.spare;
-        version = still.even.version;
-        spot = λ m k ne. elim (cases_eq m n) [
-          | inr apart ↦ still.even.spot m k (λ e. absurd (let one : n ≡ m = cc in apart (sym one)))
-          | inl e ↦ elim (cases_eq k bitmap_offset) [
-            | inl f ↦ subst (λ x. safe.spot x k ≡ now.spot x k) (sym e) (subst (λ x. safe.spot n x ≡ now.spot n x) (sym f) same)
-            | inr apart ↦ still.even.spot m k (λ e. apart)
-          ]
-        ];
-        line = λ m k ne. still.even.line m k (λ e. absurd cc);
-      } in (
-      assumption (still, even),
-      untouched,
-      generation,
-      done,
-    )
+        let even : IsEvenBut Nothing now safe = record {
+          generation = λ ne. still.even.generation (λ e. cc);
+          spare = still.even.spare;
+          version = still.even.version;
+          spot = λ m k ne. elim (cases_eq m n) [
+            | inr apart ↦ still.even.spot m k (λ e. absurd (let one : n ≡ m = cc in apart (sym one)))
+            | inl e ↦ elim (cases_eq k bitmap_offset) [
+              | inl f ↦ subst (λ x. safe.spot x k ≡ now.spot x k) (sym e) (subst (λ x. safe.spot n x ≡ now.spot n x) (sym f) same)
+              | inr apart ↦ still.even.spot m k (λ e. apart)
+            ]
+          ];
+          line = λ m k ne. still.even.line m k (λ e. absurd cc);
+        } in (
+          assumption (still, even),
+          untouched,
+          generation,
+          done,
+        )
     step all_trimmed (still, untouched, generation, done) = (still, untouched, generation, done, λ i lt. absurd (omega arith))
     step (passes_unset j why) (still, untouched, generation, done, out) = (
       still,
@@ -477,25 +477,25 @@ module _ (l : Layout) (list : List ListNode) (o : Columns) (sound : IsSound l li
         exact_has None key is = λ node has anchor. let no_way : None ≡ Some node = (is node).1 (has, anchor) in absurd cc
         exact_has (Some m) key is = (is m).0 refl
     step (emptied j same) (still, generation, done, exact, empty) =
-      let even : IsEvenBut Nothing now safe = record {
-        generation = λ ne. still.even.generation (λ e. cc);
-        spare = still.even.spare;
-        version = still.even.version;
-        spot = λ m k ne. still.even.spot m k (λ e. absurd cc);
-        line = λ m k ne. elim (cases_eq m j) [
-          | inr apart ↦ still.even.line m k (λ e. absurd (let one : j ≡ m = cc in apart (sym one)))
-          | inl e ↦ elim (cases_eq k 0) [
-            | inl f ↦ subst (λ x. safe.line x k ≡ now.line x k) (sym e) (subst (λ x. safe.line j x ≡ now.line j x) (sym f) same)
-            | inr apart ↦ still.even.line m k (λ e. apart)
-          ]
-        ];
-      } in (
-      assumption (still, even),
-      generation,
-      done,
-      exact,
-      empty,
-    )
+        let even : IsEvenBut Nothing now safe = record {
+          generation = λ ne. still.even.generation (λ e. cc);
+          spare = still.even.spare;
+          version = still.even.version;
+          spot = λ m k ne. still.even.spot m k (λ e. absurd cc);
+          line = λ m k ne. elim (cases_eq m j) [
+            | inr apart ↦ still.even.line m k (λ e. absurd (let one : j ≡ m = cc in apart (sym one)))
+            | inl e ↦ elim (cases_eq k 0) [
+              | inl f ↦ subst (λ x. safe.line x k ≡ now.line x k) (sym e) (subst (λ x. safe.line j x ≡ now.line j x) (sym f) same)
+              | inr apart ↦ still.even.line m k (λ e. apart)
+            ]
+          ];
+        } in (
+          assumption (still, even),
+          generation,
+          done,
+          exact,
+          empty,
+        )
     step (all_empty j past) (still, generation, done, exact, empty) = (
       still,
       generation,

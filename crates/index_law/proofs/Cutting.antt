@@ -138,7 +138,7 @@ cuts_member l f f' enough list named is =
     ap length (sym (lower-names l f list named is.node cut is.named is.inside)) ∙ sym (range_names l.slots (below_key (range_of l f is.node) (key_of cut)) (f.now is.node) (map_now f) sub named) ∙ is.half in
     let apart = no-anchor (map_now f) (anchors_of f.list) cut (list_has_anchors l f list) (omega arith) in
     let more : anchors_of f'.list ≡ with_name cut (anchors_of f.list) = ap anchors_of is.longer
-        ∙ ap (λ xs. [] ∷ xs) (cut-texts f.now cut is.named is.node (record { node = is.fresh; anchor = key_of cut }) refl 0 [] f.list list.chain (rise_from l f list) list.named apart.1
-        (eqb-true (target_from 0 f.list (key_of cut)) is.node is.inside))
-        ∙ sym (with_name-later cut [] (texts f.list) (below-empty cut is.named)) in
+    ∙ ap (λ xs. [] ∷ xs) (cut-texts f.now cut is.named is.node (record { node = is.fresh; anchor = key_of cut }) refl 0 [] f.list list.chain (rise_from l f list) list.named apart.1
+    (eqb-true (target_from 0 f.list (key_of cut)) is.node is.inside))
+    ∙ sym (with_name-later cut [] (texts f.list) (below-empty cut is.named)) in
     (search (is.named, is.had, is.inside, full, half, more), refl)

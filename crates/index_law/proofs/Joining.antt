@@ -91,13 +91,13 @@ module _ (l : Layout) (g : ℕ) (f : Facts) (caller index since : ℕ) where
         let durably : KnowsDurable h (f.now n) = known_words h (f.now n) h.known.seen knows.0.knows.seen in
         let known = subst (Knows h.name k) (sym own) told.0 in
         let meant = subst (λ (s : Spot). Means l.slots (range_of l f n) s (pended h.pending (map_now f))) (sym own)
-            (means (range_of l f n) (f.now n) (pended h.pending (map_now f)) durably knows.0.means) in
+        (means (range_of l f n) (f.now n) (pended h.pending (map_now f)) durably knows.0.means) in
         let stays = subst (StaysIn l.slots (range_of l f n)) (sym own)
-            (stays_stored l.slots (range_of l f n) (f.now n) (updated (f.now n) offset y) knows.0.means.tidy (λ range m was. means range (f.now n) m durably was) knows.0.stays) in
+        (stays_stored l.slots (range_of l f n) (f.now n) (updated (f.now n) offset y) knows.0.means.tidy (λ range m was. means range (f.now n) m durably was) knows.0.stays) in
         let kept = grip_kept l g f φ later right other knows.1.grip in
         let now = subst (Tells seen) (sym new) told.1 in
         let copies = (λ (s t : Spot) (is : updated (f.now n) offset y ≡ s) (same : f.now right.node ≡ t). subst (λ q. AreCopies copied q t) is (subst (AreCopies copied (updated (f.now n) offset y)) same told.2))
-            (φ.now n) (φ.now right.node) (sym own) (sym new) in
+        (φ.now n) (φ.now right.node) (sym own) (sym new) in
         let leads = (links_content f.now n offset y content n).0 ∙ knows.1.leads in
         let settled = settled_kept l g f φ later right.node other knows.1.settled in
         (assumption (knows.0, known, meant, stays), assumption (knows.1, kept, now, copies, leads, settled))

@@ -224,26 +224,26 @@ module _ {l : Layout} {g : ℕ} (f : Facts) (caller index since : ℕ) where
     mine (stores {n = n} {y = y} {offset = offset} {h = h} {k = k} has content small clean soils learnt means) e knows =
         let known = subst (Knows h.name k) (sym (stored f n offset y)) (learnt (f.now n) knows.means.tidy knows.knows) in
         let meant = subst (λ (s : Spot). Means l.slots (range_of l f n) s (pended h.pending (map_now f))) (sym (stored f n offset y))
-            (means (range_of l f n) (f.now n) (pended h.pending (map_now f)) (durably h (f.now n) knows.knows) knows.means) in
+        (means (range_of l f n) (f.now n) (pended h.pending (map_now f)) (durably h (f.now n) knows.knows) knows.means) in
         let stays = subst (StaysIn l.slots (range_of l f n)) (sym (stored f n offset y))
-            (stays_stored l.slots (range_of l f n) (f.now n) (updated (f.now n) offset y) knows.means.tidy (λ other m was. means other (f.now n) m (durably h (f.now n) knows.knows) was) knows.stays) in
+        (stays_stored l.slots (range_of l f n) (f.now n) (updated (f.now n) offset y) knows.means.tidy (λ other m was. means other (f.now n) m (durably h (f.now n) knows.knows) was) knows.stays) in
         assumption (knows, known, meant, stays)
     mine (commits {n = n} {w = w} {y = y} {offset = offset} {h = h} {k = k} {old = old} {c = c} has content small clean durable soiled old_known about learnt means) e knows =
         let known = subst (Knows h.name k) (sym (stored f n offset y)) (learnt (f.now n) knows.means.tidy knows.knows) in
         let meant = subst (λ (s : Spot). Means l.slots (range_of l f n) s (changed (map_now f) c)) (sym (stored f n offset y))
-            (means (range_of l f n) (f.now n) (map_now f) knows.inside knows.knows (old_is n w h None old knows clean.placed old_known) (clean_means n w h knows clean.pending)) in
+        (means (range_of l f n) (f.now n) (map_now f) knows.inside knows.knows (old_is n w h None old knows clean.placed old_known) (clean_means n w h knows clean.pending)) in
         let had : at (map_now f) h.name ≡ old = old_is n w h None old knows clean.placed old_known in
         let stays = subst (StaysIn l.slots (range_of l f n)) (sym (stored f n offset y))
-            (stays_changed l.slots (range_of l f n) (f.now n) (updated (f.now n) offset y) (map_now f) c (subst IsName (sym about) knows.named)
-            (subst (λ (name : List ℕ). range_of l f n name ≡ true) (sym about) knows.inside) (clean_means n w h knows clean.pending)
-            (λ m' alike was. means (λ name. true) (f.now n) m' refl knows.knows (ap (at m') (sym about) ∙ alike ∙ ap (at (map_now f)) about ∙ had) was) knows.stays) in
+        (stays_changed l.slots (range_of l f n) (f.now n) (updated (f.now n) offset y) (map_now f) c (subst IsName (sym about) knows.named)
+        (subst (λ (name : List ℕ). range_of l f n name ≡ true) (sym about) knows.inside) (clean_means n w h knows clean.pending)
+        (λ m' alike was. means (λ name. true) (f.now n) m' refl knows.knows (ap (at m') (sym about) ∙ alike ∙ ap (at (map_now f)) about ∙ had) was) knows.stays) in
         assumption (knows, known, meant, stays, about, clean.placed, ap is_some old_known)
     mine (drains {n = n} {w = w} {h = h} {dirty = dirty} {ready = ready} has small unready hand cleans) e knows = again l g f caller index since n w h h.known dirty None ready knows.knows tt knows
     mine (counts {n = n} {w = w} {x = x} {h = h} {c = c} durable ready pending unplaced) e knows =
         let write : Write = record { caller = caller; index = index; change = c } in
         let same : after f.base (f.history ++ write ∷ []) x ≡ map_now f = after-longer f.base f.history (write ∷ []) x (omega (arith, e)) ∙ after-whole f.base f.history x e in
         let meant = subst (Means l.slots (range_of l f n) (f.now n)) (sym (after_all-push f.base f.history write))
-            (subst (λ (p : Option Change). Means l.slots (range_of l f n) (f.now n) (pended p (map_now f))) pending knows.means) in
+        (subst (λ (p : Option Change). Means l.slots (range_of l f n) (f.now n) (pended p (map_now f))) pending knows.means) in
         let was = old_then h.old (subst (λ (p : Option ℕ). IfSome h.old (λ old. at (map_before f p) h.name ≡ old)) unplaced knows.old) (ap (λ (m : Map). at m h.name) same) in
         let placed : IsPlaced (f.history ++ write ∷ []) caller index since h.name x = record {
           later = omega (arith, e);
@@ -316,7 +316,7 @@ module _ {l : Layout} {g : ℕ} (f : Facts) (caller index since : ℕ) where
       let all_live = full (f.now n) means.tidy knows.knows in
       let lacked = told.same clock (omega arith) told.within h.name knows.inside ∙ lacks in
       let many = full_has_in l.slots (range_of l f n) (f.now n) (after f.base f.history clock)
-          (means_alike l.slots (range_of l f n) (f.now n) (map_now f) (after f.base f.history clock) (told.same clock (omega arith) told.within) means) knows.stays all_live in
+      (means_alike l.slots (range_of l f n) (f.now n) (map_now f) (after f.base f.history clock) (told.same clock (omega arith) told.within) means) knows.stays all_live in
       (unplaced, inl (refl, search (knows.inside, lacks, all_live, means, told, lacked, many)))
   answered n w freed h r clean (refuses unplaced is) knows = (unplaced, inr is)
 

@@ -110,7 +110,6 @@ worn_or_fresh v g = elim (is_worn_word v g) as (λ b. is_worn_word v g ≡ b →
 
 module _ (split : Split) (sound : IsSplit split) (words0 words : List ℕ) (ready : IsReadyToSplit split.view.layout split.view.generation words0 split.node) (x : ℕ) where
   open split.view use {layout, generation as g, caller}
-
   open split use {node as n, word as w}
 
   abbrev heard : Heard

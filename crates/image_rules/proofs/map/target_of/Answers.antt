@@ -47,7 +47,7 @@ returns-then-nodes-next-clause-none c = λ _.
     let walk = c.loop-position.invariant in
     let count = walk.count in
     let far = target_out c.args.image.now.layout c.args.image.now.words c.args.name.now c.loop-position.node walk.left (omega arith) walk.target c.next_of-next.result c.next_of-next.ensures
-        c.if-next-eq0.false (omega arith) in
+    c.if-next-eq0.false (omega arith) in
     omega arith
 
 pub loop-position-preserved : goal.loop-position-preserved
