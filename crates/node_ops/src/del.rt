@@ -90,7 +90,7 @@ impl Del {
     ghost use Rattle.call_stages.specs.Stages.{counted, placed_in};
     ghost use Rattle.node_ops.specs.Asked.{del_op};
     ghost use Rattle.node_ops.specs.CallStages.{del_stage};
-    ghost use Rattle.node_ops.specs.DelSteps.{IsDel, del_call};
+    ghost use Rattle.node_ops.specs.DelSteps.{IsDel, del_asks, del_call};
 
     /// What stays the same while it is made.
     pub(crate) fn call(&self) -> Call
@@ -113,6 +113,18 @@ impl Del {
         }
     }
 
+    /// The action that it asks for.
+    #[inline(always)]
+    pub(crate) fn action(&self) -> Action
+        requires { IsDel self.now }
+        ensures { result ≡ del_asks self.now }
+    {
+        match self {
+            Del::Single(single) => single.action(),
+            Del::Merging { merge, .. } => merge.action(),
+        }
+    }
+
     /// The place that its write was given, if it has one.
     pub(crate) fn place(&self) -> Option<u64>
         ensures { result ≡ placed_in (del_stage self.now) }
@@ -131,38 +143,6 @@ impl Del {
         match self {
             Del::Single(single) => single.counts(),
             Del::Merging { .. } => None,
-        }
-    }
-}
-
-impl Machine for Del {
-    ghost use Rattle.node_ops.specs.DelSteps.{IsDel, del_asks, del_turned, del_takes, del_left};
-
-    type Answer = Once<Placed>;
-
-    ghost fits = { IsDel };
-
-    ghost asks = { del_asks };
-
-    ghost turned = { del_turned };
-
-    ghost takes = { del_takes };
-
-    ghost left = { del_left };
-
-    #[inline(always)]
-    fn action(&self) -> Action {
-        match self {
-            Del::Single(single) => single.action(),
-            Del::Merging { merge, .. } => merge.action(),
-        }
-    }
-
-    fn resume(self, got: u64) -> Turn<Del, Once<Placed>> {
-        let mut next = self;
-        match next.advance(got) {
-            None => Turn::Go(next),
-            Some(answer) => Turn::Done(answer),
         }
     }
 }

@@ -10,7 +10,7 @@ use crate::lookup::{Hit, Hold};
 use cat_key::WORDS;
 use data_node::{with_live, with_print, without_live};
 use pm_words::offsets::node;
-use pm_words::{Action, Fence, Machine, Memory, Steps, Turn, line_of};
+use pm_words::{Action, Fence, Memory, Steps, line_of};
 use std::sync::ledger::Ledger;
 
 /// Writes the call's name and value into a clear slot, with its fingerprint, and makes these durable. Then it stores
@@ -40,23 +40,21 @@ pub enum FillAt {
     Bitmap,
 }
 
-impl Machine for Fill {
-    ghost use Rattle.node_ops.specs.FillSteps.{IsFill, fill_asks, fill_turned, fill_takes, fill_left};
+impl Fill {
+    ghost use Rattle.std.specs.Prelude.{◌≡◌, ◌<◌, IfSome};
+    ghost use Rattle.pm_words.specs.Turns.{GoesBelow};
+    ghost use Rattle.data_node.specs.Bits.{printed};
+    ghost use Rattle.pm_words.specs.declared.machine.Turn.TheVariants.{Done};
+    ghost use Rattle.machine_runs.specs.Runs.{Bursts, MayGo};
+    ghost use Rattle.node_ops.specs.FillSteps.{FillTurns, fill_takes, fill_turned, fill_left, fill_word, bitmap_after};
+    ghost use Rattle.node_ops.specs.FillSteps.{IsFill, fill_asks, filled};
 
-    type Answer = Finish;
-
-    ghost fits = { IsFill };
-
-    ghost asks = { fill_asks };
-
-    ghost turned = { fill_turned };
-
-    ghost takes = { fill_takes };
-
-    ghost left = { fill_left };
-
+    /// The action that it asks for.
     #[inline(always)]
-    fn action(&self) -> Action {
+    pub(crate) fn action(&self) -> Action
+        requires { IsFill self.now }
+        ensures { result ≡ fill_asks self.now }
+    {
         let call = &self.call;
         match &self.at {
             FillAt::Word { k } => Action::Store(
@@ -73,25 +71,6 @@ impl Machine for Fill {
             FillAt::Bitmap => Action::Store(call.address(node::BITMAP), self.bitmap_after()),
         }
     }
-
-    fn resume(self, got: u64) -> Turn<Fill, Finish> {
-        let mut next = self;
-        if next.advance(got) {
-            Turn::Done(next.finish())
-        } else {
-            Turn::Go(next)
-        }
-    }
-}
-
-impl Fill {
-    ghost use Rattle.std.specs.Prelude.{◌≡◌, ◌<◌, IfSome};
-    ghost use Rattle.pm_words.specs.Turns.{GoesBelow};
-    ghost use Rattle.data_node.specs.Bits.{printed};
-    ghost use Rattle.pm_words.specs.declared.machine.Turn.TheVariants.{Done};
-    ghost use Rattle.machine_runs.specs.Runs.{Bursts, MayGo};
-    ghost use Rattle.node_ops.specs.FillSteps.{FillTurns, fill_takes, fill_turned, fill_left, fill_word, bitmap_after};
-    ghost use Rattle.node_ops.specs.FillSteps.{fill_asks, filled};
 
     /// Tells it in place the number that its action gave, and answers whether it is done.
     #[inline(always)]

@@ -9,7 +9,7 @@ use call_stages::{Once, Placed};
 use cat_history::{Change, NameOp};
 use pm_words::offsets::node;
 use pm_words::offsets::shared::CLOCK;
-use pm_words::{Action, Fence, FenceAt, LINE_WORDS, Machine, Memory, Steps, Turn};
+use pm_words::{Action, Fence, FenceAt, LINE_WORDS, Memory, Steps};
 use std::sync::ledger::Ledger;
 use version_lock::freed_of;
 
@@ -34,41 +34,6 @@ pub enum FinishAt {
     Unlock { place: u64 },
 }
 
-impl Machine for Finish {
-    ghost use Rattle.node_ops.specs.FinishSteps.{IsFinish, finish_asks, finish_turned, finish_takes, finish_left};
-
-    type Answer = Once<Placed>;
-
-    ghost fits = { IsFinish };
-
-    ghost asks = { finish_asks };
-
-    ghost turned = { finish_turned };
-
-    ghost takes = { finish_takes };
-
-    ghost left = { finish_left };
-
-    #[inline(always)]
-    fn action(&self) -> Action {
-        match &self.at {
-            FinishAt::Fence { line, fence } => fence.action(self.call.address(*line + fence.word)),
-            FinishAt::Add => Action::Add(CLOCK),
-            FinishAt::Unlock { .. } => {
-                Action::Store(self.call.address(node::VERSION), freed_of(self.hold.locked))
-            }
-        }
-    }
-
-    fn resume(self, got: u64) -> Turn<Finish, Once<Placed>> {
-        let mut next = self;
-        match next.advance(got) {
-            None => Turn::Go(next),
-            Some(answer) => Turn::Done(answer),
-        }
-    }
-}
-
 impl Finish {
     ghost use Rattle.std.specs.Prelude.{◌≡◌, ◌↔◌, IfSome, IsFalse};
     ghost use Rattle.pm_words.specs.declared.machine.Turn.TheVariants.{Go};
@@ -81,6 +46,21 @@ impl Finish {
     ghost use Rattle.node_ops.specs.FinishSteps.{IsFinish, finish_asks, finish_takes, finish_turned, finish_left};
     ghost use Rattle.node_ops.specs.CallStages.{change_to, finish_stage};
     ghost use Rattle.node_ops.specs.Asked.{op_of_finish};
+
+    /// The action that it asks for.
+    #[inline(always)]
+    pub(crate) fn action(&self) -> Action
+        requires { IsFinish self.now }
+        ensures { result ≡ finish_asks self.now }
+    {
+        match &self.at {
+            FinishAt::Fence { line, fence } => fence.action(self.call.address(*line + fence.word)),
+            FinishAt::Add => Action::Add(CLOCK),
+            FinishAt::Unlock { .. } => {
+                Action::Store(self.call.address(node::VERSION), freed_of(self.hold.locked))
+            }
+        }
+    }
 
     /// Tells it in place the number that its action gave. It goes on, or is done where there is an answer.
     #[inline(always)]

@@ -8,7 +8,7 @@ use crate::lookup::{Hit, Hold, Looked, Lookup};
 use call_stages::{Once, Placed, View};
 use cat_key::Name;
 use pm_words::offsets::node;
-use pm_words::{Action, Again, Machine, Memory, Steps, Turn};
+use pm_words::{Action, Again, Memory, Steps};
 use std::sync::ledger::Ledger;
 
 /// A get: what a name has, at the clock that was loaded between two loads of its node's version word.
@@ -68,38 +68,6 @@ impl Get {
     }
 }
 
-impl Machine for Get {
-    ghost use Rattle.node_ops.specs.GetSteps.{IsGet, get_asks, get_turned, get_takes, get_left};
-
-    type Answer = Once<Placed>;
-
-    ghost fits = { IsGet };
-
-    ghost asks = { get_asks };
-
-    ghost turned = { get_turned };
-
-    ghost takes = { get_takes };
-
-    ghost left = { get_left };
-
-    #[inline(always)]
-    fn action(&self) -> Action {
-        match self {
-            Get::Looking { lookup } => lookup.action(),
-            Get::Checking { call, .. } => Get::checks(call),
-        }
-    }
-
-    fn resume(self, got: u64) -> Turn<Get, Once<Placed>> {
-        let mut next = self;
-        match next.advance(got) {
-            None => Turn::Go(next),
-            Some(answer) => Turn::Done(answer),
-        }
-    }
-}
-
 impl Get {
     ghost use Rattle.std.specs.Prelude.{◌≡◌};
     ghost use Rattle.pm_words.specs.declared.action.Action.TheVariants.{Load};
@@ -109,7 +77,19 @@ impl Get {
     ghost use Rattle.pm_words.specs.Offsets.{version_offset};
     ghost use Rattle.node_ops.specs.Calls.{IsCall, call_address};
     ghost use Rattle.node_ops.specs.LookupSteps.{lookup_turned};
-    ghost use Rattle.node_ops.specs.GetSteps.{checked, get_asks, get_left, get_looked, get_takes, get_turned};
+    ghost use Rattle.node_ops.specs.GetSteps.{IsGet, checked, get_asks, get_left, get_looked, get_takes, get_turned};
+
+    /// The action that it asks for.
+    #[inline(always)]
+    pub(crate) fn action(&self) -> Action
+        requires { IsGet self.now }
+        ensures { result ≡ get_asks self.now }
+    {
+        match self {
+            Get::Looking { lookup } => lookup.action(),
+            Get::Checking { call, .. } => Get::checks(call),
+        }
+    }
 
     /// Tells it in place the number that its action gave. It goes on, or is done where there is an answer.
     #[inline(always)]

@@ -23,7 +23,7 @@ use data_list::{Sighting, Target, Walk, Walked};
 use data_node::{PRINT_WORDS, candidates, lowest_live, without_live};
 use pm_words::offsets::node;
 use pm_words::offsets::shared::CLOCK;
-use pm_words::{Action, Again, Machine, Memory, Steps, Turn};
+use pm_words::{Action, Again, Machine, Memory, Steps};
 use std::sync::ledger::Ledger;
 use tree_floor::Floor;
 use version_lock::{freed_of, locked_of};
@@ -136,53 +136,6 @@ pub enum LookupAt {
     },
 }
 
-impl Machine for Lookup {
-    ghost use Rattle.node_ops.specs.LookupSteps.{IsLookup, lookup_asks, lookup_turned, lookup_takes, lookup_left};
-
-    type Answer = Looked;
-
-    ghost fits = { IsLookup };
-
-    ghost asks = { lookup_asks };
-
-    ghost turned = { lookup_turned };
-
-    ghost takes = { lookup_takes };
-
-    ghost left = { lookup_left };
-
-    #[inline(always)]
-    fn action(&self) -> Action {
-        let call = &self.call;
-        match &self.at {
-            LookupAt::Floor { floor } => floor.action(),
-            LookupAt::Walk { walk } => walk.action(),
-            LookupAt::Lock { seen, locked } => {
-                Action::Exchange(call.address(node::VERSION), seen.version, *locked)
-            }
-            LookupAt::Read { .. } | LookupAt::Clock { .. } => Action::Load(CLOCK),
-            LookupAt::Spent { hold } => {
-                Action::Store(call.address(node::VERSION), freed_of(hold.locked))
-            }
-            LookupAt::Bitmap { .. } => Action::Load(call.address(node::BITMAP)),
-            LookupAt::Prints { at, .. } => Action::Load(call.address(node::PRINTS + *at)),
-            LookupAt::Name { slot, at, .. } => Action::Load(call.address(slot_word(*slot, *at))),
-            LookupAt::Value { slot, .. } => Action::Load(call.address(slot_word(
-                *slot,
-                WORDS as u64,
-            ))),
-        }
-    }
-
-    fn resume(self, got: u64) -> Turn<Lookup, Looked> {
-        let mut next = self;
-        match next.advance(got) {
-            None => Turn::Go(next),
-            Some(looked) => Turn::Done(looked),
-        }
-    }
-}
-
 impl Lookup {
     ghost use Rattle.std.specs.Prelude.{◌≡◌, ℕ, ◌+◌, ◌^◌, ◌<◌, ◌≤◌, List, Some, IfSome};
     ghost use Rattle.std.specs.Prelude.{replicate, slice_set};
@@ -213,6 +166,33 @@ impl Lookup {
             at: LookupAt::Floor {
                 floor: Floor::new(call.view.layout, call.name),
             },
+        }
+    }
+
+    /// The action that it asks for.
+    #[inline(always)]
+    pub(crate) fn action(&self) -> Action
+        requires { IsLookup self.now }
+        ensures { result ≡ lookup_asks self.now }
+    {
+        let call = &self.call;
+        match &self.at {
+            LookupAt::Floor { floor } => floor.action(),
+            LookupAt::Walk { walk } => walk.action(),
+            LookupAt::Lock { seen, locked } => {
+                Action::Exchange(call.address(node::VERSION), seen.version, *locked)
+            }
+            LookupAt::Read { .. } | LookupAt::Clock { .. } => Action::Load(CLOCK),
+            LookupAt::Spent { hold } => {
+                Action::Store(call.address(node::VERSION), freed_of(hold.locked))
+            }
+            LookupAt::Bitmap { .. } => Action::Load(call.address(node::BITMAP)),
+            LookupAt::Prints { at, .. } => Action::Load(call.address(node::PRINTS + *at)),
+            LookupAt::Name { slot, at, .. } => Action::Load(call.address(slot_word(*slot, *at))),
+            LookupAt::Value { slot, .. } => Action::Load(call.address(slot_word(
+                *slot,
+                WORDS as u64,
+            ))),
         }
     }
 

@@ -303,22 +303,16 @@ impl Part {
     }
 }
 
-impl Machine for Part {
-    ghost use Rattle.node_ops.specs.PartSteps.{IsPart, part_asks, part_turned, part_takes, part_left};
+impl Part {
+    ghost use Rattle.std.specs.Prelude.{◌≡◌, ◌<◌};
+    ghost use Rattle.pm_words.specs.Turns.{AdvancesTo, GoesBelow};
+    ghost use Rattle.node_ops.specs.PartSteps.{IsPart, part_asks, part_left, part_takes, part_turned, placed_turn};
 
-    type Answer = Once<PartWords>;
-
-    ghost fits = { IsPart };
-
-    ghost asks = { part_asks };
-
-    ghost turned = { part_turned };
-
-    ghost takes = { part_takes };
-
-    ghost left = { part_left };
-
-    fn action(&self) -> Action {
+    /// The action that it asks for.
+    pub(crate) fn action(&self) -> Action
+        requires { IsPart self.now }
+        ensures { result ≡ part_asks self.now }
+    {
         match self {
             Part::Looking { lookup, .. } => lookup.action(),
             Part::Ordering { load, .. } => load.action(),
@@ -332,20 +326,6 @@ impl Machine for Part {
             Part::Reading { reading } => reading.action(),
         }
     }
-
-    fn resume(self, got: u64) -> Turn<Part, Once<PartWords>> {
-        let mut next = self;
-        match next.advance(got) {
-            None => Turn::Go(next),
-            Some(answer) => Turn::Done(answer),
-        }
-    }
-}
-
-impl Part {
-    ghost use Rattle.std.specs.Prelude.{◌≡◌, ◌<◌};
-    ghost use Rattle.pm_words.specs.Turns.{AdvancesTo, GoesBelow};
-    ghost use Rattle.node_ops.specs.PartSteps.{part_left, part_takes, part_turned, placed_turn};
 
     /// Tells it in place the number that its action gave. It goes on, or is done where there is an answer.
     pub fn advance(&mut self, got: u64) -> Option<Once<PartWords>>

@@ -9,7 +9,7 @@ use crate::single_put::{FullNode, SinglePut, SinglePutDone};
 use call_stages::{Once, Placed, View};
 use cat_history::{Change, NameOp};
 use cat_key::Name;
-use pm_words::{Action, Again, Machine, Memory, Steps, Turn};
+use pm_words::{Action, Again, Machine, Memory, Steps};
 use split_merge::{Split, SplitDone};
 use std::sync::ledger::Ledger;
 
@@ -130,6 +130,18 @@ impl Put {
         }
     }
 
+    /// The action that it asks for.
+    #[inline(always)]
+    pub(crate) fn action(&self) -> Action
+        requires { IsPut self.now }
+        ensures { result ≡ put_asks self.now }
+    {
+        match self {
+            Put::Single(single) => single.action(),
+            Put::Splitting { split, .. } => split.action(),
+        }
+    }
+
     /// The place that its write was given, if it has one.
     pub(crate) fn place(&self) -> Option<u64>
         ensures { result ≡ placed_in (put_stage self.now) }
@@ -159,38 +171,6 @@ impl Put {
         match self {
             Put::Single(single) => single.counts(),
             Put::Splitting { .. } => None,
-        }
-    }
-}
-
-impl Machine for Put {
-    ghost use Rattle.node_ops.specs.PutSteps.{IsPut, put_asks, put_turned, put_takes, put_left};
-
-    type Answer = Once<Placed>;
-
-    ghost fits = { IsPut };
-
-    ghost asks = { put_asks };
-
-    ghost turned = { put_turned };
-
-    ghost takes = { put_takes };
-
-    ghost left = { put_left };
-
-    #[inline(always)]
-    fn action(&self) -> Action {
-        match self {
-            Put::Single(single) => single.action(),
-            Put::Splitting { split, .. } => split.action(),
-        }
-    }
-
-    fn resume(self, got: u64) -> Turn<Put, Once<Placed>> {
-        let mut next = self;
-        match next.advance(got) {
-            None => Turn::Go(next),
-            Some(answer) => Turn::Done(answer),
         }
     }
 }

@@ -15,7 +15,7 @@ use call_stages::{Once, Placed};
 use cat_history::{Change, NameOp};
 use cat_key::WORDS;
 use data_node::clear_slot;
-use pm_words::{Action, Fence, Machine, Memory, Steps, Turn, line_of};
+use pm_words::{Action, Fence, Memory, Steps, line_of};
 use std::sync::ledger::Ledger;
 
 /// A put that works on one node.

@@ -1,7 +1,7 @@
 use Rattle.std.proofs.Common.{◌<◌, ◌≤◌, subst, arith}
 use Rattle.node_ops.specs.LookupSteps.{IsLookupAt}
 use Rattle.node_ops.proofs.Measures.{comparing_within}
-use Rattle.node_ops.proofs.lookup.LookupMachine.action.Goals as goal
+use Rattle.node_ops.proofs.lookup.Lookup.action.Goals as goal
 
 pub slot_word-requires-clause-slot : goal.slot_word-requires-clause-slot
 slot_word-requires-clause-slot c =
