@@ -37,13 +37,13 @@ use Rattle.node_ops.specs.declared.part.Way.TheVariants as ways
 use Rattle.node_ops.specs.declared.part.Part.{Part}
 use Rattle.node_ops.specs.declared.part.Part.TheVariants as part
 use Rattle.node_ops.specs.declared.running.Running.{Running}
-use Rattle.node_ops.specs.declared.running.Running.TheVariants.{Getting, Putting, Deleting, Parting}
+use Rattle.node_ops.specs.declared.running.Running.TheVariants.{Parting}
 use Rattle.node_ops.specs.Calls.{name_in}
 use Rattle.node_ops.specs.CallStages.{part_stage, stage_of, stage_after}
 use Rattle.node_ops.specs.Permuting.{PermutationRead, reading_of}
 use Rattle.node_ops.specs.PartSteps.{part_call, part_asks, part_turned, part_count, part_listed}
 use Rattle.node_ops.specs.PartSteps.{entry_name, words_placed}
-use Rattle.node_ops.specs.RunningSteps.{running_call, running_asks, running_turned, listed_in, count_in, Sound}
+use Rattle.node_ops.specs.RunningSteps.{running_call, running_asks, running_turned, listed_in, count_in, of_part, of_part_after, Sound}
 
 -- the pairs of a map whose names pass the test, in rising order of names
 abbrev pub pairs_in : Map → (List ℕ → Bool) → List Pair
@@ -93,14 +93,10 @@ part_end (part.Reading reading) = way_end reading.way reading.call reading.behin
 part_end _ = None
 
 abbrev pub end_of : Running → Option HeldEnd
-end_of (Getting get) = None
-end_of (Putting put) = None
-end_of (Deleting del) = None
-end_of (Parting p) = part_end p
+end_of running = of_part None part_end running
 
 abbrev pub end_after : Turn Running (Once Placed) → Option HeldEnd
-end_after (Go next) = end_of next
-end_after (Done answer) = None
+end_after turn = of_part_after None part_end turn
 
 -- They end there.
 abbrev pub HasEnd : Layout → Facts → Option HeldEnd → Type 0

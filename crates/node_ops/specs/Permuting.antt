@@ -3,7 +3,6 @@ use Rattle.std.specs.Prelude.{◌≡◌, ℕ, ◌<◌, List, [], Option, Some, N
 use Rattle.pm_words.specs.declared.layout.Layout.{Layout}
 use Rattle.pm_words.specs.declared.action.Action.TheVariants.{Load}
 use Rattle.pm_words.specs.declared.machine.Turn.{Turn}
-use Rattle.pm_words.specs.declared.machine.Turn.TheVariants.{Go, Done}
 use Rattle.call_stages.specs.declared.once.Once.{Once}
 use Rattle.call_stages.specs.declared.once.Placed.{Placed}
 use Rattle.call_stages.specs.AnySteps.{AnyStep}
@@ -24,9 +23,8 @@ use Rattle.node_ops.specs.declared.part.ReadingAt.TheVariants as at
 use Rattle.node_ops.specs.declared.part.Way.{Way}
 use Rattle.node_ops.specs.declared.part.Way.TheVariants as ways
 use Rattle.node_ops.specs.declared.running.Running.{Running}
-use Rattle.node_ops.specs.declared.running.Running.TheVariants.{Getting, Putting, Deleting, Parting}
 use Rattle.node_ops.specs.CallStages.{stage_of, stage_after, reply_of}
-use Rattle.node_ops.specs.RunningSteps.{Sound, running_asks, running_turned}
+use Rattle.node_ops.specs.RunningSteps.{Sound, of_part, of_part_after, running_asks, running_turned}
 
 -- What a reader has read of the permutation of a node, whose version was this version word: its words, by their
 -- numbers.
@@ -46,14 +44,10 @@ part_sorting (part.Reading reading) = reading_sorting reading reading.at
 part_sorting _ = Unsorted
 
 abbrev pub sorting_of : Running → Sorting
-sorting_of (Getting get) = Unsorted
-sorting_of (Putting put) = Unsorted
-sorting_of (Deleting del) = Unsorted
-sorting_of (Parting p) = part_sorting p
+sorting_of running = of_part Unsorted part_sorting running
 
 abbrev pub sorting_after : Turn Running (Once Placed) → Sorting
-sorting_after (Go next) = sorting_of next
-sorting_after (Done answer) = Unsorted
+sorting_after turn = of_part_after Unsorted part_sorting turn
 
 -- What a part has read of the permutation of its node, which served it so far.
 abbrev pub read_by : LoadPermutation → Option (List (ℕ × ℕ)) → Option PermutationRead
@@ -72,14 +66,10 @@ part_reading (part.Reading reading) = way_reading reading.call reading.hold.lock
 part_reading _ = None
 
 abbrev pub reading_of : Running → Option PermutationRead
-reading_of (Getting get) = None
-reading_of (Putting put) = None
-reading_of (Deleting del) = None
-reading_of (Parting p) = part_reading p
+reading_of running = of_part None part_reading running
 
 abbrev pub reading_after : Turn Running (Once Placed) → Option PermutationRead
-reading_after (Go next) = reading_of next
-reading_after (Done answer) = None
+reading_after turn = of_part_after None part_reading turn
 
 -- With a turn it stores a word of the permutation of the node that it holds, and has its stage still, or it makes a
 -- step that stores none, and keeps or lets go what it had stored.

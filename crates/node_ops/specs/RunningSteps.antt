@@ -71,19 +71,25 @@ running_left (Putting put) = put_left put
 running_left (Deleting del) = del_left del
 running_left (Parting p) = part_left p
 
+-- what is known of a part, and of any other call this
+abbrev pub of_part : {A : Type 0} → A → (Part → A) → Running → A
+of_part other known (Getting get) = other
+of_part other known (Putting put) = other
+of_part other known (Deleting del) = other
+of_part other known (Parting p) = known p
+
+-- after a turn, where a call that is done is as one that is no part
+abbrev pub of_part_after : {A : Type 0} → A → (Part → A) → Turn Running (Once Placed) → A
+of_part_after other known (Go next) = of_part other known next
+of_part_after other known (Done answer) = other
+
 -- what a part tells that gives its node back next, if it is one
 abbrev pub listed_in : Running → Option PartWords
-listed_in (Getting get) = None
-listed_in (Putting put) = None
-listed_in (Deleting del) = None
-listed_in (Parting p) = part_listed p
+listed_in running = of_part None part_listed running
 
 -- how many names a part lists at most, if it is one
 abbrev pub count_in : Running → Option ℕ
-count_in (Getting get) = None
-count_in (Putting put) = None
-count_in (Deleting del) = None
-count_in (Parting p) = Some (part_count p)
+count_in running = of_part None (λ (p : Part). Some (part_count p)) running
 
 -- a call in flight on the index of this layout, in this generation
 pub record Sound (l : Layout) (g : ℕ) (running : Running) : Type 0 where
