@@ -352,7 +352,7 @@ module _ (name : List ℕ) (value : ℕ) (own : Option Change) (w0 : World) (i :
       let sure : SureHolds w.layout w.generation (facts w') p.caller p.index p.since call.node found.hold.locked h = o.lawful.sure i q o.there in
       let word : (facts w').now call.node bitmap_offset ≡ found.directory.bitmap = sure.knows.seen.0 in
       full_was name own w0 i w' q o call.node found.hold.locked h rest refl named refl refl refl
-      (subst (λ (r : ℕ × Layout). AreAllLive r.0 r.1.slots) (λ k. (sym word k, layout k)) (goes next refl).0.full)
+      (subst (λ (r : ℕ × Layout). AreAllLive r.0 r.1.slots) (λ k. (sym word k, layout k)) (goes next refl).0.more)
 
   into_foresees : (call : Call) (found : Found) (number : ℕ) (clear : Option ℕ) (action : Action) → name_in call ≡ name → call.view.layout ≡ w.layout → Goes action (Go (put_into call found number clear)) → Full (Go (put_into call found number clear))
   into_foresees call found number (Some slot) action named layout goes = tt

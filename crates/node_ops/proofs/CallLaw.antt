@@ -274,7 +274,7 @@ module _ (call : Call) (hold : Hold) (bitmap value : ℕ) (split : Split) (sound
   begins : MayBegin split.view.layout.slots held
   begins = record {
     claim = record { still = record { pending = refl; ready = refl }; durable = refl; split = record { unplaced = refl; lacked = refl } };
-    full = subst (λ (v : View). AreAllLive bitmap v.layout.slots) (sym sound.view) sound.full;
+    full = subst (λ (v : View). AreAllLive bitmap v.layout.slots) (sym sound.view) sound.more;
     clock = hold.clock;
     timed = refl;
   }

@@ -33,7 +33,7 @@ use Rattle.node_ops.specs.declared.del.Del.TheVariants as del
 use Rattle.node_ops.specs.declared.single_del.SingleDel.TheVariants as single_del
 use Rattle.node_ops.specs.declared.running.Running.{Running}
 use Rattle.node_ops.specs.declared.running.Running.TheVariants.{Getting, Putting, Deleting, Parting}
-use Rattle.node_ops.specs.Calls.{IsCall, at_node, IsSame}
+use Rattle.node_ops.specs.Calls.{IsCall, IsInside, at_node, IsSame}
 use Rattle.pm_words.specs.Fences.{IsFence, line_of, fence_start, fence_next}
 use Rattle.pm_words.specs.Locations.{node_words}
 use Rattle.pm_words.specs.Offsets.{bitmap_offset, slot_offset, value_word}
@@ -137,6 +137,19 @@ get_stays (get.Looking lookup) x sound told = at (lookup_turned lookup x) (looku
     at (Done (looked.Found found)) is = ((sound.0.call, sound.1), refl)
 get_stays (get.Checking call hold old) x sound told = tt
 
+-- a machine inside goes on, of the same node with the same lock
+inside_on : {of : Call} {lock : ℕ} {its next : View} {own onward held still : ℕ} {Here Next More : Type 0} → IsInside of lock its own held Here More → Next → next ≡ its → onward ≡ own → still ≡ held
+    → IsInside of lock next onward still Next More
+inside_on sound here view node word = record {
+  call = sound.call;
+  locked = sound.locked;
+  more = sound.more;
+  here = here;
+  view = view ∙ sound.view;
+  node = node ∙ sound.node;
+  word = word ∙ sound.word;
+}
+
 pub put_stays : (put : Put) (x : ℕ) → IsPut put → Told (put_call put).view.layout (put_call put).view.generation (put_asks put) x → put_leads put x → Stays IsPut put_call (put_call put) (put_turned put x)
 put_stays (put.Single (single_put.Looking lookup value)) x sound told leads = at (lookup_turned lookup x) (lookup_stays lookup x sound.0 told)
   where
@@ -147,7 +160,7 @@ put_stays (put.Single (single_put.Looking lookup value)) x sound told leads = at
       record {
         call = sound.0.call;
         locked = is.locked;
-        full = all;
+        more = all;
         here = record { view = sound.0.call.view; node = sound.0.call.node; lock = is.locked; here = tt };
         view = refl;
         node = refl;
@@ -178,25 +191,11 @@ put_stays (put.Single (single_put.Finishing finish)) x sound told leads = at (fi
     at : (turn : Turn Finish (Once Placed)) → SoundFinish finish.call turn → Stays IsPut put_call finish.call (put_finished turn)
     at (Go next) is = is
     at (Done answer) is = tt
-put_stays (put.Splitting call hold bitmap value split) x sound told leads = at (split_turned split x) (splits_stay split x (sound.here, own, leads))
-  where
-    own : Told split.view.layout split.view.generation (split_asks split) x
-    own = subst (λ (v : View). Told v.layout v.generation (split_asks split) x) (sym sound.view) told
-
-    at : (turn : Turn Split SplitDone) → SplitStays split turn → Stays IsPut put_call call (put_split call hold bitmap value turn)
-    at (Go next) is = (
-      record {
-        call = sound.call;
-        locked = sound.locked;
-        full = sound.full;
-        here = is.0;
-        view = is.1.view ∙ sound.view;
-        node = is.1.node ∙ sound.node;
-        word = is.1.word ∙ sound.word;
-      },
-      refl,
-    )
-    at (Done answer) is = tt
+put_stays (put.Splitting call hold bitmap value split) x sound told leads =
+    elim (split_turned split x) as (λ (turn : Turn Split SplitDone). SplitStays split turn → Stays IsPut put_call call (put_split call hold bitmap value turn)) [
+      | Go next ↦ λ is. (inside_on sound is.0 is.1.view is.1.node is.1.word, refl)
+      | Done answer ↦ λ is. tt
+    ] (splits_stay split x (sound.here, subst (λ (v : View). Told v.layout v.generation (split_asks split) x) (sym sound.view) told, leads))
 
 pub del_is_call : (del : Del) → IsDel del → IsCall (del_call del)
 del_is_call (del.Single (single_del.Looking lookup)) is = is.0.call
@@ -241,6 +240,7 @@ module _ (line : Option ℕ) where
         record {
           call = is.call;
           locked = is.locked;
+          more = tt;
           here = record { view = is.call.view; node = is.call.node; lock = is.locked; line = has; here = tt };
           view = refl;
           node = refl;
@@ -311,24 +311,11 @@ del_stays (del.Single (single_del.Finishing finish line)) x sound told leads = a
         let ending = ending_on finish next line x sound.0 told.fits (sym goes) in
         same_on finish.call next.call (goes_on next line) is.1 (ends_on line next ending.here ending.own)
     at (Done answer) goes is = tt
-del_stays (del.Merging call hold old place merge) x sound told leads = at (merge_turned merge x) (merges_stay merge x (sound.here, own, leads))
-  where
-    own : Told merge.view.layout merge.view.generation (merge_asks merge) x
-    own = subst (λ (v : View). Told v.layout v.generation (merge_asks merge) x) (sym sound.view) told
-
-    at : (turn : Turn Merge Merged) → MergeStays merge turn → Stays IsDel del_call call (del_merged call hold old place turn)
-    at (Go next) is = (
-      record {
-        call = sound.call;
-        locked = sound.locked;
-        here = is.0;
-        view = is.1.view ∙ sound.view;
-        node = is.1.node ∙ sound.node;
-        word = is.1.word ∙ sound.word;
-      },
-      refl,
-    )
-    at (Done merged) is = tt
+del_stays (del.Merging call hold old place merge) x sound told leads =
+    elim (merge_turned merge x) as (λ (turn : Turn Merge Merged). MergeStays merge turn → Stays IsDel del_call call (del_merged call hold old place turn)) [
+      | Go next ↦ λ is. (inside_on sound is.0 is.1.view is.1.node is.1.word, refl)
+      | Done merged ↦ λ is. tt
+    ] (merges_stay merge x (sound.here, subst (λ (v : View). Told v.layout v.generation (merge_asks merge) x) (sym sound.view) told, leads))
 
 -- a part stays sound, and so the whole
 as_whole : {M : Type 0} (sound : M → Type 0) (of : M → Call) (wrap : M → Running) (l : Layout) (g : ℕ) (call : Call) (turn : Turn M (Once Placed))

@@ -42,7 +42,7 @@ splits_are_of_full_nodes (Putting (put.Splitting call hold bitmap value split)) 
     let slots : 4 ≤ call.view.layout.slots = sound.call.view.layout.slots.0 in
     subst (λ (v : View). IsSplitOfFull v.layout.slots (split_footing (found_full call hold bitmap) split).stage) sound.view
     (splits_are_of_full split (found_full call hold bitmap) (subst (λ (v : View). 1 ≤ v.layout.slots) (sym sound.view) (omega arith))
-    (subst (λ (v : View). AreAllLive bitmap v.layout.slots) (sym sound.view) sound.full))
+    (subst (λ (v : View). AreAllLive bitmap v.layout.slots) (sym sound.view) sound.more))
 splits_are_of_full_nodes (Deleting (del.Single (single_del.Looking lookup))) sound = single_splits_none _ (lookup_at_stage (live_sight []) lookup.call lookup.at) (looks_single (live_sight []) lookup.call lookup.at)
 splits_are_of_full_nodes (Deleting (del.Single (single_del.Next call hold bitmap hit))) sound = tt
 splits_are_of_full_nodes (Deleting (del.Single (single_del.Taking call hold bitmap hit take))) sound = tt

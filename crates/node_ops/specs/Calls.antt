@@ -1,7 +1,9 @@
 -- What stays the same while a call is made.
 use Rattle.std.specs.Prelude.{◌≡◌, ℕ, ◌^◌, ◌<◌, ◌≤◌, List, Option, IfSome}
 use Rattle.cat_key.specs.Names.{words_of, bytes_of, fingerprint_of, IsPacked}
-use Rattle.call_stages.specs.Kinds.{word_address}
+use Rattle.pm_words.specs.declared.action.Action.{Action}
+use Rattle.version_lock.specs.Versions.{IsLockWord}
+use Rattle.call_stages.specs.Kinds.{Told, word_address}
 use Rattle.call_stages.specs.declared.view.View.{View}
 use Rattle.call_stages.specs.Views.{IsView}
 use Rattle.node_ops.specs.declared.call.Call.{Call}
@@ -36,6 +38,21 @@ IsSame before after = after ≡ at_node before after.node after.hops
 -- the name that the call is about
 abbrev pub name_in : Call → List ℕ
 name_in call = bytes_of call.name
+
+-- the numbers that its action may give
+abbrev pub IsToldOf : Call → Action → ℕ → Type 0
+IsToldOf call action got = Told call.view.layout call.view.generation action got
+
+-- A machine inside a call that holds its node: it has the call's view, is of that node with that lock, and keeps its own
+-- fields; beside them the call knows more.
+pub record IsInside (of : Call) (lock : ℕ) (its : View) (own held : ℕ) (Here More : Type 0) : Type 0 where
+  pub call : IsCall of
+  pub locked : IsLockWord lock
+  pub more : More
+  pub here : Here
+  pub view : its ≡ of.view
+  pub node : own ≡ of.node
+  pub word : held ≡ lock
 
 -- the address of a word of the call's node
 abbrev pub call_address : Call → ℕ → ℕ

@@ -11,7 +11,6 @@ use Rattle.call_stages.specs.declared.view.View.{View}
 use Rattle.call_stages.specs.declared.once.Once.{Once}
 use Rattle.call_stages.specs.declared.once.Once.TheVariants as once
 use Rattle.call_stages.specs.declared.once.Placed.{Placed}
-use Rattle.call_stages.specs.Kinds.{Told}
 use Rattle.smo_log.specs.declared.take.Take.{Take}
 use Rattle.smo_log.specs.declared.take.Taken.{Taken}
 use Rattle.smo_log.specs.declared.take.Taken.TheVariants.{Line, Full}
@@ -38,7 +37,7 @@ use Rattle.node_ops.specs.declared.single_del.SingleDel.TheVariants.{Finishing}
 use Rattle.node_ops.specs.declared.single_del.CountedDel.{CountedDel}
 use Rattle.node_ops.specs.declared.single_del.SingleDelDone.{SingleDelDone}
 use Rattle.node_ops.specs.declared.single_del.SingleDelDone.TheVariants.{Answered, Counted}
-use Rattle.node_ops.specs.Calls.{IsCall, call_address}
+use Rattle.node_ops.specs.Calls.{IsCall, IsInside, IsToldOf, call_address}
 use Rattle.version_lock.specs.Versions.{IsLockWord}
 use Rattle.pm_words.specs.Fences.{line_of, fence_start}
 use Rattle.pm_words.specs.Offsets.{version_offset, bitmap_offset, next_offset}
@@ -192,13 +191,8 @@ pub record IsEnding (finish : Finish) (line : Option ℕ) : Type 0 where
   pub own : IfSome line (IsOwnLine finish.call.view)
 
 -- its change has its place; the merge is of the call's node
-pub record IsMerging (of : Call) (hold : Hold) (merge : Merge) : Type 0 where
-  pub call : IsCall of
-  pub locked : IsLockWord hold.locked
-  pub here : IsMerge merge
-  pub view : merge.view ≡ of.view
-  pub node : merge.node ≡ of.node
-  pub word : merge.word ≡ hold.locked
+abbrev pub IsMerging : Call → Hold → Merge → Type 0
+IsMerging of hold merge = IsInside of hold.locked merge.view merge.node merge.word (IsMerge merge) (Unit {0})
 
 -- what its fields keep
 abbrev pub IsDel : Del → Type 0
@@ -218,8 +212,7 @@ del_leads (Merging call hold old place merge) got = LeadsNear merge merge.at got
 del_leads _ got = Unit {0}
 
 abbrev pub del_takes : Del → ℕ → Type 0
-del_takes del got =
-    IsDel del × Told (del_call del).view.layout (del_call del).view.generation (del_asks del) got × del_leads del got
+del_takes del got = IsDel del × IsToldOf (del_call del) (del_asks del) got × del_leads del got
 
 -- with a line, it may merge at last
 abbrev pub merge_to_come : Option ℕ → ℕ

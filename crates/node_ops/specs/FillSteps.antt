@@ -8,7 +8,6 @@ use Rattle.pm_words.specs.declared.machine.Turn.{Turn}
 use Rattle.pm_words.specs.declared.machine.Turn.TheVariants.{Go, Done}
 use Rattle.data_node.specs.Slots.{IsClear}
 use Rattle.data_node.specs.Bits.{with_live, without_live, printed}
-use Rattle.call_stages.specs.Kinds.{Told}
 use Rattle.node_ops.specs.declared.lookup.Hit.{Hit}
 use Rattle.pm_words.specs.declared.fence.Fence.{Fence}
 use Rattle.node_ops.specs.declared.finish.Finish.{Finish}
@@ -16,7 +15,7 @@ use Rattle.node_ops.specs.declared.finish.FinishAt.TheVariants as finish_at
 use Rattle.node_ops.specs.declared.fill.Fill.{Fill}
 use Rattle.node_ops.specs.declared.fill.FillAt.{FillAt}
 use Rattle.node_ops.specs.declared.fill.FillAt.TheVariants as at
-use Rattle.node_ops.specs.Calls.{IsCall, call_address}
+use Rattle.node_ops.specs.Calls.{IsCall, IsToldOf, call_address}
 use Rattle.version_lock.specs.Versions.{IsLockWord}
 use Rattle.pm_words.specs.Fences.{IsFence, line_of, fence_start, fence_asks, fence_next, fence_left}
 use Rattle.pm_words.specs.Offsets.{bitmap_offset, print_offset, slot_offset}
@@ -111,7 +110,7 @@ pub record IsFill (fill : Fill) : Type 0 where
   pub here : IsFillAt fill.at
 
 abbrev pub fill_takes : Fill → ℕ → Type 0
-fill_takes fill got = IsFill fill × Told fill.call.view.layout fill.call.view.generation (fill_asks fill) got
+fill_takes fill got = IsFill fill × IsToldOf fill.call (fill_asks fill) got
 
 abbrev pub fill_at_left : FillAt → ℕ
 fill_at_left (at.Word k) = 38 - k

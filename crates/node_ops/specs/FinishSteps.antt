@@ -9,13 +9,13 @@ use Rattle.pm_words.specs.declared.machine.Turn.TheVariants.{Go, Done}
 use Rattle.call_stages.specs.declared.once.Once.{Once}
 use Rattle.call_stages.specs.declared.once.Once.TheVariants as once
 use Rattle.call_stages.specs.declared.once.Placed.{Placed}
-use Rattle.call_stages.specs.Kinds.{clock_address, Told}
+use Rattle.call_stages.specs.Kinds.{clock_address}
 use Rattle.node_ops.specs.declared.call.Call.{Call}
 use Rattle.pm_words.specs.declared.fence.Fence.{Fence}
 use Rattle.node_ops.specs.declared.finish.Finish.{Finish}
 use Rattle.node_ops.specs.declared.finish.FinishAt.{FinishAt}
 use Rattle.node_ops.specs.declared.finish.FinishAt.TheVariants as at
-use Rattle.node_ops.specs.Calls.{IsCall, call_address}
+use Rattle.node_ops.specs.Calls.{IsCall, IsToldOf, call_address}
 use Rattle.version_lock.specs.Versions.{IsLockWord}
 use Rattle.pm_words.specs.Fences.{IsFence, fence_asks, fence_next, fence_left}
 use Rattle.pm_words.specs.Offsets.{version_offset}
@@ -57,8 +57,7 @@ pub record IsFinish (finish : Finish) : Type 0 where
   pub here : IsFinishAt finish.call finish.at
 
 abbrev pub finish_takes : Finish → ℕ → Type 0
-finish_takes finish got = IsFinish finish ×
-    Told finish.call.view.layout finish.call.view.generation (finish_asks finish) got
+finish_takes finish got = IsFinish finish × IsToldOf finish.call (finish_asks finish) got
 
 abbrev pub finish_at_left : FinishAt → ℕ
 finish_at_left (at.Fence line fence) = fence_left fence + 2

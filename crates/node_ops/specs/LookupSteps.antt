@@ -17,7 +17,7 @@ use Rattle.data_node.specs.Bits.{without_live, lowest_live, candidate_bits}
 use Rattle.call_stages.specs.declared.once.Once.{Once}
 use Rattle.call_stages.specs.declared.once.Once.TheVariants as once
 use Rattle.call_stages.specs.declared.once.Placed.{Placed}
-use Rattle.call_stages.specs.Kinds.{clock_address, Told}
+use Rattle.call_stages.specs.Kinds.{clock_address}
 use Rattle.node_ops.specs.declared.call.Call.{Call}
 use Rattle.node_ops.specs.declared.lookup.Hold.{Hold}
 use Rattle.node_ops.specs.declared.lookup.Directory.{Directory}
@@ -35,7 +35,7 @@ use Rattle.data_list.specs.declared.target.Walked.TheVariants as walked
 use Rattle.data_list.specs.declared.walk.Walk.{Walk}
 use Rattle.data_list.specs.Walks.{sighting_of, walk_from, walk_asks, walk_turned, walk_left, IsWalk}
 use Rattle.data_list.specs.Laws.{IsSighting}
-use Rattle.node_ops.specs.Calls.{IsCall, call_address, at_node}
+use Rattle.node_ops.specs.Calls.{IsCall, IsToldOf, call_address, at_node}
 use Rattle.tree_floor.specs.declared.floor.Floor.{Floor}
 use Rattle.tree_floor.specs.Floors.{IsFloor, floor_starts, floor_asks, floor_turned, floor_left}
 use Rattle.version_lock.specs.Versions.{IsLockWord}
@@ -252,8 +252,7 @@ pub record IsLookup (lookup : Lookup) : Type 0 where
   pub here : IsLookupAt lookup.call lookup.at
 
 abbrev pub lookup_takes : Lookup → ℕ → Type 0
-lookup_takes lookup got = IsLookup lookup ×
-    Told lookup.call.view.layout lookup.call.view.generation (lookup_asks lookup) got
+lookup_takes lookup got = IsLookup lookup × IsToldOf lookup.call (lookup_asks lookup) got
 
 -- a walk hops to twice as many nodes at most as there are, with ten actions at each; each candidate takes three actions
 -- at most, and the value one more

@@ -27,7 +27,7 @@ use Rattle.permutation.specs.Stores.{IsStore, store_asks, store_from, store_turn
 use Rattle.call_stages.specs.declared.once.Once.{Once}
 use Rattle.call_stages.specs.declared.once.Once.TheVariants as once
 use Rattle.call_stages.specs.declared.once.Placed.{Placed}
-use Rattle.call_stages.specs.Kinds.{Told, clock_address}
+use Rattle.call_stages.specs.Kinds.{clock_address}
 use Rattle.split_merge.specs.Plans.{put_in}
 use Rattle.node_ops.specs.declared.call.Call.{Call}
 use Rattle.node_ops.specs.declared.lookup.Hold.{Hold}
@@ -45,7 +45,7 @@ use Rattle.node_ops.specs.declared.part.Way.{Way}
 use Rattle.node_ops.specs.declared.part.Way.TheVariants as ways
 use Rattle.node_ops.specs.declared.part.Part.{Part}
 use Rattle.node_ops.specs.declared.part.Part.TheVariants as part
-use Rattle.node_ops.specs.Calls.{IsCall, call_address}
+use Rattle.node_ops.specs.Calls.{IsCall, IsToldOf, call_address}
 use Rattle.node_ops.specs.LookupSteps.{IsAtSeen, IsLocking, IsLookup, lookup_asks, lookup_turned, lookup_left}
 
 -- what stays the same while it is made
@@ -455,7 +455,7 @@ IsPart (part.Dating call seen count way) = IsThere call seen × IsFreely way × 
 IsPart (part.Reading reading) = IsReading reading
 
 abbrev pub part_takes : Part → ℕ → Type 0
-part_takes p got = IsPart p × Told (part_call p).view.layout (part_call p).view.generation (part_asks p) got
+part_takes p got = IsPart p × IsToldOf (part_call p) (part_asks p) got
 
 -- the words of each slot that is left, and the load of the version word, or the stores of the permutation and the one
 -- that gives the node back

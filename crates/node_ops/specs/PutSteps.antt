@@ -12,7 +12,6 @@ use Rattle.data_node.specs.Bits.{lowest_clear}
 use Rattle.call_stages.specs.declared.once.Once.{Once}
 use Rattle.call_stages.specs.declared.once.Once.TheVariants as once
 use Rattle.call_stages.specs.declared.once.Placed.{Placed}
-use Rattle.call_stages.specs.Kinds.{Told}
 use Rattle.node_ops.specs.declared.call.Call.{Call}
 use Rattle.node_ops.specs.declared.lookup.Hit.{Hit}
 use Rattle.node_ops.specs.declared.lookup.Hold.{Hold}
@@ -35,7 +34,7 @@ use Rattle.split_merge.specs.declared.splitting.Split.{Split}
 use Rattle.split_merge.specs.declared.splitting.SplitDone.{SplitDone}
 use Rattle.split_merge.specs.declared.splitting.SplitDone.TheVariants as done
 use Rattle.split_merge.specs.Splits.{IsSplit, LeadsIn, split_from, split_asks, split_turned, split_left}
-use Rattle.node_ops.specs.Calls.{IsCall, call_address}
+use Rattle.node_ops.specs.Calls.{IsCall, IsInside, IsToldOf, call_address}
 use Rattle.version_lock.specs.Versions.{IsLockWord}
 use Rattle.pm_words.specs.Fences.{line_of, fence_start}
 use Rattle.pm_words.specs.Offsets.{slot_offset, value_word}
@@ -153,14 +152,9 @@ pub record IsReplacing (of : Call) (hold : Hold) (bitmap : ℕ) (found : Hit) (n
   pub value : number < 2 ^ 64
 
 -- no slot is clear, and none has the name; the split is of the call's node
-pub record IsSplitting (of : Call) (hold : Hold) (bitmap : ℕ) (split : Split) : Type 0 where
-  pub call : IsCall of
-  pub locked : IsLockWord hold.locked
-  pub full : AreAllLive bitmap of.view.layout.slots
-  pub here : IsSplit split
-  pub view : split.view ≡ of.view
-  pub node : split.node ≡ of.node
-  pub word : split.word ≡ hold.locked
+abbrev pub IsSplitting : Call → Hold → ℕ → Split → Type 0
+IsSplitting of hold bitmap split =
+    IsInside of hold.locked split.view split.node split.word (IsSplit split) (AreAllLive bitmap of.view.layout.slots)
 
 -- what its fields keep
 abbrev pub IsPut : Put → Type 0
@@ -176,8 +170,7 @@ put_leads (Splitting call hold bitmap value split) got = LeadsIn split split.at 
 put_leads _ got = Unit {0}
 
 abbrev pub put_takes : Put → ℕ → Type 0
-put_takes put got =
-    IsPut put × Told (put_call put).view.layout (put_call put).view.generation (put_asks put) got × put_leads put got
+put_takes put got = IsPut put × IsToldOf (put_call put) (put_asks put) got × put_leads put got
 
 abbrev pub put_left : Put → ℕ
 put_left (Single (Looking lookup value)) = lookup_left lookup + 30057

@@ -6,10 +6,10 @@ use Rattle.pm_words.specs.declared.machine.Turn.TheVariants.{Go, Done}
 use Rattle.pm_words.specs.declared.layout.Layout.{Layout}
 use Rattle.call_stages.specs.declared.once.Once.{Once}
 use Rattle.call_stages.specs.declared.once.Placed.{Placed}
-use Rattle.call_stages.specs.Kinds.{Told}
 use Rattle.node_ops.specs.declared.call.Call.{Call}
 use Rattle.node_ops.specs.declared.running.Running.{Running}
 use Rattle.node_ops.specs.declared.running.Running.TheVariants.{Getting, Putting, Deleting, Parting}
+use Rattle.node_ops.specs.Calls.{IsToldOf}
 use Rattle.node_ops.specs.GetSteps.{IsGet, get_call, get_asks, get_turned, get_left}
 use Rattle.node_ops.specs.PutSteps.{IsPut, put_call, put_asks, put_turned, put_leads, put_left}
 use Rattle.node_ops.specs.DelSteps.{IsDel, del_call, del_asks, del_turned, del_leads, del_left}
@@ -61,9 +61,8 @@ running_leads (Deleting del) got = del_leads del got
 running_leads (Parting p) got = Unit {0}
 
 abbrev pub running_takes : Running → ℕ → Type 0
-running_takes running got = IsRunning running ×
-    Told (running_call running).view.layout (running_call running).view.generation (running_asks running) got ×
-    running_leads running got
+running_takes running got =
+    IsRunning running × IsToldOf (running_call running) (running_asks running) got × running_leads running got
 
 abbrev pub running_left : Running → ℕ
 running_left (Getting get) = get_left get
