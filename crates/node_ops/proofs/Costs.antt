@@ -74,7 +74,7 @@ use Rattle.permutation.specs.Stores.{store_turned}
 use Rattle.node_ops.specs.declared.part.Reading.{Reading}
 use Rattle.node_ops.specs.PartSteps.{IsPart, part_left, part_walked, part_ordered, part_held, part_looked, ordering_turned, seen_at, store_on, after_bitmap, after_word, with_word, reading_turned}
 use Rattle.node_ops.proofs.PartSound.{goes_call}
-use Rattle.node_ops.proofs.PartWalks.{IsOnWay, WalksOn, walks_on, walks_left}
+use Rattle.node_ops.proofs.PartWalks.{IsOnWay, WalksOn, on_way_is, walks_on, walks_left}
 use Rattle.node_ops.specs.RunningSteps.{running_turned, running_left, wrapped, wrapped_part}
 use Rattle.node_ops.proofs.Landings.{CallAfter, CallStays, fill_keeps, finish_keeps}
 use Rattle.node_ops.proofs.PartTurns.{ordered_is}
@@ -163,14 +163,29 @@ stays_view : (call : Call) (turn : Turn Lookup Looked) → StaysLanded call turn
 stays_view call (Go next) stays = ap (λ (c : Call). c.view) stays.1
 stays_view call (Done answer) stays = tt
 
+-- what holds of a look-up that takes its floor or walks, and of each that has landed
+pub landing_is : (P : LookupAt → Type 0) → ((floor : Floor) → P (look.Floor floor)) → ((walk : Walk) → P (look.Walk walk)) → ((at : LookupAt) → lookup_landed at ≡ true → P at)
+    → (at : LookupAt) → P at
+landing_is P floors walks landed (look.Floor floor) = floors floor
+landing_is P floors walks landed (look.Walk walk) = walks walk
+landing_is P floors walks landed (look.Read seen) = landed (look.Read seen) refl
+landing_is P floors walks landed (look.Lock seen locked) = landed (look.Lock seen locked) refl
+landing_is P floors walks landed (look.Clock locked) = landed (look.Clock locked) refl
+landing_is P floors walks landed (look.Spent hold) = landed (look.Spent hold) refl
+landing_is P floors walks landed (look.Bitmap hold) = landed (look.Bitmap hold) refl
+landing_is P floors walks landed (look.Prints hold bitmap prints k) = landed (look.Prints hold bitmap prints k) refl
+landing_is P floors walks landed (look.Name hold directory left slot k) = landed (look.Name hold directory left slot k) refl
+landing_is P floors walks landed (look.Value hold directory slot) = landed (look.Value hold directory slot) refl
+
 keeps_view : (call : Call) (at : LookupAt) (x : ℕ) → KeepsView call (lookup_at_turned call at x)
-keeps_view call (look.Floor floor) x = on (floor_turned floor x)
+keeps_view call at x =
+    landing_is (λ (a : LookupAt). KeepsView call (lookup_at_turned call a x)) (λ floor. floors (floor_turned floor x)) (λ walk. walks (walk_turned walk x))
+    (λ a is. stays_view call (lookup_at_turned call a x) (stays_landed call a x is)) at
   where
-    on : (turn : Turn Floor ℕ) → KeepsView call (floored call turn)
-    on (Go next) = refl
-    on (Done node) = refl
-keeps_view call (look.Walk walk) x = on (walk_turned walk x)
-  where
+    floors : (turn : Turn Floor ℕ) → KeepsView call (floored call turn)
+    floors (Go next) = refl
+    floors (Done node) = refl
+
     came : (target : Target) (limit : Option ℕ) → KeepsView call (came_by limit call target)
     came target None = refl
     came target (Some most) =
@@ -178,22 +193,18 @@ keeps_view call (look.Walk walk) x = on (walk_turned walk x)
         elim (is_worn_word target.version g) as (λ b. KeepsView call (cond b (ends (once.Worn target.node target.version))
         (goes_to (at_node call target.node target.hops) (look.Lock (sighting_of target) (locked_word g (kept_count target.version g)))))) [ true ↦ tt | false ↦ refl ]
 
-    on : (turn : Turn Walk Walked) → KeepsView call (walked_on call turn)
-    on (Go next) = refl
-    on (Done (walked.Again why)) = tt
-    on (Done (walked.Target target)) = came target call.limit
-keeps_view call (look.Read seen) x = stays_view call (lookup_at_turned call (look.Read seen) x) (stays_landed call (look.Read seen) x refl)
-keeps_view call (look.Lock seen locked) x = stays_view call (lookup_at_turned call (look.Lock seen locked) x) (stays_landed call (look.Lock seen locked) x refl)
-keeps_view call (look.Clock locked) x = stays_view call (lookup_at_turned call (look.Clock locked) x) (stays_landed call (look.Clock locked) x refl)
-keeps_view call (look.Spent hold) x = tt
-keeps_view call (look.Bitmap hold) x = refl
-keeps_view call (look.Prints hold bitmap prints k) x = stays_view call (lookup_at_turned call (look.Prints hold bitmap prints k) x) (stays_landed call (look.Prints hold bitmap prints k) x refl)
-keeps_view call (look.Name hold directory left slot k) x = stays_view call (lookup_at_turned call (look.Name hold directory left slot k) x) (stays_landed call (look.Name hold directory left slot k) x refl)
-keeps_view call (look.Value hold directory slot) x = tt
+    walks : (turn : Turn Walk Walked) → KeepsView call (walked_on call turn)
+    walks (Go next) = refl
+    walks (Done (walked.Again why)) = tt
+    walks (Done (walked.Target target)) = came target call.limit
 
 looks_spare : (lookup : Lookup) (x : ℕ) → IsLookupAt lookup.call lookup.at → GoesBelow {A = Looked} lookup_left (lookup_left lookup) (lookup_turned lookup x)
     → LookSpares (lookup_left lookup) (look_spared lookup) (hops_spared lookup.call) (lookup_turned lookup x)
-looks_spare lookup x here fewer = at lookup.at here fewer
+looks_spare lookup x here fewer =
+    landing_is (λ (at : LookupAt). IsLookupAt call at → GoesBelow {A = Looked} lookup_left (lookup_at_left call.view.layout.slots at) (lookup_at_turned call at x)
+    → LookSpares (lookup_at_left call.view.layout.slots at) (cond (lookup_landed at) (hops_spared call) 0) (hops_spared call) (lookup_at_turned call at x))
+    (λ floor sound less. floor_spares call (lookup_at_left call.view.layout.slots (look.Floor floor)) (floor_turned floor x) less)
+    (λ walk sound less. walk_spares call walk x (walk_turned walk x) sound.layout (walks_hop walk x sound.sound) less) (λ at is sound less. landed at is less) lookup.at here fewer
   where
     call : Call
     call = lookup.call
@@ -202,19 +213,6 @@ looks_spare lookup x here fewer = at lookup.at here fewer
         → LookSpares (lookup_at_left call.view.layout.slots at) (cond (lookup_landed at) (hops_spared call) 0) (hops_spared call) (lookup_at_turned call at x)
     landed at is fewer = subst (λ (b : Bool). LookSpares (lookup_at_left call.view.layout.slots at) (cond b (hops_spared call) 0) (hops_spared call) (lookup_at_turned call at x)) (sym is)
         (landed_spares call (lookup_at_left call.view.layout.slots at) (lookup_at_turned call at x) (stays_landed call at x is) fewer)
-
-    at : (at : LookupAt) → IsLookupAt call at → GoesBelow {A = Looked} lookup_left (lookup_at_left call.view.layout.slots at) (lookup_at_turned call at x)
-        → LookSpares (lookup_at_left call.view.layout.slots at) (cond (lookup_landed at) (hops_spared call) 0) (hops_spared call) (lookup_at_turned call at x)
-    at (look.Floor floor) here fewer = floor_spares call (lookup_at_left call.view.layout.slots (look.Floor floor)) (floor_turned floor x) fewer
-    at (look.Walk walk) here fewer = walk_spares call walk x (walk_turned walk x) here.layout (walks_hop walk x here.sound) fewer
-    at (look.Read seen) here fewer = landed (look.Read seen) refl fewer
-    at (look.Lock seen locked) here fewer = landed (look.Lock seen locked) refl fewer
-    at (look.Clock locked) here fewer = landed (look.Clock locked) refl fewer
-    at (look.Spent hold) here fewer = landed (look.Spent hold) refl fewer
-    at (look.Bitmap hold) here fewer = landed (look.Bitmap hold) refl fewer
-    at (look.Prints hold bitmap prints k) here fewer = landed (look.Prints hold bitmap prints k) refl fewer
-    at (look.Name hold directory left slot k) here fewer = landed (look.Name hold directory left slot k) refl fewer
-    at (look.Value hold directory slot) here fewer = landed (look.Value hold directory slot) refl fewer
 
 -- what a turn leaves, and spares, of any call
 abbrev Spares : ℕ → Turn Running (Once Placed) → Type 0
@@ -259,18 +257,18 @@ put_spares (put.Single (single_put.Filling fill)) x sound fewer = at (fill_turne
     at (Go next) same fewer = let hops : hops_spared next.call ≡ hops_spared fill.call = ap hops_spared same in omega (arith, fewer, hops)
     at (Done finish) same fewer = let hops : hops_spared finish.call ≡ hops_spared fill.call = ap hops_spared same in omega (arith, fewer, hops)
 put_spares (put.Single (single_put.Replacing call hold bitmap hit value)) x sound fewer = omega (arith, fewer)
-put_spares (put.Single (single_put.Finishing finish)) x sound fewer = at (finish_turned finish x) (finish_keeps finish x) fewer
-  where
-    at : (turn : Turn Finish (Once Placed)) → CallStays finish.call turn → GoesBelow {A = Once Placed} running_left (finish_left finish) (wrapped Putting (put_finished turn))
-        → Spares (finish_left finish + (hops_spared finish.call + 30000)) (wrapped Putting (put_finished turn))
-    at (Go next) same fewer = let hops : hops_spared next.call ≡ hops_spared finish.call = ap hops_spared same in omega (arith, fewer, hops)
-    at (Done answer) same fewer = tt
-put_spares (put.Splitting call hold bitmap value split) x sound fewer = at (split_turned split x) fewer
-  where
-    at : (turn : Turn Split SplitDone) → GoesBelow {A = Once Placed} running_left (split_left split) (wrapped Putting (put_split call hold bitmap value turn))
-        → Spares (split_left split + (hops_spared call + 0)) (wrapped Putting (put_split call hold bitmap value turn))
-    at (Go next) fewer = omega (arith, fewer)
-    at (Done answer) fewer = tt
+put_spares (put.Single (single_put.Finishing finish)) x sound fewer =
+    elim (finish_turned finish x) as (λ (turn : Turn Finish (Once Placed)). CallStays finish.call turn → GoesBelow {A = Once Placed} running_left (finish_left finish) (wrapped Putting (put_finished turn))
+    → Spares (finish_left finish + (hops_spared finish.call + 30000)) (wrapped Putting (put_finished turn))) [
+      | Go next ↦ λ same less. let hops : hops_spared next.call ≡ hops_spared finish.call = ap hops_spared same in omega (arith, less, hops)
+      | Done answer ↦ λ same less. tt
+    ] (finish_keeps finish x) fewer
+put_spares (put.Splitting call hold bitmap value split) x sound fewer =
+    elim (split_turned split x) as (λ (turn : Turn Split SplitDone). GoesBelow {A = Once Placed} running_left (split_left split) (wrapped Putting (put_split call hold bitmap value turn))
+    → Spares (split_left split + (hops_spared call + 0)) (wrapped Putting (put_split call hold bitmap value turn))) [
+      | Go next ↦ λ less. omega (arith, less)
+      | Done answer ↦ λ less. tt
+    ] fewer
 
 del_spares : (del : Del) (x : ℕ) → IsDel del → GoesBelow {A = Once Placed} running_left (del_left del) (running_turned (Deleting del) x) → Spares (del_left del + spared (Deleting del)) (running_turned (Deleting del) x)
 del_spares (del.Single (single_del.Looking lookup)) x sound fewer = at (lookup_turned lookup x) (looks_spare lookup x sound.0.here) fewer
@@ -325,12 +323,12 @@ del_spares (del.Single (single_del.Finishing finish line)) x sound fewer = at (f
         → Spares (del_left (del.Single (single_del.Finishing finish line)) + (hops_spared finish.call + 0)) (wrapped Deleting (del_finished line turn))
     at (Go next) same fewer = let more = on next line same in omega (arith, fewer, more)
     at (Done answer) same fewer = tt
-del_spares (del.Merging call hold old place merge) x sound fewer = at (merge_turned merge x) fewer
-  where
-    at : (turn : Turn Merge Merged) → GoesBelow {A = Once Placed} running_left (merge_left merge) (wrapped Deleting (del_merged call hold old place turn))
-        → Spares (merge_left merge + (hops_spared call + 0)) (wrapped Deleting (del_merged call hold old place turn))
-    at (Go next) fewer = omega (arith, fewer)
-    at (Done merged) fewer = tt
+del_spares (del.Merging call hold old place merge) x sound fewer =
+    elim (merge_turned merge x) as (λ (turn : Turn Merge Merged). GoesBelow {A = Once Placed} running_left (merge_left merge) (wrapped Deleting (del_merged call hold old place turn))
+    → Spares (merge_left merge + (hops_spared call + 0)) (wrapped Deleting (del_merged call hold old place turn))) [
+      | Go next ↦ λ less. omega (arith, less)
+      | Done merged ↦ λ less. tt
+    ] fewer
 
 part_spares : (p : Part) (x : ℕ) → IsPart p → GoesBelow {A = Once Placed} running_left (part_left p) (running_turned (Parting p) x) → Spares (part_left p + spared (Parting p)) (running_turned (Parting p) x)
 part_spares (part.Looking lookup count) x sound fewer = at (lookup_turned lookup x) (walks_on lookup.call lookup.at x sound.1 sound.2) (looks_spare lookup x sound.0.here) (keeps_view lookup.call lookup.at x) fewer
@@ -342,16 +340,14 @@ part_spares (part.Looking lookup count) x sound fewer = at (lookup_turned lookup
         → next.view.layout.slots ≡ lookup.call.view.layout.slots
         → GoesBelow {A = Once Placed} running_left (part_left (part.Looking lookup count)) (wrapped_part (Go (part_walked (record { call = next; at = at }) count (seen_at at))))
         → Spares (part_left (part.Looking lookup count) + (look_spared lookup + 0)) (wrapped_part (Go (part_walked (record { call = next; at = at }) count (seen_at at))))
-    goes next (look.Floor floor) way spares slots fewer = let less : lookup_at_left next.view.layout.slots (look.Floor floor) < lookup_left lookup = omega (arith, fewer, slots) in omega (arith, spares less, slots)
-    goes next (look.Walk walk) way spares slots fewer = let less : lookup_at_left next.view.layout.slots (look.Walk walk) < lookup_left lookup = omega (arith, fewer, slots) in omega (arith, spares less, slots)
-    goes next (look.Read seen) way spares slots fewer = let less : 3 * next.view.layout.slots + 11 < lookup_left lookup = omega (arith, walks_left lookup.call lookup.at sound.2, slots) in omega (arith, spares less, slots, few)
-    goes next (look.Lock seen locked) way spares slots fewer = absurd way
-    goes next (look.Clock locked) way spares slots fewer = absurd way
-    goes next (look.Spent hold) way spares slots fewer = absurd way
-    goes next (look.Bitmap hold) way spares slots fewer = absurd way
-    goes next (look.Prints hold bitmap prints k) way spares slots fewer = absurd way
-    goes next (look.Name hold directory left slot k) way spares slots fewer = absurd way
-    goes next (look.Value hold directory slot) way spares slots fewer = absurd way
+    goes next =
+        on_way_is (λ (at : LookupAt). (lookup_at_left next.view.layout.slots at < lookup_left lookup → lookup_at_left next.view.layout.slots at + cond (lookup_landed at) (hops_spared next) 0 < lookup_left lookup + look_spared lookup)
+        → next.view.layout.slots ≡ lookup.call.view.layout.slots
+        → GoesBelow {A = Once Placed} running_left (part_left (part.Looking lookup count)) (wrapped_part (Go (part_walked (record { call = next; at = at }) count (seen_at at))))
+        → Spares (part_left (part.Looking lookup count) + (look_spared lookup + 0)) (wrapped_part (Go (part_walked (record { call = next; at = at }) count (seen_at at)))))
+        (λ floor spares slots fewer. let less : lookup_at_left next.view.layout.slots (look.Floor floor) < lookup_left lookup = omega (arith, fewer, slots) in omega (arith, spares less, slots))
+        (λ walk spares slots fewer. let less : lookup_at_left next.view.layout.slots (look.Walk walk) < lookup_left lookup = omega (arith, fewer, slots) in omega (arith, spares less, slots))
+        (λ seen spares slots fewer. let less : 3 * next.view.layout.slots + 11 < lookup_left lookup = omega (arith, walks_left lookup.call lookup.at sound.2, slots) in omega (arith, spares less, slots, few))
 
     at : (turn : Turn Lookup Looked) → WalksOn turn → (GoesBelow {A = Looked} lookup_left (lookup_left lookup) turn → LookSpares (lookup_left lookup) (look_spared lookup) (hops_spared lookup.call) turn)
         → KeepsView lookup.call turn

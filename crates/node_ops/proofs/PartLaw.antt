@@ -46,7 +46,6 @@ use Rattle.permutation.proofs.Sorted.{orders_are}
 use Rattle.permutation.proofs.Stores.{stores_are}
 use Rattle.node_ops.specs.declared.call.Call.{Call}
 use Rattle.node_ops.specs.declared.lookup.LookupAt.{LookupAt}
-use Rattle.node_ops.specs.declared.lookup.LookupAt.TheVariants as look
 use Rattle.node_ops.specs.declared.lookup.Looked.{Looked}
 use Rattle.node_ops.specs.declared.lookup.Looked.TheVariants as looked
 use Rattle.node_ops.specs.declared.lookup.Lookup.{Lookup}
@@ -69,7 +68,7 @@ use Rattle.node_ops.proofs.LookupLaw.{PlainStep, steps, loads_permutation, Leads
 use Rattle.node_ops.proofs.LookupSound.{lock_word}
 use Rattle.node_ops.proofs.PartOrder.{live_order_moves, live_order_sorted}
 use Rattle.node_ops.proofs.PartSound.{IsReadingBut, but, entry_here, entry_other, with_it, with_sound, within, words_made, words_same}
-use Rattle.node_ops.proofs.PartWalks.{WalksOn, IsOnWay, walks_on}
+use Rattle.node_ops.proofs.PartWalks.{WalksOn, IsOnWay, on_way_is, walks_on}
 use Rattle.node_ops.proofs.Endings.{LooksEnd, looks_end, early_placed}
 use Rattle.node_ops.proofs.PartTurns.{ordered_is}
 
@@ -347,16 +346,9 @@ PartGoes p x = (Parts (part_call p) (part_stage p) (part_asks p) x (part_turned 
 module _ (start : Call) (stage : Stage) (action : Action) (x count : ℕ) where
   came_leads : (call : Call) (at : LookupAt) → IsOnWay at → PlainStep start.view.layout start.view.generation stage action x (lookup_at_stage (live_sight []) call at) None
       → Parts start stage action x (Go (part_walked (record { call = call; at = at }) count (seen_at at)))
-  came_leads call (look.Floor floor) way step = step
-  came_leads call (look.Walk walk) way step = step
-  came_leads call (look.Read seen) way step = step
-  came_leads call (look.Lock seen locked) way step = absurd way
-  came_leads call (look.Clock locked) way step = absurd way
-  came_leads call (look.Spent hold) way step = absurd way
-  came_leads call (look.Bitmap hold) way step = absurd way
-  came_leads call (look.Prints hold bitmap prints k) way step = absurd way
-  came_leads call (look.Name hold directory left slot k) way step = absurd way
-  came_leads call (look.Value hold directory slot) way step = absurd way
+  came_leads call =
+      on_way_is (λ (at : LookupAt). PlainStep start.view.layout start.view.generation stage action x (lookup_at_stage (live_sight []) call at) None
+      → Parts start stage action x (Go (part_walked (record { call = call; at = at }) count (seen_at at)))) (λ floor step. step) (λ walk step. step) (λ seen step. step)
 
   looked_leads : (turn : Turn Lookup Looked) → WalksOn turn → LooksEnd start.limit turn → Leads (live_sight []) start stage action x turn → Parts start stage action x (part_looked count turn)
   looked_leads (Go lookup) way ends step = came_leads lookup.call lookup.at way step
@@ -478,7 +470,7 @@ reading_leads reading at.Clock x sound = inl (steps (by reading.way sound.here),
 reading_leads reading at.Bitmap x sound =
     let then_reading = record reading { at = at.Bitmap; bitmap = x } in
     let slots = reading.call.view.layout.slots in
-    let others : IsReadingBut then_reading = record { call = sound.call; reads = sound.reads; behind = sound.behind; room = sound.room; locked = sound.locked; many = sound.many; wide = sound.wide } in
+    let others : IsReadingBut then_reading = record { call = sound.call; reads = sound.reads; behind = sound.behind; room = sound.room; locked = sound.locked; many = sound.many; wide = sound.wide; here = tt } in
     inl (
       steps (goes_leads then_reading others nothing bitmap_offset x (omega arith) (omega arith) (next_at x 0 slots)
           (λ s known is. (is, next_at_loaded s reading.entries x slots 0 (omega arith) (λ other below live. absurd (omega arith))))),

@@ -26,7 +26,6 @@ use Rattle.node_ops.specs.declared.lookup.Looked.{Looked}
 use Rattle.node_ops.specs.declared.lookup.Looked.TheVariants as looked
 use Rattle.node_ops.specs.declared.lookup.Lookup.{Lookup}
 use Rattle.node_ops.specs.declared.lookup.LookupAt.{LookupAt}
-use Rattle.node_ops.specs.declared.lookup.LookupAt.TheVariants as look
 use Rattle.node_ops.specs.declared.part.Reading.{Reading}
 use Rattle.node_ops.specs.declared.part.ReadingAt.{ReadingAt}
 use Rattle.node_ops.specs.declared.part.ReadingAt.TheVariants as at
@@ -42,7 +41,7 @@ use Rattle.node_ops.specs.PartSteps.{no_entry, entry_in, entry_name, with_word, 
 use Rattle.node_ops.proofs.LookupSound.{SoundLooked, lock_word, lookup_stays, Stays}
 use Rattle.node_ops.proofs.PartTurns.{goes_is}
 use Rattle.node_ops.proofs.PartOrder.{live_order_few, live_order_within}
-use Rattle.node_ops.proofs.PartWalks.{WalksOn, IsOnWay, walks_on}
+use Rattle.node_ops.proofs.PartWalks.{WalksOn, IsOnWay, on_way_is, walks_on}
 
 -- the words of the slot, and of each other one
 pub entry_here : (entries : List (List ℕ)) (slot word got : ℕ) → slot < length entries → entry_in (with_word entries slot word got) slot ≡ set (entry_in entries slot) word got
@@ -66,15 +65,9 @@ words_made reading limit =
     words_have_slots (live_order before reading.bitmap slots) (omega arith) (λ k within.
     let small = all_at (λ slot. slot < slots) (live_order before reading.bitmap slots) (live_order_within before reading.bitmap slots) k within in omega arith)
 
--- what the fields of a reading keep, wherever it is
-pub record IsReadingBut (reading : Reading) : Type 0 where
-  pub call : IsCall reading.call
-  pub reads : reading.call.limit ≡ None
-  pub behind : IfSome reading.behind (λ next. next.node ≢ 0)
-  pub room : HasRoom reading.way
-  pub locked : IsWordBy reading.way reading.hold.locked
-  pub many : length reading.entries ≡ 64
-  pub wide : (slot : ℕ) → slot < 64 → length (entry_in reading.entries slot) ≡ 4
+-- what the fields of a reading keep, wherever it is, as where it loads the bitmap
+abbrev pub IsReadingBut : Reading → Type 0
+IsReadingBut reading = IsReading (record reading { at = at.Bitmap })
 
 -- so it is one wherever it stands, whatever it knows of its low name
 reads_at : (reading : Reading) (old : Option ℕ) (at : ReadingAt) → IsReadingBut reading → IsReadingAt (record reading { old = old; at = at }) at → IsReading (record reading { old = old; at = at })
@@ -148,6 +141,7 @@ module _ (reading : Reading) (sound : IsReadingBut reading) (slot word got : ℕ
               (ap length (entry_here reading.entries slot word got within) ∙ length-set (entry_in reading.entries slot) word got ∙ subst (λ o. length (entry_in reading.entries o) ≡ 4) same (sound.wide other small))
           | inr apart ↦ ap length (entry_other reading.entries slot word got other apart) ∙ sound.wide other small
         ];
+        here = tt;
       }
 
   pub after_sound : IsReading (after_word reading slot word got)
@@ -186,25 +180,18 @@ module _ (start : Call) (count : ℕ) where
   StaysSo p = Stays IsPart part_call start (placed_turn (Go p))
 
   came_stays : (call : Call) (at : LookupAt) → IsOnWay at → IsLookup (record { call = call; at = at }) → call.limit ≡ None → call ≡ record start { node = call.node; hops = call.hops } → StaysSo (part_walked (record { call = call; at = at }) count (seen_at at))
-  came_stays call (look.Floor floor) way sound read same = ((sound, read, tt), same)
-  came_stays call (look.Walk walk) way sound read same = ((sound, read, tt), same)
-  came_stays call (look.Read seen) way sound read same = (
-    record {
-      there = record { sound = sound.call; is = sound.here };
-      loads = record { layout = sound.call.view.layout; node = sound.call.node; room = length-replicate {A = ℕ} 8 0; here = tt };
-      layout = refl;
-      node = refl;
-      version = refl;
-    },
-    same,
-  )
-  came_stays call (look.Lock seen locked) way sound read same = absurd way
-  came_stays call (look.Clock locked) way sound read same = absurd way
-  came_stays call (look.Spent hold) way sound read same = absurd way
-  came_stays call (look.Bitmap hold) way sound read same = absurd way
-  came_stays call (look.Prints hold bitmap prints k) way sound read same = absurd way
-  came_stays call (look.Name hold directory left slot k) way sound read same = absurd way
-  came_stays call (look.Value hold directory slot) way sound read same = absurd way
+  came_stays call =
+      on_way_is (λ (at : LookupAt). IsLookup (record { call = call; at = at }) → call.limit ≡ None → call ≡ record start { node = call.node; hops = call.hops } → StaysSo (part_walked (record { call = call; at = at }) count (seen_at at)))
+      (λ floor sound read same. ((sound, read, tt), same)) (λ walk sound read same. ((sound, read, tt), same)) (λ seen sound read same. (
+        record {
+          there = record { sound = sound.call; is = sound.here };
+          loads = record { layout = sound.call.view.layout; node = sound.call.node; room = length-replicate {A = ℕ} 8 0; here = tt };
+          layout = refl;
+          node = refl;
+          version = refl;
+        },
+        same,
+      ))
 
   looked_stays : (turn : Turn Lookup Looked) → start.limit ≡ None → WalksOn turn → SoundLooked start turn → Stays IsPart part_call start (placed_turn (part_looked count turn))
   looked_stays (Go lookup) read way stays = came_stays lookup.call lookup.at way stays.0 (ap (λ (c : Call). c.limit) stays.1 ∙ read) stays.1
@@ -279,7 +266,7 @@ store_stays reading store x sound storing sorted =
     ] refl
 
 pub but : (reading : Reading) → IsReading reading → IsReadingBut reading
-but reading sound = record { call = sound.call; reads = sound.reads; behind = sound.behind; room = sound.room; locked = sound.locked; many = sound.many; wide = sound.wide }
+but reading sound = record { call = sound.call; reads = sound.reads; behind = sound.behind; room = sound.room; locked = sound.locked; many = sound.many; wide = sound.wide; here = tt }
 
 -- the call stays
 loaded_call : (reading : Reading) (way : Way) → (sorted_by reading way).call ≡ reading.call
@@ -304,7 +291,7 @@ reading_stays reading at.Clock x sound = (
 )
 reading_stays reading at.Bitmap x sound =
     let then_reading = record reading { at = at.Bitmap; bitmap = x } in (
-      next_at_sound then_reading 0 (omega arith) (record { call = sound.call; reads = sound.reads; behind = sound.behind; room = sound.room; locked = sound.locked; many = sound.many; wide = sound.wide }),
+      next_at_sound then_reading 0 (omega arith) (record { call = sound.call; reads = sound.reads; behind = sound.behind; room = sound.room; locked = sound.locked; many = sound.many; wide = sound.wide; here = tt }),
       same_call _ reading.call (goes_call then_reading (next_at x 0 reading.call.view.layout.slots)),
     )
 reading_stays reading (at.Load slot word) x sound =

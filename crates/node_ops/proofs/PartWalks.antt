@@ -6,6 +6,7 @@ use Rattle.tree_floor.specs.declared.floor.Floor.{Floor}
 use Rattle.tree_floor.specs.Floors.{floor_turned}
 use Rattle.data_list.specs.declared.target.Walked.{Walked}
 use Rattle.data_list.specs.declared.target.Walked.TheVariants as walked
+use Rattle.data_list.specs.declared.target.Sighting.{Sighting}
 use Rattle.data_list.specs.declared.walk.Walk.{Walk}
 use Rattle.data_list.specs.Walks.{walk_turned}
 use Rattle.node_ops.specs.declared.call.Call.{Call}
@@ -28,6 +29,20 @@ abbrev pub WalksOn : Turn Lookup Looked → Type 0
 WalksOn (Go lookup) = IsOnWay lookup.at
 WalksOn (Done (looked.Early answer)) = Unit {0}
 WalksOn (Done (looked.Found found)) = ⊥
+
+-- what holds of each of these holds as long as it is on its way
+pub on_way_is : (P : LookupAt → Type 0) → ((floor : Floor) → P (look.Floor floor)) → ((walk : Walk) → P (look.Walk walk)) → ((seen : Sighting) → P (look.Read seen))
+    → (at : LookupAt) → IsOnWay at → P at
+on_way_is P floors walks reads (look.Floor floor) way = floors floor
+on_way_is P floors walks reads (look.Walk walk) way = walks walk
+on_way_is P floors walks reads (look.Read seen) way = reads seen
+on_way_is P floors walks reads (look.Lock seen locked) way = absurd way
+on_way_is P floors walks reads (look.Clock locked) way = absurd way
+on_way_is P floors walks reads (look.Spent hold) way = absurd way
+on_way_is P floors walks reads (look.Bitmap hold) way = absurd way
+on_way_is P floors walks reads (look.Prints hold bitmap prints k) way = absurd way
+on_way_is P floors walks reads (look.Name hold directory left slot k) way = absurd way
+on_way_is P floors walks reads (look.Value hold directory slot) way = absurd way
 
 floors_on : (call : Call) (turn : Turn Floor ℕ) → WalksOn (floored call turn)
 floors_on call (Go floor) = tt
