@@ -1,5 +1,5 @@
 -- The parts of a delete that make several turns one after another, as turns of the whole.
-use Rattle.std.proofs.Common.{◌≡◌, ℕ, ◌+◌, refl, ap, sym, subst, arith}
+use Rattle.std.proofs.Common.{◌≡◌, ℕ, ◌+◌, refl, ap, arith}
 use Rattle.std.specs.Prelude.{Option, Some, None}
 use Rattle.pm_words.specs.Images.{Row}
 use Rattle.pm_words.specs.Turns.{GoesBelow, turn_of}
@@ -7,8 +7,8 @@ use Rattle.pm_words.specs.declared.machine.Turn.{Turn}
 use Rattle.pm_words.specs.declared.machine.Turn.TheVariants.{Go, Done}
 use Rattle.call_stages.specs.declared.once.Once.{Once}
 use Rattle.call_stages.specs.declared.once.Placed.{Placed}
-use Rattle.machine_runs.specs.Runs.{AddsNothing, Holds, Bursts, MayGo}
-use Rattle.machine_runs.proofs.Inside.{part_may, part_bursts}
+use Rattle.machine_runs.specs.Runs.{Holds, Bursts, MayGo}
+use Rattle.machine_runs.proofs.Inside.{part_may}
 use Rattle.node_ops.specs.declared.call.Call.{Call}
 use Rattle.node_ops.specs.declared.lookup.Found.{Found}
 use Rattle.node_ops.specs.declared.lookup.Lookup.{Lookup}
@@ -85,20 +85,3 @@ module _ (s : SingleDel) (lookup : Lookup) (is : s ≡ Looking lookup) {old : Ro
       → Bursts del_asks del_turned del_left old new (Single s) end begun ended
   del_looking_bursts b to =
       looking_bursts looking_del del_looked (λ l number. refl) (λ call l. refl) single_is may b to
-
-pub del_finishing_may : (s : SingleDel) (finish : Finish) → s ≡ Finishing finish None → {old : Row}
-    → MayGo del_asks del_turned del_left del_takes old.layout old.words (Single s)
-    → MayGo finish_asks finish_turned finish_left finish_takes old.layout old.words finish
-del_finishing_may s finish is may = part_may finishing_del (ap (λ (x : SingleDel). Single x) is) may
-
-pub del_finishing_bursts : (s : SingleDel) (finish : Finish) → s ≡ Finishing finish None → {old new : Row}
-    {begun ended : ℕ} → MayGo del_asks del_turned del_left del_takes old.layout old.words (Single s)
-    → (last : Finish) (answer : Option (Once Placed))
-    → Bursts finish_asks finish_turned finish_left old new finish (turn_of last answer) begun ended
-    → Bursts del_asks del_turned del_left old new (Single s) (del_finished None (turn_of last answer)) begun ended
-del_finishing_bursts s finish is may last answer b =
-    part_bursts finishing_del (ap (λ (x : SingleDel). Single x) is) may b (ap (del_finished None) (sym b.ends))
-
-pub del_finishing_adds : (s : SingleDel) (finish : Finish) → s ≡ Finishing finish None
-    → AddsNothing (del_asks (Single s)) → AddsNothing (finish_asks finish)
-del_finishing_adds s finish is = subst (λ (x : SingleDel). AddsNothing (del_asks (Single x))) is

@@ -30,7 +30,7 @@ use Rattle.node_ops.specs.declared.single_put.SinglePut.{SinglePut}
 use Rattle.node_ops.specs.declared.single_put.SinglePut.TheVariants.{Looking, Filling, Replacing, Finishing}
 use Rattle.node_ops.specs.Calls.{IsCall}
 use Rattle.node_ops.specs.LookupSteps.{IsFoundBy, lookup_asks, lookup_turned, lookup_left, lookup_takes}
-use Rattle.node_ops.specs.FillSteps.{filled, fill_asks, fill_turned, fill_left, fill_takes}
+use Rattle.node_ops.specs.FillSteps.{fill_asks, fill_turned, fill_left, fill_takes}
 use Rattle.node_ops.specs.FillSteps.{fill_at_left, fill_at_turned}
 use Rattle.node_ops.specs.FinishSteps.{finish_asks, finish_turned, finish_left, finish_takes}
 use Rattle.node_ops.specs.PutSteps.{put_asks, put_turned, put_left, put_takes}
@@ -127,31 +127,6 @@ module _ (s : SinglePut) (lookup : Lookup) (value : ℕ) (is : s ≡ Looking loo
   put_looking_bursts b to =
       looking_bursts (looking_put value) (λ (call : Call). put_looked call value) (λ l number. refl) (λ call l. refl)
       single_is may b to
-
-pub put_filling_may : (s : SinglePut) (fill : Fill) → s ≡ Filling fill → {old : Row}
-    → MayGo put_asks put_turned put_left put_takes old.layout old.words (Single s)
-    → MayGo fill_asks fill_turned fill_left fill_takes old.layout old.words fill
-put_filling_may s fill is may = part_may filling_put (ap (λ (x : SinglePut). Single x) is) may
-
-pub put_filling_bursts : (s : SinglePut) (fill : Fill) → s ≡ Filling fill → {old new : Row} {begun ended : ℕ}
-    → MayGo put_asks put_turned put_left put_takes old.layout old.words (Single s)
-    → (last : Fill) → Bursts fill_asks fill_turned fill_left old new fill (Done (filled last)) begun ended
-    → Bursts put_asks put_turned put_left old new (Single s) (Go (Single (Finishing (filled last)))) begun ended
-put_filling_bursts s fill is may last b =
-    part_bursts filling_put (ap (λ (x : SinglePut). Single x) is) may b (ap put_filled (sym b.ends))
-
-pub put_finishing_may : (s : SinglePut) (finish : Finish) → s ≡ Finishing finish → {old : Row}
-    → MayGo put_asks put_turned put_left put_takes old.layout old.words (Single s)
-    → MayGo finish_asks finish_turned finish_left finish_takes old.layout old.words finish
-put_finishing_may s finish is may = part_may finishing_put (ap (λ (x : SinglePut). Single x) is) may
-
-pub put_finishing_bursts : (s : SinglePut) (finish : Finish) → s ≡ Finishing finish → {old new : Row} {begun ended : ℕ}
-    → MayGo put_asks put_turned put_left put_takes old.layout old.words (Single s)
-    → (last : Finish) (answer : Option (Once Placed))
-    → Bursts finish_asks finish_turned finish_left old new finish (turn_of last answer) begun ended
-    → Bursts put_asks put_turned put_left old new (Single s) (put_finished (turn_of last answer)) begun ended
-put_finishing_bursts s finish is may last answer b =
-    part_bursts finishing_put (ap (λ (x : SinglePut). Single x) is) may b (ap put_finished (sym b.ends))
 
 -- a put that has found a slot whose value it replaces, and goes on from there
 found_replaces : (call : Call) (found : Found) (value : ℕ) (clear : Option ℕ) (hit : Hit)

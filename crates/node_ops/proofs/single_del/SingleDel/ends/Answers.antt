@@ -1,29 +1,31 @@
 use Rattle.std.proofs.Common.{ℕ, sym, refl, ap, subst}
-use Rattle.std.specs.Prelude.{Option, Some, None}
+use Rattle.std.specs.Prelude.{Option, None}
 use Rattle.pm_words.specs.declared.machine.Turn.TheVariants.{Go, Done}
+use Rattle.machine_runs.specs.Runs.{AddsNothing}
+use Rattle.machine_runs.proofs.Inside.{part_bursts, part_may}
 use Rattle.machine_runs.proofs.Running.{run_begins, run_can, run_ends, run_takes}
 use Rattle.node_ops.specs.declared.del.Del.TheVariants.{Single}
 use Rattle.node_ops.specs.declared.single_del.SingleDel.TheVariants.{Finishing}
-use Rattle.node_ops.specs.DelSteps.{SingleDelTurns, del_takes, del_turned}
-use Rattle.node_ops.proofs.DelBursts.{del_finishing_may, del_finishing_adds, del_finishing_bursts}
+use Rattle.node_ops.specs.DelSteps.{SingleDelTurns, del_asks, del_finished, del_takes, del_turned}
+use Rattle.node_ops.proofs.DelBursts.{finishing_del}
 use Rattle.node_ops.proofs.single_del.SingleDel.ends.Goals as goal
 
 pub burst-requires-clause-may : goal.burst-requires-clause-may
 burst-requires-clause-may g c =
-    del_finishing_may (Finishing c.args.finish.now c.args.line) c.args.finish.now
-    (ap (λ (l : Option ℕ). Finishing c.args.finish.now l) c.in-None.is) {old = c.args.memory.now} c.requires.may
+    part_may finishing_del (ap (λ (l : Option ℕ). Single (Finishing c.args.finish.now l)) c.in-None.is)
+    {old = c.args.memory.now} c.requires.may
 
 pub burst-requires-clause-adds : goal.burst-requires-clause-adds
 burst-requires-clause-adds g c =
-    del_finishing_adds (Finishing c.args.finish.now c.args.line) c.args.finish.now
-    (ap (λ (l : Option ℕ). Finishing c.args.finish.now l) c.in-None.is) c.requires.adds
+    subst (λ (l : Option ℕ). AddsNothing (del_asks (Single (Finishing c.args.finish.now l)))) c.in-None.is
+    c.requires.adds
 
 pub returns-in_err-answer-in-None : goal.returns-in_err-answer-in-None
 returns-in_err-answer-in-None g c = record {
   end = Go (Single (Finishing c.burst.new.self None));
-  burst = del_finishing_bursts (Finishing c.args.finish.now c.args.line) c.args.finish.now
-      (ap (λ (l : Option ℕ). Finishing c.args.finish.now l) c.in-None.is) c.requires.may c.burst.new.self None
-      c.in_err-answer-in-None.ensures;
+  burst = part_bursts finishing_del (ap (λ (l : Option ℕ). Single (Finishing c.args.finish.now l)) c.in-None.is)
+      c.requires.may c.in_err-answer-in-None.ensures
+      (ap (del_finished None) (sym c.in_err-answer-in-None.ensures.ends));
   turns = subst (SingleDelTurns (Go (Single (Finishing c.burst.new.self None)))
       (Finishing c.burst.new.self c.args.line)) (sym c.from_residual.ensures)
       (ap (λ (l : Option ℕ). Go (Single (Finishing c.burst.new.self l))) (sym c.in-None.is));
@@ -32,9 +34,9 @@ returns-in_err-answer-in-None g c = record {
 pub returns-in_ok-answer-in-None : goal.returns-in_ok-answer-in-None
 returns-in_ok-answer-in-None g c = record {
   end = Done c.in_ok-answer-in-None.answer;
-  burst = del_finishing_bursts (Finishing c.args.finish.now c.args.line) c.args.finish.now
-      (ap (λ (l : Option ℕ). Finishing c.args.finish.now l) c.in-None.is) c.requires.may c.burst.new.self
-      (Some c.in_ok-answer-in-None.answer) c.in_ok-answer-in-None.ensures;
+  burst = part_bursts finishing_del (ap (λ (l : Option ℕ). Single (Finishing c.args.finish.now l)) c.in-None.is)
+      c.requires.may c.in_ok-answer-in-None.ensures
+      (ap (del_finished None) (sym c.in_ok-answer-in-None.ensures.ends));
   turns = refl;
 }
 

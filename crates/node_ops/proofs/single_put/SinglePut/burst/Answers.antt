@@ -1,16 +1,15 @@
 use Rattle.std.proofs.Common.{sym, refl, ap, subst, ◌∙◌}
-use Rattle.std.specs.Prelude.{Some, None}
 use Rattle.pm_words.specs.declared.machine.Turn.TheVariants.{Go, Done}
+use Rattle.machine_runs.proofs.Inside.{part_bursts, part_may}
 use Rattle.machine_runs.proofs.Running.{run_begins, run_can, run_ends, run_takes}
 use Rattle.node_ops.specs.declared.lookup.Looked.{Looked}
 use Rattle.node_ops.specs.declared.put.Put.TheVariants.{Single}
 use Rattle.node_ops.specs.declared.single_put.SinglePut.{SinglePut}
 use Rattle.node_ops.specs.declared.single_put.SinglePut.TheVariants.{Looking, Finishing}
 use Rattle.node_ops.specs.FillSteps.{filled}
-use Rattle.node_ops.specs.PutSteps.{SinglePutTurns, put_found, put_looked, put_takes, put_turned}
+use Rattle.node_ops.specs.PutSteps.{SinglePutTurns, put_filled, put_finished, put_found, put_looked, put_takes, put_turned}
 use Rattle.node_ops.proofs.PutBursts.{put_looking_may, put_looked_call, put_looked_found, put_looking_bursts}
-use Rattle.node_ops.proofs.PutBursts.{put_filling_may, put_filling_bursts, put_finishing_may}
-use Rattle.node_ops.proofs.PutBursts.{put_finishing_bursts, put_replacing_bursts, put_replacing_may}
+use Rattle.node_ops.proofs.PutBursts.{filling_put, finishing_put, put_replacing_bursts, put_replacing_may}
 use Rattle.node_ops.proofs.single_put.SinglePut.burst.Goals as goal
 
 pub burst-requires : goal.burst-requires
@@ -77,13 +76,13 @@ returns-in_default g c = record {
 
 pub run-requires : goal.run-requires
 run-requires g c =
-    put_filling_may c.args.self.now c.in-Filling.fill c.in-Filling.is {old = c.args.memory.now} c.requires.may
+    part_may filling_put (ap (λ (s : SinglePut). Single s) c.in-Filling.is) {old = c.args.memory.now} c.requires.may
 
 pub returns-in-Filling : goal.returns-in-Filling
 returns-in-Filling g c = record {
   end = Go (Single (Finishing (filled c.run.new.self)));
-  burst = put_filling_bursts c.args.self.now c.in-Filling.fill c.in-Filling.is c.requires.may c.run.new.self
-      c.run.ensures;
+  burst = part_bursts filling_put (ap (λ (s : SinglePut). Single s) c.in-Filling.is) c.requires.may c.run.ensures
+      (ap put_filled (sym c.run.ensures.ends));
   turns = ap (λ (s : SinglePut). Go (Single s)) (sym (c.filled.ensures c.run.new.self refl));
 }
 
@@ -112,13 +111,13 @@ returns-in-Replacing g c = record {
 
 pub burst-requires-in-Finishing-clause-may : goal.burst-requires-in-Finishing-clause-may
 burst-requires-in-Finishing-clause-may g c =
-    put_finishing_may c.args.self.now c.in-Finishing.finish c.in-Finishing.is {old = c.args.memory.now} c.requires.may
+    part_may finishing_put (ap (λ (s : SinglePut). Single s) c.in-Finishing.is) {old = c.args.memory.now} c.requires.may
 
 pub returns-in_err-answer-in-Finishing : goal.returns-in_err-answer-in-Finishing
 returns-in_err-answer-in-Finishing g c = record {
   end = Go (Single (Finishing c.burst-in-Finishing.new.self));
-  burst = put_finishing_bursts c.args.self.now c.in-Finishing.finish c.in-Finishing.is c.requires.may
-      c.burst-in-Finishing.new.self None c.in_err-answer-in-Finishing.ensures;
+  burst = part_bursts finishing_put (ap (λ (s : SinglePut). Single s) c.in-Finishing.is) c.requires.may
+      c.in_err-answer-in-Finishing.ensures (ap put_finished (sym c.in_err-answer-in-Finishing.ensures.ends));
   turns = subst (SinglePutTurns (Go (Single (Finishing c.burst-in-Finishing.new.self)))
       (Finishing c.burst-in-Finishing.new.self)) (sym c.from_residual-in_err-answer-in-Finishing.ensures) refl;
 }
@@ -126,7 +125,7 @@ returns-in_err-answer-in-Finishing g c = record {
 pub returns-in_ok-answer-in-Finishing : goal.returns-in_ok-answer-in-Finishing
 returns-in_ok-answer-in-Finishing g c = record {
   end = Done c.in_ok-answer-in-Finishing.answer;
-  burst = put_finishing_bursts c.args.self.now c.in-Finishing.finish c.in-Finishing.is c.requires.may
-      c.burst-in-Finishing.new.self (Some c.in_ok-answer-in-Finishing.answer) c.in_ok-answer-in-Finishing.ensures;
+  burst = part_bursts finishing_put (ap (λ (s : SinglePut). Single s) c.in-Finishing.is) c.requires.may
+      c.in_ok-answer-in-Finishing.ensures (ap put_finished (sym c.in_ok-answer-in-Finishing.ensures.ends));
   turns = refl;
 }
