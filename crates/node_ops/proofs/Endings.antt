@@ -74,7 +74,7 @@ use Rattle.permutation.specs.declared.load.LoadPermutation.{LoadPermutation}
 use Rattle.permutation.specs.Loads.{load_turned}
 use Rattle.permutation.specs.Stores.{store_turned}
 use Rattle.node_ops.specs.PartSteps.{after_bitmap, after_word, store_on, part_words, part_walked, part_ordered, part_held, part_dated, part_looked, ordering_turned, seen_at, early_of, placed_of, reading_turned, words_placed}
-use Rattle.node_ops.proofs.PartStages.{reading_counts, reading_placed}
+use Rattle.node_ops.proofs.PartStages.{part_only}
 use Rattle.node_ops.proofs.PartWalks.{WalksOn, walks_on}
 use Rattle.node_ops.specs.Asked.{op_in, op_of_finish}
 use Rattle.node_ops.specs.CallStages.{behind_sight, part_stage, reading_at_held, reading_whole, stage_by, stage_of, lookup_at_stage, lookup_stage, finish_at_held, finish_stage, found_full}
@@ -87,12 +87,13 @@ use Rattle.split_merge.proofs.OfSplits.{stages_are_of_splits}
 use Rattle.node_ops.proofs.SplitFacts.{split_uncounted, split_unplaced}
 use Rattle.node_ops.proofs.MergeFacts.{placed_still, merging_stage, merge_placed, merge_limited, merge_uncounted, goes_on_stage}
 use Rattle.cat_history.specs.declared.op.Change.{Change}
+use Rattle.cat_history.specs.declared.op.NameOp.{NameOp}
 use Rattle.node_ops.specs.Endings.{place_for, limit_in, IsPutOp, IsDone, DoneIsCounted, IsSpent, SpentIsLate, NoFreeIsOfPuts, RefusedIsUncounted, GoesOn, TurnsKeepPlace, LastCountsNothing, PlacedIsInTime}
 use Rattle.node_ops.proofs.OpLaw.{lookup_counts}
 use Rattle.call_stages.specs.Stages.{Sight}
 use Rattle.data_list.specs.WalkStages.{live_sight}
 use Rattle.node_ops.specs.CallStages.{behind_sight}
-use Rattle.node_ops.proofs.OnlyRead.{looks_only}
+use Rattle.node_ops.proofs.OnlyRead.{looks_only, uncounted}
 use Rattle.node_ops.proofs.WriteTurns.{fill_turn_is}
 
 -- a look-up has no place
@@ -251,6 +252,21 @@ finish_turns finish x = at finish.at
     at finish_at.Add = (refl, refl, refl)
     at (finish_at.Unlock place) = (writes finish.new place, refl, refl, refl)
 
+-- it ends the call that makes it
+finish_ends : (m : Running) (finish : Finish) (x : ℕ) (answer : Once Placed) → stage_of m ≡ finish_stage finish → running_call m ≡ finish.call → op_in m ≡ op_of_finish finish finish.new
+    → FinishTurns finish x (Done answer) → Turns m x (Done answer)
+finish_ends m finish x (once.Done placed) stage call op turns = (
+  record {
+    place = ap placed_in stage ∙ turns.0 ∙ ap (λ (o : NameOp). place_for (change_of o) placed.place) (sym op);
+    limit = ap limit_in stage ∙ turns.1 ∙ ap (λ (c : Call). c.limit) (sym call);
+    hops = turns.2 ∙ ap (λ (c : Call). c.hops) (sym call);
+  },
+  ap counted stage ∙ turns.3,
+)
+finish_ends m finish x (once.Spent clock) stage call op turns = absurd turns
+finish_ends m finish x (once.Worn node word) stage call op turns = absurd turns
+finish_ends m finish x (once.Again why) stage call op turns = absurd turns
+
 put_turns : (put : Put) (x : ℕ) → IsRunning (Putting put) → Turns (Putting put) x (running_turned (Putting put) x)
 put_turns (put.Single (single_put.Looking lookup value)) x is = at (lookup_turned lookup x) (looks_end lookup.call lookup.at x is.0.here)
   where
@@ -278,10 +294,7 @@ put_turns (put.Single (single_put.Finishing finish)) x is = at (finish_turned fi
   where
     at : (turn : Turn Finish (Once Placed)) → FinishTurns finish x turn → Turns (Putting (put.Single (single_put.Finishing finish))) x (wrapped Putting (put_finished turn))
     at (Go next) turns = turns
-    at (Done (once.Done placed)) turns = (record { place = turns.0; limit = turns.1; hops = turns.2 }, turns.3)
-    at (Done (once.Spent clock)) turns = absurd turns
-    at (Done (once.Worn node word)) turns = absurd turns
-    at (Done (once.Again why)) turns = absurd turns
+    at (Done answer) turns = finish_ends (Putting (put.Single (single_put.Finishing finish))) finish x answer refl refl refl turns
 put_turns (put.Splitting call hold bitmap value split) x is = at (split_turned split x)
   where
     has : (m : Split) → IsOfSplit (found_full call hold bitmap) (split_footing (found_full call hold bitmap) m).stage
@@ -326,10 +339,7 @@ del_turns (del.Single (single_del.Finishing finish line)) x is = at (finish_turn
   where
     at : (turn : Turn Finish (Once Placed)) → FinishTurns finish x turn → Turns (Deleting (del.Single (single_del.Finishing finish line))) x (wrapped Deleting (del_finished line turn))
     at (Go next) turns = same_place finish x (finish_stage next) (stage_of (Deleting (goes_on next line))) (ap placed_in (goes_on_stage next line)) (counted (finish_stage finish)) turns
-    at (Done (once.Done placed)) turns = (record { place = turns.0; limit = turns.1; hops = turns.2 }, turns.3)
-    at (Done (once.Spent clock)) turns = absurd turns
-    at (Done (once.Worn node word)) turns = absurd turns
-    at (Done (once.Again why)) turns = absurd turns
+    at (Done answer) turns = finish_ends (Deleting (del.Single (single_del.Finishing finish line))) finish x answer refl refl refl turns
 del_turns (del.Merging call hold old place merge) x is = at (merge_turned merge x)
   where
     uncounted : counted (stage_of (Deleting (del.Merging call hold old place merge))) ≡ None
@@ -345,18 +355,10 @@ del_turns (del.Merging call hold old place merge) x is = at (merge_turned merge 
 
 -- a part has no place, and counts nothing
 part_counts : (p : Part) → counted (part_stage p) ≡ None
-part_counts (part.Looking lookup count) = lookup_counts (live_sight []) lookup.call lookup.at
-part_counts (part.Ordering call seen count load) = refl
-part_counts (part.Locking call seen count locked) = refl
-part_counts (part.Dating call seen count way) = refl
-part_counts (part.Reading reading) = reading_counts reading
+part_counts p = uncounted (part_stage p) (part_only p).pending
 
 part_placed : (p : Part) → placed_in (part_stage p) ≡ None
-part_placed (part.Looking lookup count) = lookup_placed (live_sight []) lookup.call lookup.at
-part_placed (part.Ordering call seen count load) = refl
-part_placed (part.Locking call seen count locked) = refl
-part_placed (part.Dating call seen count way) = refl
-part_placed (part.Reading reading) = reading_placed reading
+part_placed p = (part_only p).placed
 
 goes_part : (p next : Part) (x : ℕ) → Turns (Parting p) x (Go (Parting next))
 goes_part p next x = keeps_none (Parting p) x (Parting next) (part_counts p) (part_placed p) (part_placed next)

@@ -176,16 +176,16 @@ put_lands (put.Single (single_put.Filling fill)) x = at (fill_turned fill x) (fi
     at (Go next) same = same
     at (Done finish) same = same
 put_lands (put.Single (single_put.Replacing call hold bitmap hit value)) x = refl
-put_lands (put.Single (single_put.Finishing finish)) x = at (finish_turned finish x) (finish_keeps finish x)
-  where
-    at : (turn : Turn Finish (Once Placed)) → CallStays finish.call turn → LandsAfter (Putting (put.Single (single_put.Finishing finish))) x (wrapped Putting (put_finished turn))
-    at (Go next) same = same
-    at (Done answer) same = tt
-put_lands (put.Splitting call hold bitmap value split) x = at (split_turned split x)
-  where
-    at : (turn : Turn Split SplitDone) → LandsAfter (Putting (put.Splitting call hold bitmap value split)) x (wrapped Putting (put_split call hold bitmap value turn))
-    at (Go next) = refl
-    at (Done answer) = tt
+put_lands (put.Single (single_put.Finishing finish)) x =
+    elim (finish_turned finish x) as (λ (turn : Turn Finish (Once Placed)). CallStays finish.call turn → LandsAfter (Putting (put.Single (single_put.Finishing finish))) x (wrapped Putting (put_finished turn))) [
+      | Go next ↦ λ same. same
+      | Done answer ↦ λ same. tt
+    ] (finish_keeps finish x)
+put_lands (put.Splitting call hold bitmap value split) x =
+    elim (split_turned split x) as (λ (turn : Turn Split SplitDone). LandsAfter (Putting (put.Splitting call hold bitmap value split)) x (wrapped Putting (put_split call hold bitmap value turn))) [
+      | Go next ↦ refl
+      | Done answer ↦ tt
+    ]
 
 del_lands : (del : Del) (x : ℕ) → LandsAfter (Deleting del) x (running_turned (Deleting del) x)
 del_lands (del.Single (single_del.Looking lookup)) x = at (lookup_turned lookup x) (looks_land lookup.call lookup.at x)
@@ -225,11 +225,11 @@ del_lands (del.Single (single_del.Finishing finish line)) x = at (finish_turned 
     at : (turn : Turn Finish (Once Placed)) → CallStays finish.call turn → LandsAfter (Deleting (del.Single (single_del.Finishing finish line))) x (wrapped Deleting (del_finished line turn))
     at (Go next) same = on next line ∙ same
     at (Done answer) same = tt
-del_lands (del.Merging call hold old place merge) x = at (merge_turned merge x)
-  where
-    at : (turn : Turn Merge Merged) → LandsAfter (Deleting (del.Merging call hold old place merge)) x (wrapped Deleting (del_merged call hold old place turn))
-    at (Go next) = refl
-    at (Done merged) = tt
+del_lands (del.Merging call hold old place merge) x =
+    elim (merge_turned merge x) as (λ (turn : Turn Merge Merged). LandsAfter (Deleting (del.Merging call hold old place merge)) x (wrapped Deleting (del_merged call hold old place turn))) [
+      | Go next ↦ refl
+      | Done merged ↦ tt
+    ]
 
 part_lands : (p : Part) (x : ℕ) → LandsAfter (Parting p) x (running_turned (Parting p) x)
 part_lands (part.Looking lookup count) x = at (lookup_turned lookup x) (looks_land lookup.call lookup.at x)

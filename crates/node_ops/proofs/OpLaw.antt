@@ -62,11 +62,10 @@ use Rattle.node_ops.specs.Asked.{Gives, TakesOut, IsOf, IsOfAfter, IsAbout, op_o
 use Rattle.node_ops.specs.Laws.{TurnsKeepOp, CountsOwnChange, HoldsOwnName, PendingIsOwnChange, OpIsTold}
 use Rattle.node_ops.proofs.LookupSound.{Stays}
 use Rattle.node_ops.specs.declared.part.Part.{Part}
-use Rattle.node_ops.specs.declared.part.Part.TheVariants as part
 use Rattle.node_ops.specs.PartSteps.{IsPart, part_call, placed_turn, part_turned}
 use Rattle.node_ops.specs.CallStages.{part_stage}
 use Rattle.node_ops.proofs.PartSound.{part_stays}
-use Rattle.node_ops.proofs.PartStages.{reading_about, reading_pends}
+use Rattle.node_ops.proofs.PartStages.{part_only}
 use Rattle.node_ops.proofs.CallSound.{get_stays, put_stays, del_stays}
 use Rattle.call_stages.specs.Stages.{Sight}
 use Rattle.data_list.specs.WalkStages.{live_sight}
@@ -231,11 +230,7 @@ holds_own_name (op.Get name) (Getting (get.Looking lookup)) is = subst (λ n. Is
 holds_own_name (op.Get name) (Getting (get.Checking call hold old)) is = is
 holds_own_name (op.Get name) (Putting put) is = absurd is
 holds_own_name (op.Get name) (Deleting del) is = absurd is
-holds_own_name (op.Get name) (Parting (part.Looking lookup count)) is = subst (λ n. IsAbout n (lookup_at_stage (live_sight []) lookup.call lookup.at)) is (lookup_about (live_sight []) lookup.call lookup.at)
-holds_own_name (op.Get name) (Parting (part.Ordering call seen count load)) is = tt
-holds_own_name (op.Get name) (Parting (part.Locking call seen count locked)) is = tt
-holds_own_name (op.Get name) (Parting (part.Dating call seen count way)) is = tt
-holds_own_name (op.Get name) (Parting (part.Reading reading)) is = subst (λ n. IsAbout n (part_stage (part.Reading reading))) is (reading_about reading)
+holds_own_name (op.Get name) (Parting p) is = subst (λ n. IsAbout n (part_stage p)) is (part_only p).about
 holds_own_name (op.Put name value) (Getting get) is = absurd is
 holds_own_name (op.Put name value) (Putting (put.Single (single_put.Looking lookup number))) is = subst (λ n. IsAbout n (lookup_at_stage (live_sight []) lookup.call lookup.at)) is.0 (lookup_about (live_sight []) lookup.call lookup.at)
 holds_own_name (op.Put name value) (Putting (put.Single (single_put.Filling fill))) is = is.0
@@ -269,11 +264,7 @@ pending_is_own (op.Get name) (Getting (get.Looking lookup)) is = counts_nothing 
 pending_is_own (op.Get name) (Getting (get.Checking call hold old)) is = tt
 pending_is_own (op.Get name) (Putting put) is = absurd is
 pending_is_own (op.Get name) (Deleting del) is = absurd is
-pending_is_own (op.Get name) (Parting (part.Looking lookup count)) is = counts_nothing _ _ (lookup_pends (live_sight []) lookup.call lookup.at)
-pending_is_own (op.Get name) (Parting (part.Ordering call seen count load)) is = tt
-pending_is_own (op.Get name) (Parting (part.Locking call seen count locked)) is = tt
-pending_is_own (op.Get name) (Parting (part.Dating call seen count way)) is = tt
-pending_is_own (op.Get name) (Parting (part.Reading reading)) is = counts_nothing _ _ (reading_pends reading)
+pending_is_own (op.Get name) (Parting p) is = counts_nothing _ _ (part_only p).pending
 pending_is_own (op.Put name value) (Getting get) is = absurd is
 pending_is_own (op.Put name value) (Putting (put.Single (single_put.Looking lookup number))) is = counts_nothing _ _ (lookup_pends (live_sight []) lookup.call lookup.at)
 pending_is_own (op.Put name value) (Putting (put.Single (single_put.Filling fill))) is = tt
@@ -326,11 +317,7 @@ pending_is_unplaced (Deleting (del.Single (single_del.Clearing call hold bitmap 
 pending_is_unplaced (Deleting (del.Single (single_del.Finishing finish line))) = finish_unplaced finish finish.at
 pending_is_unplaced (Deleting (del.Merging call hold old place merge)) =
     counts_nothing _ _ (merge_unpending _ _ (placed_still call old place) (merging_stage call old place merge))
-pending_is_unplaced (Parting (part.Looking lookup count)) = counts_nothing _ _ (lookup_pends (live_sight []) lookup.call lookup.at)
-pending_is_unplaced (Parting (part.Ordering call seen count load)) = tt
-pending_is_unplaced (Parting (part.Locking call seen count locked)) = tt
-pending_is_unplaced (Parting (part.Dating call seen count way)) = tt
-pending_is_unplaced (Parting (part.Reading reading)) = counts_nothing _ _ (reading_pends reading)
+pending_is_unplaced (Parting p) = counts_nothing _ _ (part_only p).pending
 
 pub pends_own_change : PendingIsOwnChange
 pends_own_change op running change is pending = (
