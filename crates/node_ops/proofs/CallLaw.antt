@@ -70,12 +70,12 @@ use Rattle.node_ops.specs.RunningSteps.{running_call, running_asks, running_turn
 use Rattle.node_ops.specs.Laws.{TurnsAreFootSteps, TurnsAreSteps, LeadsAreTaken}
 use Rattle.node_ops.specs.CallStages.{words_from, nothing, knows, decided, fence_rest, seen_hit, seen_fill, get_stage, put_stage, part_stage, stage_of, stage_after, reply_of, found_full, footing_of, footing_after}
 use Rattle.node_ops.proofs.SeenLemmas.{Stand, seen_append, seen_front, stand_whole}
-use Rattle.node_ops.proofs.LookupLaw.{MachineLeads, PlainStep, steps, hit_words, found_known, Writes_found, Found_by, written_found, Leads, keeps_live, lookup_leads}
+use Rattle.node_ops.proofs.LookupLaw.{MachineLeads, steps, hit_words, found_known, Writes_found, Found_by, written_found, Leads, keeps_live, lookup_leads}
 use Rattle.node_ops.proofs.FinishLaw.{Finishes, finish_leads}
 use Rattle.node_ops.proofs.FillLaw.{Fills, fill_leads}
 use Rattle.node_ops.proofs.LookupSound.{SoundLooked, found_by, lookup_stays}
 use Rattle.node_ops.proofs.Sparing.{foot_of}
-use Rattle.node_ops.proofs.PlainSteps.{hit_words_known, part_hit, Plain, IsSingle, IsPlainAfter, plain, looks_single}
+use Rattle.node_ops.proofs.PlainSteps.{hit_words_known, part_hit, Plain, IsSingle, IsPlainAfter, plain, looks_single, wrapped_leads}
 use Rattle.node_ops.specs.declared.part.Part.{Part}
 use Rattle.node_ops.specs.declared.part.Part.TheVariants as part
 use Rattle.node_ops.specs.declared.part.PartWords.{PartWords}
@@ -95,9 +95,6 @@ Puts = MachineLeads put_stage
 module _ (call : Call) (sound : IsCall call) where
   abbrev slots : ℕ
   slots = call.view.layout.slots
-
-  limit : slots ≤ 64
-  limit = sound.view.layout.slots.1
 
   get_looked_leads : call.limit ≡ None → (stage : Stage) (action : Action) (x : ℕ) (turn : Turn Lookup Looked) → Leads (live_sight []) call stage action x turn → Gets call stage action x (get_looked call turn)
   get_looked_leads read stage action x (Go lookup) step = step
@@ -140,8 +137,8 @@ module _ (call : Call) (sound : IsCall call) where
   put_into_leads : (stage : Stage) (action : Action) (x : ℕ) (found : Found) (value : ℕ) (clear : Option ℕ) → lowest_clear found.directory.bitmap slots ≡ clear → IsFoundBy slots found
       → Writes_found call stage action x found → Puts call stage action x (Go (put_into call found value clear))
   put_into_leads stage action x found value (Some slot) is sound_found leads =
-      let lowest = lowest_clear-some found.directory.bitmap slots slot sound_found.directory.bitmap limit is in
-      let small : slot < 64 = let within : slot < slots = lowest.within in let few : slots ≤ 64 = limit in omega arith in
+      let lowest = lowest_clear-some found.directory.bitmap slots slot sound_found.directory.bitmap sound.view.layout.slots.1 is in
+      let small : slot < 64 = let within : slot < slots = lowest.within in let few : slots ≤ 64 = sound.view.layout.slots.1 in omega arith in
       steps (leads (knows (seen_fill (filling found value slot) (get_or found.directory.prints (slot / 8) 0) 0)) None false tt
       (λ s known. fill_known s found value slot sound_found.directory.prints small known) (λ range s m in_range old means. means))
   put_into_leads stage action x found value None is sound_found leads = put_full_leads stage action x found found.hit value leads
@@ -174,7 +171,7 @@ module _ (call : Call) (sound : IsCall call) where
       (λ s tidy before. record { seen = tt; left = tt })
       (λ range s m in_range before old means.
       let here = hit_words_known s call bitmap hit sound before.seen is.live in
-      means_valued slots range s m (name_in call) value hit.slot limit sound.packed.named here.0 here.1 means)
+      means_valued slots range s m (name_in call) value hit.slot sound.view.layout.slots.1 sound.packed.named here.0 here.1 means)
 
 -- the second load of the version word
 check_leads : (call : Call) → IsCall call → call.limit ≡ None → (hold : Hold) (old : Option ℕ) (x : ℕ)
@@ -204,17 +201,6 @@ put_leads (put.Single (single_put.Filling fill)) x whole sound told = put_filled
 put_leads (put.Single (single_put.Replacing call hold bitmap hit value)) x whole sound told = steps (replacing_leads call sound.call hold bitmap hit value x sound.hit sound.value)
 put_leads (put.Single (single_put.Finishing finish)) x whole sound told = put_finished_leads finish.call sound.call _ _ x (finish_turned finish x) (finish_leads finish x sound told.fits)
 put_leads (put.Splitting call hold bitmap value split) x whole sound told = absurd whole
-
--- a part's step is the whole's
-as_get : (call : Call) (stage : Stage) (action : Action) (x : ℕ) (turn : Turn Get (Once Placed)) → Gets call stage action x turn
-    → PlainStep call.view.layout call.view.generation stage action x (stage_after (wrapped Getting turn)) (reply_of (wrapped Getting turn))
-as_get call stage action x (Go get) step = step
-as_get call stage action x (Done answer) step = steps step
-
-as_put : (call : Call) (stage : Stage) (action : Action) (x : ℕ) (turn : Turn Put (Once Placed)) → Puts call stage action x turn
-    → PlainStep call.view.layout call.view.generation stage action x (stage_after (wrapped Putting turn)) (reply_of (wrapped Putting turn))
-as_put call stage action x (Go put) step = step
-as_put call stage action x (Done answer) step = steps step
 
 get_single : (get : Get) → IsSingle (get_stage get)
 get_single (get.Looking lookup) = looks_single (live_sight []) lookup.call lookup.at
@@ -296,7 +282,7 @@ module _ (call : Call) (hold : Hold) (bitmap value : ℕ) (split : Split) (sound
 put_steps : (put : Put) (x : ℕ) → IsWhole put → IsPut put → Told (put_call put).view.layout (put_call put).view.generation (put_asks put) x
     → Plain (put_call put).view.layout (put_call put).view.generation (put_call put).view.caller None (put_stage put) (put_asks put) x (running_turned (Putting put) x)
 put_steps put x whole sound told =
-    plain _ _ _ None (put_stage put) _ x (running_turned (Putting put) x) (put_single put whole) (puts_plain put x whole) (as_put (put_call put) _ _ x (put_turned put x) (put_leads put x whole sound told))
+    plain _ _ _ None (put_stage put) _ x (running_turned (Putting put) x) (put_single put whole) (puts_plain put x whole) (wrapped_leads put_stage Putting (λ m. refl) (put_call put) _ _ x (put_turned put x) (put_leads put x whole sound told))
 
 single_by : (way : Way) (n w : ℕ) (kept : Sight) (h : Held) → IsSingle (stage_by way n w kept h)
 single_by (ways.Served words) n w kept h = tt
@@ -333,7 +319,7 @@ own_goes : (running : Running) (x : ℕ) → IsRunning running → Told (running
     → LeadsWithin (running_call running).view.layout (stage_of running) (running_asks running) x
     → (Spares running x × SparesNow running) ⊎ StoresPermutation running x
 own_goes (Getting get) x sound told leads =
-    inl (plain _ _ _ None (get_stage get) _ x (running_turned (Getting get) x) (get_single get) (gets_plain (get_turned get x)) (as_get (get_call get) _ _ x (get_turned get x) (get_leads get x sound told)), tt)
+    inl (plain _ _ _ None (get_stage get) _ x (running_turned (Getting get) x) (get_single get) (gets_plain (get_turned get x)) (wrapped_leads get_stage Getting (λ m. refl) (get_call get) _ _ x (get_turned get x) (get_leads get x sound told)), tt)
 own_goes (Putting (put.Splitting call hold bitmap value split)) x sound told leads = inl (splitting_leads call hold bitmap value split sound x told leads, tt)
 own_goes (Putting (put.Single (single_put.Looking lookup value))) x sound told leads = inl (put_steps (put.Single (single_put.Looking lookup value)) x tt sound told, tt)
 own_goes (Putting (put.Single (single_put.Filling fill))) x sound told leads = inl (put_steps (put.Single (single_put.Filling fill)) x tt sound told, tt)

@@ -1,5 +1,5 @@
 -- Each turn of a delete is a step of a kind.
-use Rattle.std.proofs.Common.{◌≡◌, ℕ, ◌/◌, ◌<◌, ◌≤◌, ◌^◌, ◌==◌, true, false, cond, ltb, [], ◌∷◌, Option, Some, None, IfSome, inl, refl, sym, subst, ap, ◌∙◌, arith}
+use Rattle.std.proofs.Common.{◌≡◌, ℕ, ◌/◌, ◌<◌, ◌^◌, ◌==◌, true, false, cond, ltb, [], ◌∷◌, Option, Some, None, IfSome, inl, refl, sym, subst, ap, ◌∙◌, arith}
 use Rattle.std.specs.FinMap.{remove}
 use Rattle.cat_history.specs.declared.op.Change.TheVariants as change
 use Rattle.pm_words.specs.declared.layout.Layout.{Layout}
@@ -65,10 +65,10 @@ use Rattle.pm_words.specs.Offsets.{bitmap_offset, state_offset}
 use Rattle.node_ops.specs.DelSteps.{IsDel, IsTakeOf, IsUnplaced, IsMerging, names_left, del_call, del_asks, del_turned, del_looked, del_hit, del_taken, del_finished, del_merged, cleared}
 use Rattle.node_ops.proofs.MergeFacts.{placed_still, goes_on_stage}
 use Rattle.node_ops.specs.RunningSteps.{running_turned, wrapped}
-use Rattle.node_ops.specs.CallStages.{nothing, knows, decided, fence_rest, seen_hit, del_stage, stage_after, reply_of, finish_stage, has_place, found_in, line_taken, del_footing, footing_after}
-use Rattle.node_ops.proofs.LookupLaw.{MachineLeads, PlainStep, steps, Writes_found, written_found, Leads, keeps_live, lookup_leads}
+use Rattle.node_ops.specs.CallStages.{nothing, knows, decided, fence_rest, seen_hit, del_stage, reply_of, finish_stage, has_place, found_in, line_taken, del_footing, footing_after}
+use Rattle.node_ops.proofs.LookupLaw.{MachineLeads, steps, Writes_found, written_found, Leads, keeps_live, lookup_leads}
 use Rattle.node_ops.proofs.FinishLaw.{Finishes, finish_leads}
-use Rattle.node_ops.proofs.PlainSteps.{hit_words_known, part_hit, Plain, IsSingle, IsPlainAfter, plain, looks_single}
+use Rattle.node_ops.proofs.PlainSteps.{hit_words_known, part_hit, Plain, IsSingle, IsPlainAfter, plain, looks_single, wrapped_leads}
 use Rattle.std.specs.Prelude.{IsSome}
 use Rattle.data_list.specs.WalkStages.{live_sight}
 
@@ -79,9 +79,6 @@ Dels = MachineLeads del_stage
 module _ (call : Call) (sound : IsCall call) where
   abbrev slots : ℕ
   slots = call.view.layout.slots
-
-  limit : slots ≤ 64
-  limit = sound.view.layout.slots.1
 
   del_hit_leads : (stage : Stage) (action : Action) (x : ℕ) (found : Found) (hit : Option Hit)
       → Writes_found call stage action x (record found { hit = hit }) → Dels call stage action x (Go (del_hit call found.hold found.directory.bitmap hit))
@@ -129,7 +126,7 @@ module _ (call : Call) (sound : IsCall call) where
       (λ range s m in_range before old means.
       let here = hit_words_known s call bitmap hit sound before.seen is.live in
       subst (λ b. Means slots range (updated s bitmap_offset (without_live b hit.slot)) (remove m (name_in call))) before.seen.0
-      (means_cleared slots range s m (name_in call) hit.slot limit sound.packed.named here.0 here.1 means))
+      (means_cleared slots range s m (name_in call) hit.slot sound.view.layout.slots.1 sound.packed.named here.0 here.1 means))
 
 -- it neither looks for a line nor merges
 abbrev IsPlain : Del → Type 0
@@ -147,12 +144,6 @@ del_leads (del.Single (single_del.Refusing call hold bitmap hit)) x is sound tol
 del_leads (del.Single (single_del.Clearing call hold bitmap hit line)) x is sound told = steps (clearing_leads call sound.0.call hold bitmap hit line x sound.0.fits sound.0.hit)
 del_leads (del.Single (single_del.Finishing finish line)) x is sound told = del_finished_leads finish.call sound.0.here.call _ _ x line (finish_turned finish x) (finish_leads finish x sound.0.here told.fits)
 del_leads (del.Merging call hold old place merge) x is sound told = absurd is
-
--- a part's step is the whole's
-as_del : (call : Call) (stage : Stage) (action : Action) (x : ℕ) (turn : Turn Del (Once Placed)) → Dels call stage action x turn
-    → PlainStep call.view.layout call.view.generation stage action x (stage_after (wrapped Deleting turn)) (reply_of (wrapped Deleting turn))
-as_del call stage action x (Go del) step = step
-as_del call stage action x (Done answer) step = steps step
 
 del_single : (del : Del) → IsPlain del → IsSingle (del_stage del)
 del_single (del.Single (single_del.Looking lookup)) is = looks_single (live_sight []) lookup.call lookup.at
@@ -289,7 +280,7 @@ module _ (call : Call) (hold : Hold) (old : Option ℕ) (place : ℕ) (merge : M
 del_steps : (del : Del) (x : ℕ) → IsPlain del → IsDel del → Told (del_call del).view.layout (del_call del).view.generation (del_asks del) x
     → Plain (del_call del).view.layout (del_call del).view.generation (del_call del).view.caller (del_line del) (del_stage del) (del_asks del) x (running_turned (Deleting del) x)
 del_steps del x is sound told =
-    plain _ _ _ (del_line del) (del_stage del) _ x (running_turned (Deleting del) x) (del_single del is) (dels_plain del x is sound) (as_del (del_call del) _ _ x (del_turned del x) (del_leads del x is sound told))
+    plain _ _ _ (del_line del) (del_stage del) _ x (running_turned (Deleting del) x) (del_single del is) (dels_plain del x is sound) (wrapped_leads del_stage Deleting (λ m. refl) (del_call del) _ _ x (del_turned del x) (del_leads del x is sound told))
 
 pub dels_are_steps : (del : Del) (x : ℕ) → IsDel del → Told (del_call del).view.layout (del_call del).view.generation (del_asks del) x → LeadsWithin (del_call del).view.layout (del_stage del) (del_asks del) x
     → SparingStep (del_call del).view.layout (del_call del).view.generation (del_call del).view.caller (del_footing del) (del_asks del) x

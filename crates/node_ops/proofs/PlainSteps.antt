@@ -5,6 +5,7 @@ use Rattle.cat_key.proofs.Packing.{length-words_of}
 use Rattle.pm_words.specs.declared.layout.Layout.{Layout}
 use Rattle.pm_words.specs.declared.action.Action.{Action}
 use Rattle.pm_words.specs.declared.machine.Turn.{Turn}
+use Rattle.pm_words.specs.declared.machine.Turn.TheVariants.{Go, Done}
 use Rattle.pm_words.specs.Offsets.{prints_offset, slot_offset}
 use Rattle.data_node.specs.Slots.{IsLive}
 use Rattle.data_node.specs.Spots.{Spot, IsLiveIn, name_words}
@@ -25,10 +26,11 @@ use Rattle.node_ops.specs.declared.lookup.Found.{Found}
 use Rattle.node_ops.specs.declared.running.Running.{Running}
 use Rattle.node_ops.specs.Calls.{IsCall, name_in}
 use Rattle.call_stages.specs.Lines.{HeldLine}
-use Rattle.node_ops.specs.CallStages.{words_from, seen_hit, stage_after, reply_of, held_by, walk_by, lookup_at_stage, footing_after}
+use Rattle.node_ops.specs.CallStages.{words_from, seen_hit, stage_of, stage_after, reply_of, held_by, walk_by, lookup_at_stage, footing_after}
+use Rattle.node_ops.specs.RunningSteps.{wrapped}
 use Rattle.index_law.proofs.Loose.{each_loose}
 use Rattle.node_ops.proofs.SeenLemmas.{Seen, Stand, seen_back, stand_whole, name_stands}
-use Rattle.node_ops.proofs.LookupLaw.{PlainStep, steps, reads_layer, loads_permutation, hit_words, found_known}
+use Rattle.node_ops.proofs.LookupLaw.{MachineLeads, PlainStep, steps, reads_layer, loads_permutation, hit_words, found_known}
 
 -- the name in the slot that has it
 pub hit_words_known : (s : Spot) (call : Call) (bitmap : ℕ) (hit : Hit) → IsCall call → Seen s (seen_hit call bitmap (Some hit)) → IsLive bitmap hit.slot
@@ -89,6 +91,12 @@ pub plain : (l : Layout) (g c : ℕ) (line : Option HeldLine) (s : Stage) (actio
 plain l g c line s action x turn single after step =
     subst (λ (f : Footing). SparingStep l g c (record { stage = s; line = line; debt = no_debt }) action x f (reply_of turn)) (sym after)
     (plain_foots l g c line s action x (stage_after turn) (reply_of turn) single step)
+
+-- the step of a machine is that of the call that it is
+pub wrapped_leads : {M : Type 0} (stage_in : M → Stage) (wrap : M → Running) → ((m : M) → stage_in m ≡ stage_of (wrap m)) → (call : Call) (stage : Stage) (action : Action) (x : ℕ) (turn : Turn M (Once Placed))
+    → MachineLeads stage_in call stage action x turn → PlainStep call.view.layout call.view.generation stage action x (stage_after (wrapped wrap turn)) (reply_of (wrapped wrap turn))
+wrapped_leads stage_in wrap same call stage action x (Go machine) step = subst (λ (s : Stage). PlainStep call.view.layout call.view.generation stage action x s None) (same machine) step
+wrapped_leads stage_in wrap same call stage action x (Done answer) step = steps step
 
 pub loose_single : (s : Stage) → IsLoose s → IsSingle s
 loose_single = each_loose IsSingle tt (λ n v w k. tt) (λ n v. tt) (λ n v sight told. tt)
