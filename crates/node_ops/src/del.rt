@@ -5,13 +5,14 @@
 ghost use Rattle.std.specs.Prelude.{◌≡◌, ℕ};
 
 use crate::call::Call;
+use crate::in_place::tell;
 use crate::lookup::{Hold, Lookup};
 use crate::single_del::{CountedDel, SingleDel, SingleDelDone};
 use call_stages::{Once, Placed, View};
 use cat_history::{Change, NameOp};
 use cat_key::Name;
-use pm_words::{Action, Machine, Memory, Steps, Turn};
-use split_merge::{Merge, Merged};
+use pm_words::{Action, Machine, Memory, Steps};
+use split_merge::Merge;
 use std::sync::ledger::Ledger;
 
 /// A delete: it takes a name out of its node, and answers what the name had.
@@ -148,8 +149,7 @@ impl Del {
 }
 
 impl Del {
-    ghost use Rattle.pm_words.specs.Turns.{GoesBelow};
-    ghost use Rattle.pm_words.specs.Turns.{AdvancesTo, turn_of};
+    ghost use Rattle.pm_words.specs.Turns.{AdvancesTo, GoesBelow, turn_of};
     ghost use Rattle.machine_runs.specs.Runs.{AddsNothing, Bursts, MayGo};
     ghost use Rattle.node_ops.specs.DelSteps.{del_asks, del_left, del_takes, del_turned};
 
@@ -176,7 +176,7 @@ impl Del {
                 ..
             } => {
                 let (old, place, hops) = (*old, *place, call.hops);
-                merges(merge, got)?;
+                tell(merge, got)?;
                 Some(Once::Done(Placed { old, place, hops }))
             }
         }
@@ -205,24 +205,5 @@ impl Del {
                 None
             }
         }
-    }
-}
-
-ghost use Rattle.pm_words.specs.Turns.{GoesBelow};
-ghost use Rattle.pm_words.specs.Turns.{AdvancesTo};
-ghost use Rattle.split_merge.specs.Merges.{merge_takes, merge_turned, merge_left};
-
-/// Tells a merge in place the number that its action gave.
-fn merges(merge: &mut Merge, got: u64) -> Option<Merged>
-    requires { merge_takes merge.old got }
-    ensures turned { AdvancesTo (merge_turned merge.old got) merge.new result }
-    ensures fewer { GoesBelow merge_left (merge_left merge.old) (merge_turned merge.old got) }
-{
-    match merge.resume(got) {
-        Turn::Go(next) => {
-            *merge = next;
-            None
-        }
-        Turn::Done(merged) => Some(merged),
     }
 }

@@ -38,8 +38,7 @@ impl Finish {
     ghost use Rattle.std.specs.Prelude.{◌≡◌, ◌↔◌, IfSome, IsFalse};
     ghost use Rattle.pm_words.specs.declared.machine.Turn.TheVariants.{Go};
     ghost use Rattle.pm_words.specs.Fences.{fence_start};
-    ghost use Rattle.pm_words.specs.Turns.{GoesBelow};
-    ghost use Rattle.pm_words.specs.Turns.{AdvancesTo, turn_of};
+    ghost use Rattle.pm_words.specs.Turns.{AdvancesTo, GoesBelow, turn_of};
     ghost use Rattle.machine_runs.specs.Runs.{AddsNothing, Bursts, MayGo};
     ghost use Rattle.call_stages.specs.Stages.{counted, placed_in};
     ghost use Rattle.node_ops.specs.Calls.{IsCall, name_in};

@@ -71,8 +71,7 @@ impl Get {
 impl Get {
     ghost use Rattle.std.specs.Prelude.{◌≡◌};
     ghost use Rattle.pm_words.specs.declared.action.Action.TheVariants.{Load};
-    ghost use Rattle.pm_words.specs.Turns.{GoesBelow};
-    ghost use Rattle.pm_words.specs.Turns.{AdvancesTo, turn_of};
+    ghost use Rattle.pm_words.specs.Turns.{AdvancesTo, GoesBelow, turn_of};
     ghost use Rattle.machine_runs.specs.Runs.{Bursts, MayGo};
     ghost use Rattle.pm_words.specs.Offsets.{version_offset};
     ghost use Rattle.node_ops.specs.Calls.{IsCall, call_address};

@@ -13,6 +13,9 @@
 //! A put that finds its node full and without its name splits it, and is to be made again. A delete that leaves few
 //! names takes a log line before its store, and once it is counted merges the next node into its own.
 //!
+//! `Running` is the machine of any of these, and `Recheck` one of its own. What stands in them, as a look-up does, is
+//! asked for its action and told its number in place, and nobody holds it by value.
+//!
 //! Callers on threads ask a call for its action, and tell it a number, at each single event. What they go through then
 //! is marked `inline(always)`: handed from level to level through memory, an action would cost more than the event.
 #![tactic(auto)]
@@ -22,6 +25,7 @@ mod del;
 mod fill;
 mod finish;
 mod get;
+mod in_place;
 pub mod laws;
 mod lookup;
 mod part;

@@ -139,10 +139,9 @@ pub enum LookupAt {
 impl Lookup {
     ghost use Rattle.std.specs.Prelude.{◌≡◌, ℕ, ◌+◌, ◌^◌, ◌<◌, ◌≤◌, List, Some, IfSome};
     ghost use Rattle.std.specs.Prelude.{replicate, slice_set};
-    ghost use Rattle.pm_words.specs.Turns.{GoesBelow};
+    ghost use Rattle.pm_words.specs.Turns.{AdvancesTo, GoesBelow};
     ghost use Rattle.pm_words.specs.Layouts.{IsLayout};
     ghost use Rattle.pm_words.specs.declared.machine.Turn.TheVariants.{Go, Done};
-    ghost use Rattle.pm_words.specs.Turns.{AdvancesTo};
     ghost use Rattle.data_node.specs.Bits.{without_live};
     ghost use Rattle.data_node.specs.Slots.{IsLive};
     ghost use Rattle.data_list.specs.Walks.{walk_turned};

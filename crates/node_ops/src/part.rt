@@ -15,6 +15,7 @@ ghost use Rattle.std.specs.Prelude.{◌≡◌, ◌≤◌};
 ghost use Rattle.node_ops.specs.PartSteps.{next_at};
 
 use crate::call::{Call, slot_word};
+use crate::in_place::tell;
 use crate::lookup::{Hold, Looked, Lookup, LookupAt};
 use call_stages::{Once, Placed, View};
 use cat_key::{Name, WORDS};
@@ -333,43 +334,15 @@ impl Part {
         ensures turned { AdvancesTo (part_turned self.old got) self.new result }
         ensures fewer { GoesBelow part_left (part_left self.old) (part_turned self.old got) }
     {
-        match self {
-            Part::Looking { .. } => match self.looked(got) {
-                None => None,
-                Some(answer) => Some(Part::early(answer)),
+        let listed = self.listed();
+        match self.advance_placed(got)? {
+            Once::Done(_) => match listed {
+                Some(words) => Some(Once::Done(words)),
+                None => unreachable!(),
             },
-            Part::Ordering { .. } => {
-                self.loaded(got);
-                None
-            }
-            Part::Locking { .. } => match self.tried_lock(got) {
-                None => None,
-                Some(answer) => Some(Part::early(answer)),
-            },
-            Part::Dating { .. } => {
-                self.saw_clock(got);
-                None
-            }
-            Part::Reading { reading } => match reading.at {
-                ReadingAt::Clock => {
-                    reading.saw_clock(got);
-                    None
-                }
-                ReadingAt::Bitmap => {
-                    reading.saw_bitmap(got);
-                    None
-                }
-                ReadingAt::Load { slot, word } => {
-                    reading.loaded(slot, word, got);
-                    None
-                }
-                ReadingAt::Check => Some(reading.checked(got)),
-                ReadingAt::Store { store } => {
-                    reading.stored(store, got);
-                    None
-                }
-                ReadingAt::Unlock => Some(Once::Done(reading.words())),
-            },
+            Once::Spent { clock } => Some(Once::Spent { clock }),
+            Once::Worn { node, word } => Some(Once::Worn { node, word }),
+            Once::Again(why) => Some(Once::Again(why)),
         }
     }
 
@@ -479,12 +452,9 @@ impl Part {
         else {
             return;
         };
-        match load.resume(got) {
-            Turn::Go(next) => *load = next,
-            Turn::Done(order) => {
-                let (call, seen, count) = (*call, *seen, *count);
-                *self = Part::ordered(call, seen, count, order);
-            }
+        if let Some(order) = tell(load, got) {
+            let (call, seen, count) = (*call, *seen, *count);
+            *self = Part::ordered(call, seen, count, order);
         }
     }
 
@@ -753,23 +723,8 @@ impl Reading {
     ghost use Rattle.node_ops.specs.PartSteps.{part_checked, part_words};
     ghost use Rattle.node_ops.specs.PartSteps.{placed_of, version_at, words_placed};
 
-    /// What it comes to: what it tells, where the version word is still the one that the walk saw.
-    fn checked(&self, got: u64) -> Once<PartWords>
-        requires { IsReading self.now }
-        ensures { result ≡ part_checked self.now got }
-    {
-        if got == self.hold.locked {
-            Once::Done(self.words())
-        } else {
-            Once::Again(Again::Moved {
-                node: self.call.node,
-                first: self.hold.locked,
-                second: got,
-            })
-        }
-    }
-
-    /// What it comes to, as a get of its low name.
+    /// What it comes to, as a get of its low name: what it tells, where the version word is still the one that the walk
+    /// saw.
     fn placed(&self, got: u64) -> Once<Placed>
         requires { IsReading self.now }
         ensures { result ≡ placed_of (part_checked self.now got) }

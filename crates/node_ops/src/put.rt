@@ -176,8 +176,7 @@ impl Put {
 }
 
 impl Put {
-    ghost use Rattle.pm_words.specs.Turns.{GoesBelow};
-    ghost use Rattle.pm_words.specs.Turns.{AdvancesTo, turn_of};
+    ghost use Rattle.pm_words.specs.Turns.{AdvancesTo, GoesBelow, turn_of};
     ghost use Rattle.machine_runs.specs.Runs.{AddsNothing, Bursts, MayGo};
     ghost use Rattle.node_ops.specs.PutSteps.{put_asks, put_left, put_takes, put_turned};
 

@@ -115,8 +115,7 @@ impl Running {
 impl Running {
     ghost use Rattle.std.specs.Prelude.{◌≡◌, ◌↔◌, IsFalse, IsSome, IsTrue};
     ghost use Rattle.call_stages.specs.Stages.{counted, placed_in};
-    ghost use Rattle.pm_words.specs.Turns.{GoesBelow};
-    ghost use Rattle.pm_words.specs.Turns.{AdvancesTo, turn_of};
+    ghost use Rattle.pm_words.specs.Turns.{AdvancesTo, GoesBelow, turn_of};
     ghost use Rattle.machine_runs.specs.Runs.{AddsNothing, Bursts, MayGo};
     ghost use Rattle.node_ops.specs.PartSteps.{part_left, part_takes, part_turned};
     ghost use Rattle.node_ops.specs.RunningSteps.{IsRunning, running_call, running_left, running_takes, running_turned};

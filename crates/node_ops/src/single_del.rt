@@ -11,12 +11,13 @@ ghost use Rattle.std.specs.Prelude.{◌≡◌};
 
 use crate::call::Call;
 use crate::finish::{Finish, FinishAt};
+use crate::in_place::tell;
 use crate::lookup::{Found, Hit, Hold, Looked, Lookup};
 use call_stages::{Once, Placed};
 use cat_history::{Change, NameOp};
 use data_node::{live_count, without_live};
 use pm_words::offsets::node;
-use pm_words::{Action, Again, Fence, Machine, Memory, Steps, Turn, line_of};
+use pm_words::{Action, Again, Fence, Machine, Memory, Steps, line_of};
 use smo_log::{Take, Taken};
 use std::sync::ledger::Ledger;
 use version_lock::freed_of;
@@ -337,9 +338,9 @@ impl SingleDel {
         else {
             return;
         };
-        match take.resume(got) {
-            Turn::Go(next) => *take = next,
-            Turn::Done(Taken::Line { line }) => {
+        match tell(take, got) {
+            None => {}
+            Some(Taken::Line { line }) => {
                 *self = SingleDel::Clearing {
                     call: *call,
                     hold: *hold,
@@ -348,7 +349,7 @@ impl SingleDel {
                     line: Some(line),
                 };
             }
-            Turn::Done(Taken::Full) => {
+            Some(Taken::Full) => {
                 *self = SingleDel::Refusing {
                     call: *call,
                     hold: *hold,
