@@ -38,7 +38,7 @@ impl Finish {
     ghost use Rattle.std.specs.Prelude.{◌≡◌, ◌↔◌, IfSome, IsFalse};
     ghost use Rattle.pm_words.specs.declared.machine.Turn.TheVariants.{Go};
     ghost use Rattle.pm_words.specs.Fences.{fence_start};
-    ghost use Rattle.pm_words.specs.Turns.{AdvancesTo, GoesBelow, turn_of};
+    ghost use Rattle.pm_words.specs.Turns.{AdvancesTo, GoesBelow};
     ghost use Rattle.machine_runs.specs.Runs.{AddsNothing, Bursts, MayGo};
     ghost use Rattle.call_stages.specs.Stages.{counted, placed_in};
     ghost use Rattle.node_ops.specs.Calls.{IsCall, name_in};
@@ -88,28 +88,8 @@ impl Finish {
         }
     }
 
-    /// Makes the line durable, or gives the node back, with nothing between: it stops before it is counted.
-    pub(crate) fn burst<L: Ledger>(
-        &mut self,
-        memory: &mut Memory,
-        steps: &mut Steps<L>,
-    ) -> Option<Once<Placed>>
-        requires may { MayGo finish_asks finish_turned finish_left finish_takes memory.now.layout memory.now.words
-            self.now }
-        requires adds { AddsNothing (finish_asks self.now) }
-        ensures { Bursts finish_asks finish_turned finish_left memory.entry.now memory.exit.now self.entry.now
-            (turn_of self.exit.now result) steps.entry.now steps.exit.now }
-    {
-        let Some(line) = self.line_to_flush() else {
-            let got = memory.act(self.action(), steps);
-            return self.advance(got);
-        };
-        self.flush(line, memory, steps);
-        None
-    }
-
     /// The first word of its line, where it has yet to begin to make that durable.
-    fn line_to_flush(&self) -> Option<u64>
+    pub(crate) fn line_to_flush(&self) -> Option<u64>
         ensures { IfSome result (λ line. self.now.at ≡ FinishAt.Fence line fence_start) }
     {
         let FinishAt::Fence { line, fence } = &self.at else {

@@ -142,15 +142,30 @@ impl SingleDel {
                     None
                 }
             },
-            SingleDel::Finishing { finish, line } => {
-                let line = *line;
-                SingleDel::ends(finish, line, memory, steps)
+            SingleDel::Finishing { finish, line: None } => {
+                let Some(line) = finish.line_to_flush() else {
+                    return self.turns(memory, steps);
+                };
+                finish.flush(line, memory, steps);
+                None
             }
-            _ => {
-                let got = memory.act(self.action(), steps);
-                self.advance(got)
-            }
+            _ => self.turns(memory, steps),
         }
+    }
+
+    /// One turn.
+    fn turns<L: Ledger>(
+        &mut self,
+        memory: &mut Memory,
+        steps: &mut Steps<L>,
+    ) -> Option<SingleDelDone>
+        requires may { MayGo del_asks del_turned del_left del_takes memory.old.layout memory.old.words
+            (Del.Single self.old) }
+        requires adds { AddsNothing (del_asks (Del.Single self.old)) }
+        ensures { SingleDelBursts memory.old memory.new self.old self.new result steps.old steps.new }
+    {
+        let got = memory.act(self.action(), steps);
+        self.advance(got)
     }
 
     /// Where it looks, it has one number more, and once it has looked it goes on with what it found.
@@ -170,31 +185,6 @@ impl SingleDel {
             Looked::Found(found) => {
                 *self = SingleDel::found(lookup.call, found);
                 None
-            }
-        }
-    }
-
-    /// Makes the end of a write with nothing between. With a line it makes one turn, which may end with its place.
-    fn ends<L: Ledger>(
-        finish: &mut Finish,
-        line: Option<u64>,
-        memory: &mut Memory,
-        steps: &mut Steps<L>,
-    ) -> Option<SingleDelDone>
-        requires may { MayGo del_asks del_turned del_left del_takes memory.now.layout memory.now.words
-            (Del.Single (SingleDel.Finishing finish.now line)) }
-        requires adds { AddsNothing (del_asks (Del.Single (SingleDel.Finishing finish.now line))) }
-        ensures { SingleDelBursts memory.entry.now memory.exit.now (SingleDel.Finishing finish.entry.now line)
-            (SingleDel.Finishing finish.exit.now line) result steps.entry.now steps.exit.now }
-    {
-        match line {
-            None => {
-                let answer = finish.burst(memory, steps)?;
-                Some(SingleDelDone::Answered(answer))
-            }
-            Some(_) => {
-                let got = memory.act(finish.action(), steps);
-                SingleDel::finishes(finish, line, got)
             }
         }
     }

@@ -129,15 +129,30 @@ impl SinglePut {
                 self.filled();
                 None
             }
-            SinglePut::Replacing { .. } => {
-                let got = memory.act(self.action(), steps);
-                self.advance(got)
-            }
+            SinglePut::Replacing { .. } => self.turns(memory, steps),
             SinglePut::Finishing { finish } => {
-                let answer = finish.burst(memory, steps)?;
-                Some(SinglePutDone::Answered(answer))
+                let Some(line) = finish.line_to_flush() else {
+                    return self.turns(memory, steps);
+                };
+                finish.flush(line, memory, steps);
+                None
             }
         }
+    }
+
+    /// One turn.
+    fn turns<L: Ledger>(
+        &mut self,
+        memory: &mut Memory,
+        steps: &mut Steps<L>,
+    ) -> Option<SinglePutDone>
+        requires may { MayGo put_asks put_turned put_left put_takes memory.old.layout memory.old.words
+            (Put.Single self.old) }
+        requires adds { AddsNothing (put_asks (Put.Single self.old)) }
+        ensures { SinglePutBursts memory.old memory.new self.old self.new result steps.old steps.new }
+    {
+        let got = memory.act(self.action(), steps);
+        self.advance(got)
     }
 
     /// Where it looks, it has one number more, and once it has looked it goes on with what it found.

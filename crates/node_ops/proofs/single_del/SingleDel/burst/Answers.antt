@@ -1,14 +1,14 @@
-use Rattle.std.proofs.Common.{sym, refl, ap, subst}
+use Rattle.std.proofs.Common.{ℕ, sym, refl, ap, subst, ◌∙◌}
+use Rattle.std.specs.Prelude.{Option, None}
 use Rattle.pm_words.specs.declared.machine.Turn.TheVariants.{Go, Done}
-use Rattle.machine_runs.specs.Runs.{AddsNothing, MayGo}
-use Rattle.machine_runs.proofs.Running.{run_begins, run_can, run_ends, run_takes}
+use Rattle.machine_runs.proofs.Inside.{part_bursts, part_may}
 use Rattle.node_ops.specs.declared.lookup.Looked.{Looked}
 use Rattle.node_ops.specs.declared.del.Del.{Del}
 use Rattle.node_ops.specs.declared.del.Del.TheVariants.{Single}
 use Rattle.node_ops.specs.declared.single_del.SingleDel.{SingleDel}
-use Rattle.node_ops.specs.declared.single_del.SingleDel.TheVariants.{Looking}
-use Rattle.node_ops.specs.DelSteps.{SingleDelTurns, del_asks, del_found, del_left, del_looked, del_takes, del_turned}
-use Rattle.node_ops.proofs.DelBursts.{del_looking_may, del_looked_call, del_looked_found, del_looking_bursts}
+use Rattle.node_ops.specs.declared.single_del.SingleDel.TheVariants.{Looking, Finishing}
+use Rattle.node_ops.specs.DelSteps.{SingleDelTurns, del_finished, del_found, del_looked}
+use Rattle.node_ops.proofs.DelBursts.{del_looking_may, del_looked_call, del_looked_found, del_looking_bursts, finishing_del}
 use Rattle.node_ops.proofs.single_del.SingleDel.burst.Goals as goal
 
 pub burst-requires : goal.burst-requires
@@ -52,34 +52,18 @@ returns-in-Found g c = record {
   turns = ap (λ (d : Del). Go d) (sym c.found.ensures);
 }
 
-pub ends-requires-clause-may : goal.ends-requires-clause-may
-ends-requires-clause-may g c =
-    subst (λ (s : SingleDel). MayGo del_asks del_turned del_left del_takes c.args.memory.now.layout
-    c.args.memory.now.words (Single s)) c.in-Finishing.is c.requires.may
+pub flush-requires-clause-may : goal.flush-requires-clause-may
+flush-requires-clause-may g c =
+    part_may finishing_del (ap (λ (s : SingleDel). Single s) (c.in-Finishing-default-None.is
+    ∙ ap (λ (l : Option ℕ). Finishing c.in-Finishing-default-None.finish l) c.in-Finishing-default-None.line-is))
+    {old = c.args.memory.now} c.requires.may
 
-pub ends-requires-clause-adds : goal.ends-requires-clause-adds
-ends-requires-clause-adds g c =
-    subst (λ (s : SingleDel). AddsNothing (del_asks (Single s))) c.in-Finishing.is c.requires.adds
-
-pub action-requires : goal.action-requires
-action-requires g c =
-    (run_takes del_takes c.requires.may (run_begins c.args.memory.now (Single c.args.self.now) c.args.steps.now)
-    refl refl).0
-
-pub act-got-requires : goal.act-got-requires
-act-got-requires g c =
-    run_can del_takes c.requires.may (run_begins c.args.memory.now (Single c.args.self.now) c.args.steps.now)
-    c.action.ensures
-
-pub advance-requires : goal.advance-requires
-advance-requires g c =
-    run_takes del_takes c.requires.may (run_begins c.args.memory.now (Single c.args.self.now) c.args.steps.now)
-    c.action.ensures c.act-got.ensures.got
-
-pub returns-in_default : goal.returns-in_default
-returns-in_default g c = record {
-  end = del_turned (Single c.args.self.now) c.act-got.result;
-  burst = run_ends (run_begins c.args.memory.now (Single c.args.self.now) c.args.steps.now) c.requires.adds
-      c.action.ensures c.act-got.ensures.row c.act-got.ensures.got c.act-got.ensures.tick c.advance.ensures.fewer refl;
-  turns = c.advance.ensures.turned;
+pub returns-in-Some : goal.returns-in-Some
+returns-in-Some g c = record {
+  end = Go (Single (Finishing c.flush.new.self None));
+  burst = part_bursts finishing_del (ap (λ (s : SingleDel). Single s) (c.in-Finishing-default-None.is
+      ∙ ap (λ (l : Option ℕ). Finishing c.in-Finishing-default-None.finish l) c.in-Finishing-default-None.line-is))
+      c.requires.may c.flush.ensures.bursts (ap (del_finished None) (sym c.flush.ensures.bursts.ends));
+  turns = ap (λ (l : Option ℕ). Go (Single (Finishing c.flush.new.self l)))
+      (sym c.in-Finishing-default-None.line-is);
 }

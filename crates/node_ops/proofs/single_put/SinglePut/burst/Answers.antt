@@ -1,13 +1,12 @@
 use Rattle.std.proofs.Common.{sym, refl, ap, subst, ◌∙◌}
 use Rattle.pm_words.specs.declared.machine.Turn.TheVariants.{Go, Done}
 use Rattle.machine_runs.proofs.Inside.{part_bursts, part_may}
-use Rattle.machine_runs.proofs.Running.{run_begins, run_can, run_ends, run_takes}
 use Rattle.node_ops.specs.declared.lookup.Looked.{Looked}
 use Rattle.node_ops.specs.declared.put.Put.TheVariants.{Single}
 use Rattle.node_ops.specs.declared.single_put.SinglePut.{SinglePut}
 use Rattle.node_ops.specs.declared.single_put.SinglePut.TheVariants.{Looking, Finishing}
 use Rattle.node_ops.specs.FillSteps.{filled}
-use Rattle.node_ops.specs.PutSteps.{SinglePutTurns, put_filled, put_finished, put_found, put_looked, put_takes, put_turned}
+use Rattle.node_ops.specs.PutSteps.{SinglePutTurns, put_filled, put_finished, put_found, put_looked}
 use Rattle.node_ops.proofs.PutBursts.{put_looking_may, put_looked_call, put_looked_found, put_looking_bursts}
 use Rattle.node_ops.proofs.PutBursts.{filling_put, finishing_put, put_replacing_bursts, put_replacing_may}
 use Rattle.node_ops.proofs.single_put.SinglePut.burst.Goals as goal
@@ -86,46 +85,14 @@ returns-in-Filling g c = record {
   turns = ap (λ (s : SinglePut). Go (Single s)) (sym (c.filled.ensures c.run.new.self refl));
 }
 
-pub action-requires : goal.action-requires
-action-requires g c =
-    (run_takes put_takes c.requires.may (run_begins c.args.memory.now (Single c.args.self.now) c.args.steps.now)
-    refl refl).0
-
-pub act-got-requires : goal.act-got-requires
-act-got-requires g c =
-    run_can put_takes c.requires.may (run_begins c.args.memory.now (Single c.args.self.now) c.args.steps.now)
-    c.action.ensures
-
-pub advance-requires : goal.advance-requires
-advance-requires g c =
-    run_takes put_takes c.requires.may (run_begins c.args.memory.now (Single c.args.self.now) c.args.steps.now)
-    c.action.ensures c.act-got.ensures.got
-
-pub returns-in-Replacing : goal.returns-in-Replacing
-returns-in-Replacing g c = record {
-  end = put_turned (Single c.args.self.now) c.act-got.result;
-  burst = run_ends (run_begins c.args.memory.now (Single c.args.self.now) c.args.steps.now) c.requires.adds
-      c.action.ensures c.act-got.ensures.row c.act-got.ensures.got c.act-got.ensures.tick c.advance.ensures.fewer refl;
-  turns = c.advance.ensures.turned;
-}
-
-pub burst-requires-in-Finishing-clause-may : goal.burst-requires-in-Finishing-clause-may
-burst-requires-in-Finishing-clause-may g c =
+pub flush-requires-clause-may : goal.flush-requires-clause-may
+flush-requires-clause-may g c =
     part_may finishing_put (ap (λ (s : SinglePut). Single s) c.in-Finishing.is) {old = c.args.memory.now} c.requires.may
 
-pub returns-in_err-answer-in-Finishing : goal.returns-in_err-answer-in-Finishing
-returns-in_err-answer-in-Finishing g c = record {
-  end = Go (Single (Finishing c.burst-in-Finishing.new.self));
+pub returns-in-Some-line_to_flush : goal.returns-in-Some-line_to_flush
+returns-in-Some-line_to_flush g c = record {
+  end = Go (Single (Finishing c.flush.new.self));
   burst = part_bursts finishing_put (ap (λ (s : SinglePut). Single s) c.in-Finishing.is) c.requires.may
-      c.in_err-answer-in-Finishing.ensures (ap put_finished (sym c.in_err-answer-in-Finishing.ensures.ends));
-  turns = subst (SinglePutTurns (Go (Single (Finishing c.burst-in-Finishing.new.self)))
-      (Finishing c.burst-in-Finishing.new.self)) (sym c.from_residual-in_err-answer-in-Finishing.ensures) refl;
-}
-
-pub returns-in_ok-answer-in-Finishing : goal.returns-in_ok-answer-in-Finishing
-returns-in_ok-answer-in-Finishing g c = record {
-  end = Done c.in_ok-answer-in-Finishing.answer;
-  burst = part_bursts finishing_put (ap (λ (s : SinglePut). Single s) c.in-Finishing.is) c.requires.may
-      c.in_ok-answer-in-Finishing.ensures (ap put_finished (sym c.in_ok-answer-in-Finishing.ensures.ends));
+      c.flush.ensures.bursts (ap put_finished (sym c.flush.ensures.bursts.ends));
   turns = refl;
 }

@@ -1,0 +1,28 @@
+use Rattle.std.proofs.Common.{refl}
+use Rattle.machine_runs.proofs.Running.{run_begins, run_can, run_ends, run_takes}
+use Rattle.node_ops.specs.declared.del.Del.TheVariants.{Single}
+use Rattle.node_ops.specs.DelSteps.{del_takes, del_turned}
+use Rattle.node_ops.proofs.single_del.SingleDel.turns.Goals as goal
+
+pub action-requires : goal.action-requires
+action-requires g c =
+    (run_takes del_takes c.requires.may (run_begins c.args.memory.now (Single c.args.self.now) c.args.steps.now)
+    refl refl).0
+
+pub act-got-requires : goal.act-got-requires
+act-got-requires g c =
+    run_can del_takes c.requires.may (run_begins c.args.memory.now (Single c.args.self.now) c.args.steps.now)
+    c.action.ensures
+
+pub advance-requires : goal.advance-requires
+advance-requires g c =
+    run_takes del_takes c.requires.may (run_begins c.args.memory.now (Single c.args.self.now) c.args.steps.now)
+    c.action.ensures c.act-got.ensures.got
+
+pub returns : goal.returns
+returns g c = record {
+  end = del_turned (Single c.args.self.now) c.act-got.result;
+  burst = run_ends (run_begins c.args.memory.now (Single c.args.self.now) c.args.steps.now) c.requires.adds
+      c.action.ensures c.act-got.ensures.row c.act-got.ensures.got c.act-got.ensures.tick c.advance.ensures.fewer refl;
+  turns = c.advance.ensures.turned;
+}
