@@ -96,17 +96,23 @@ fn largest_image(alloc: Global) -> Result<Image> {
     Image::read(alloc, &bytes).map_err(|fault| anyhow!("{fault:?}"))
 }
 
-/// Looks for the first rule that the largest image breaks, which is sound, and prints the least time.
+/// How long it takes to look for the first rule that an image breaks, which has to be sound.
+fn look_once<R: Clock>(rt: &R, image: &Image) -> Result<Duration> {
+    let start = Instant::now(rt)?;
+    let broken = first_broken_of_all(image);
+    let looking = start.elapsed(rt)?;
+    match broken {
+        None => Ok(looking),
+        Some(broken) => Err(anyhow!("{broken:?}")),
+    }
+}
+
+/// Looks so at the largest image some times, and prints the least time.
 pub fn time_sound<R: Print + Clock + AllocGlobal>(rt: &R) -> Result<()> {
     let image = largest_image(rt.alloc())?;
     let mut looking = Duration::MAX;
     for _ in 0..RUNS {
-        let start = Instant::now(rt)?;
-        let broken = first_broken_of_all(&image);
-        looking = looking.min(start.elapsed(rt)?);
-        if let Some(broken) = broken {
-            return Err(anyhow!("{broken:?}"));
-        }
+        looking = looking.min(look_once(rt, &image)?);
     }
     let looking = looking.as_micros();
     println!(rt;

@@ -193,14 +193,19 @@ pub fn judge_once<R: Print + AllocGlobal>(rt: &R, calls: u64) -> Result<()> {
     Ok(())
 }
 
+/// How long it takes to judge it.
+fn time_once<R: Clock + AllocGlobal>(rt: &R, round: &LongRound) -> Result<Duration> {
+    let start = Instant::now(rt)?;
+    names_left(rt.alloc(), round)?;
+    Ok(start.elapsed(rt)?)
+}
+
 /// Judges it some times, and prints the least time.
 pub fn time_judge<R: Print + Clock + AllocGlobal>(rt: &R, calls: u64) -> Result<()> {
     let round = long_round(rt.alloc(), calls)?;
     let mut least = Duration::MAX;
     for _ in 0..RUNS {
-        let start = Instant::now(rt)?;
-        names_left(rt.alloc(), &round)?;
-        least = least.min(start.elapsed(rt)?);
+        least = least.min(time_once(rt, &round)?);
     }
     let least = least.as_micros();
     println!(rt; "{calls} calls: judged in {least} us")?;
