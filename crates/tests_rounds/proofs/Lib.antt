@@ -1,2 +1,0 @@
-pub mod Finishes
-pub mod Callers

@@ -1,5 +1,0 @@
-//! Tests of rounds of several callers.
-#![tactic(auto)]
-
-#[cfg(test)]
-mod tests;
