@@ -6,7 +6,6 @@ mod held;
 mod histories;
 mod meeting;
 mod playing;
-mod scans;
 mod telling;
 mod turns;
 mod watch;

@@ -150,7 +150,7 @@ fn told(name: Name, asks: Asks, caller: u64, index: u64, placed: Placed) -> Repl
 }
 
 /// One try of a put, a get or a delete.
-pub(crate) fn once(
+fn once(
     shared: &Shared,
     caller: &mut Caller,
     name: Name,
