@@ -6,6 +6,7 @@ mod held;
 mod histories;
 mod meeting;
 mod playing;
+mod releases;
 mod telling;
 mod turns;
 mod watch;

@@ -1,5 +1,5 @@
-use Rattle.tests_epochs.proofs.LastSeats.{popped}
-use Rattle.tests_epochs.proofs.tests.take_last.Goals as goal
+use Rattle.tests_threads.proofs.LastSeats.{popped}
+use Rattle.tests_threads.proofs.tests.releases.take_last.Goals as goal
 
 pub returns-clause-seat : goal.returns-clause-seat
 returns-clause-seat c =

@@ -1,4 +1,4 @@
-//! Pins and advances, one after another and on threads.
+//! Pins and advances of the epoch, and the release numbers that they leave, one after another and on threads.
 
 ghost use Rattle.std.specs.Prelude.{◌≡◌, ◌+◌, ◌<◌, length, IfOk};
 ghost use denote.Param.Send.{IsSync};

@@ -1,6 +1,6 @@
 use Rattle.std.proofs.Common.{◌≡◌}
 use Rattle.epochs.specs.Seats.{IsSeatOf, IsUnpinned}
-use Rattle.tests_epochs.proofs.tests.advances.Given as goal
+use Rattle.tests_threads.proofs.tests.releases.pins.Given as goal
 
 abbrev pub invariant-loop : goal.invariant-loop
 invariant-loop l = IsSeatOf l.fn.epochs l.seat × IsUnpinned l.seat × (l.seat.party ≡ l.fn.seat.party)

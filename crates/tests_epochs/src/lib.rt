@@ -1,5 +1,0 @@
-//! Tests of pins and release numbers.
-#![tactic(auto)]
-
-#[cfg(test)]
-mod tests;

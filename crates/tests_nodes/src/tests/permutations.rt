@@ -1,0 +1,4 @@
+//! The words of permutations, and the machines that store and load them.
+
+mod machines;
+mod words;

@@ -1,4 +1,0 @@
-//! The tests, by what they are of.
-
-mod machines;
-mod words;
