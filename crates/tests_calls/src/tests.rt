@@ -3,8 +3,6 @@
 mod call_merges;
 mod calls;
 mod meanwhile;
-mod merges;
 mod parts;
 mod rows;
-mod splits;
 mod turns;

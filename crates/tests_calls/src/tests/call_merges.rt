@@ -10,6 +10,7 @@ use pm_words::offsets::{line, node, volatile};
 use pm_words::{Again, Layout};
 use std::process::Abort;
 use std::test::Fail;
+use version_lock::LAST_COUNT;
 
 /// Node 0 gets the names a and b, and node 2 the name g. A walk to node 0 takes 9 loads, and one to node 2 as many
 /// more; a put of a new name takes 67 actions behind the walk.
@@ -149,14 +150,32 @@ fn a_delete_beside_a_fuller_node_merges_nothing(rt: HostRuntime) -> Result<(), F
     Ok(())
 }
 
-/// Each of the eight lines of the caller is READY.
-fn mark_all(rt: &impl Abort, row: &mut Row)
+/// Where the next node has this version word, a locked or a worn one, a delete merges nothing: next to its own actions
+/// it loads the bitmap, next and that word, and gives its node back.
+fn leaves(rt: &impl Abort, row: &mut Row, word: u64)
     ensures { row.new.layout ≡ row.old.layout }
 {
-    for number in 0..8 {
-        let address = line_at(rt, &row.layout, number, line::STATE);
-        row.stand(rt, address, READY);
+    row.set(rt, 2, node::VERSION, word);
+    let is_done = is_answered(rt, row, del(b'a'), done(Some(1), 3), FLOOR + 60 + 4);
+    let words = [
+        (0, node::BITMAP, 0b10, 0b10),
+        (0, node::NEXT, 2, 2),
+        (2, node::VERSION, word, word),
+        (2, node::BITMAP, 1, 1),
+    ];
+    assert_eq!(rt; (is_done, row.other_twins(rt, &words)), (true, words.len()));
+    assert!(rt; row.state(rt, 0) == (0, 0));
+}
+
+#[test]
+fn a_delete_beside_a_locked_or_worn_node_merges_nothing(rt: HostRuntime) -> Result<(), Fail> {
+    let layout = Layout::new(3, 4, 1)?;
+    for word in [FREE + 7, FREE + 2 * LAST_COUNT] {
+        let mut row = Row::new(layout, vec![in rt.alloc(); 0u64; ROW]?);
+        three_names(&rt, &mut row);
+        leaves(&rt, &mut row, word);
     }
+    Ok(())
 }
 
 /// At the end of the list a delete that leaves few names takes no line.
@@ -172,7 +191,7 @@ fn a_delete_without_a_neighbour_takes_no_line(rt: HostRuntime) -> Result<(), Fai
     let layout = Layout::new(1, 4, 1)?;
     let mut row = Row::new(layout, vec![in rt.alloc(); 0u64; ROW]?);
     row.live(&rt, 0, 0);
-    mark_all(&rt, &mut row);
+    row.mark_all(&rt, READY);
     see_calls(&rt, &mut row, &calls_at_the_end());
     assert!(rt; row.of_node(&rt, 0, node::BITMAP) == (0, 0));
     Ok(())
@@ -205,7 +224,7 @@ fn a_delete_without_a_line_is_to_be_made_again(rt: HostRuntime) -> Result<(), Fa
     let layout = Layout::new(3, 4, 1)?;
     let mut row = Row::new(layout, vec![in rt.alloc(); 0u64; ROW]?);
     three_names(&rt, &mut row);
-    mark_all(&rt, &mut row);
+    row.mark_all(&rt, READY);
     finds_no_line(&rt, &mut row);
     see_calls(&rt, &mut row, &calls_without_a_line());
     Ok(())

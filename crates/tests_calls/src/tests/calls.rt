@@ -7,8 +7,8 @@ ghost use Rattle.node_ops.specs.RunningSteps.{IsRunning, Sound, running_leads, r
 ghost use Rattle.node_ops.specs.CallStages.{SoundAfter};
 
 use super::rows::{
-    A, FLOOR, FORM_4, FREE, G, LEAF, P, READY, ROW, RUN, Row, cell_at, leaf_at, may_tell, node_at,
-    root_at, view, volatile_at, word_of,
+    A, C, D, FLOOR, FORM_4, FREE, G, LEAF, LIVE, P, READY, ROW, RUN, Row, cell_at, leaf_at,
+    may_tell, node_at, root_at, view, volatile_at, word_of,
 };
 use call_stages::{Once, Placed};
 use cat_key::Name;
@@ -232,42 +232,92 @@ fn one_caller_on_four_slots(rt: HostRuntime) -> Result<(), Fail> {
     Ok(())
 }
 
+/// Node 0 has the names c, a, d and b in its four slots, and leads to node 2; node 1 is FREE. A walk to node 0 takes 9
+/// loads.
+fn four_names(rt: &impl Abort, row: &mut Row)
+    ensures { row.new.layout ≡ row.old.layout }
+{
+    row.live(rt, 0, 2);
+    row.live(rt, 2, 0);
+    row.set(rt, 2, node::ANCHOR, P);
+    let calls = [
+        (put(b'c', 1), done(None, 0), FLOOR + 9 + 67),
+        (put(b'a', 2), done(None, 1), FLOOR + 9 + 67),
+        (put(b'd', 3), done(None, 2), FLOOR + 9 + 67),
+        (put(b'b', 4), done(None, 3), FLOOR + 9 + 67),
+    ];
+    see_calls(rt, row, &calls);
+}
+
 /// A put that finds its node full splits it, and is to be made again: then it goes to the fresh node. The split takes 1
-/// load of next, 17 actions for a line, 3 for the claim, 24 loads of the node's words, 14 stores and three fences for
-/// the fresh node, 40 actions for the opened line, 3 stores up to the switch and its fence, a store and a fence for the
-/// bitmap, 17 actions for READY, and 2 stores. Its line is left READY.
-fn calls_that_split() -> [(Ask, Once<Placed>, u64); 8] {
-    let split = 1 + 17 + 3 + 24 + 14 + 48 + 40 + 3 + 16 + 17 + 17 + 2;
+/// load of next, 2 of lines' states and 16 actions for the fence of the second, 3 for the claim, 24 loads of the node's
+/// words, 14 stores and three fences for the fresh node, 40 actions for the opened line, 3 stores up to the switch and
+/// its fence, 2 stores and a fence for the bitmap and the next node, 17 actions for READY, and 2 stores.
+fn calls_that_split() -> [(Ask, Once<Placed>, u64); 4] {
+    let split = 1 + 18 + 3 + 24 + 14 + 48 + 40 + 3 + 16 + 18 + 17 + 2;
     let again = Once::Again(Again::NeedsSplit { node: 0 });
     [
-        (put(b'c', 1), done(None, 0), FLOOR + 73),
-        (put(b'a', 2), done(None, 1), FLOOR + 73),
-        (put(b'd', 3), done(None, 2), FLOOR + 73),
-        (put(b'b', 4), done(None, 3), FLOOR + 73),
-        (put(b'e', 5), again, FLOOR + 17 + split),
-        (put(b'e', 5), done_after(None, 4, 1), FLOOR + 9 + 6 + 67),
-        (get(b'c'), done_after(Some(1), 5, 1), FLOOR + 9 + 6 + 15),
+        (put(b'e', 5), again, FLOOR + 9 + 11 + split),
+        (put(b'e', 5), done_after(None, 4, 1), FLOOR + 9 + 9 + 67),
+        (get(b'c'), done_after(Some(1), 5, 1), FLOOR + 9 + 9 + 15),
         (get(b'b'), done(Some(4), 5), FLOOR + 9 + 15),
     ]
 }
 
-/// Both nodes have their names, and the line is READY.
+/// What the split leaves: names c and d moved from node 0 to node 1, to which e came then, and the line READY.
 fn see_split(rt: &impl Abort, row: &Row) {
     let words = [
         (0, node::BITMAP, 0b1010, 0b1010),
+        (0, node::NEXT, 1, 1),
+        (0, node::SLOTS, C, C),
+        (0, node::SLOTS + 4, A, A),
         (1, node::BITMAP, 0b111, 0b111),
+        (1, node::NEXT, 2, 2),
+        (1, node::ANCHOR, C, C),
+        (1, node::PRINTS, 0x65_6463, 0x65_6463),
+        (1, node::SLOTS, C, C),
+        (1, node::SLOTS + 3, 1, 1),
+        (1, node::SLOTS + 4, D, D),
+        (1, node::SLOTS + 7, 3, 3),
     ];
     assert_eq!(rt; row.other_twins(rt, &words), words.len());
-    assert!(rt; row.state(rt, 0) == (READY, READY));
+    assert_eq!(rt; row.other_field(rt, 1, [READY, 1, 1, C, 0, 0, 0, 0]), 8);
+    let around = [
+        row.volatile(rt, 1, volatile::STATUS),
+        row.volatile(rt, 1, volatile::PREV),
+        row.volatile(rt, 2, volatile::PREV),
+    ];
+    assert_eq!(rt; around, [LIVE, 0, 1]);
 }
 
 #[test]
 fn a_put_splits_its_full_node(rt: HostRuntime) -> Result<(), Fail> {
-    let layout = Layout::new(2, 4, 1)?;
+    let layout = Layout::new(3, 4, 1)?;
     let mut row = Row::new(layout, vec![in rt.alloc(); 0u64; ROW]?);
-    row.live(&rt, 0, 0);
+    four_names(&rt, &mut row);
+    row.mark(&rt, 0, READY);
     see_calls(&rt, &mut row, &calls_that_split());
     see_split(&rt, &row);
+    Ok(())
+}
+
+/// Where none of its eight lines is EMPTY, a put that finds its node full is to be made again, and has changed nothing:
+/// it loads next and eight states, and gives its node back.
+#[test]
+fn a_put_without_a_line_is_to_be_made_again(rt: HostRuntime) -> Result<(), Fail> {
+    let layout = Layout::new(3, 4, 1)?;
+    let mut row = Row::new(layout, vec![in rt.alloc(); 0u64; ROW]?);
+    four_names(&rt, &mut row);
+    row.mark_all(&rt, READY);
+    let full = Once::Again(Again::LogFull);
+    see_calls(
+        &rt,
+        &mut row,
+        &[(put(b'e', 5), full, FLOOR + 9 + 11 + 1 + 8 + 1)],
+    );
+    let words = [(0, node::BITMAP, 0b1111, 0b1111), (0, node::NEXT, 2, 2)];
+    assert_eq!(rt; row.other_twins(&rt, &words), words.len());
+    assert!(rt; row.state(&rt, 0) == (READY, READY));
     Ok(())
 }
 

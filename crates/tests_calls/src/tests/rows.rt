@@ -42,8 +42,6 @@ pub(crate) const C: u64 = 0x63 << 56;
 
 pub(crate) const D: u64 = 0x64 << 56;
 
-pub(crate) const E: u64 = 0x65 << 56;
-
 pub(crate) const G: u64 = 0x67 << 56;
 
 pub(crate) const P: u64 = 0x70 << 56;
@@ -269,6 +267,23 @@ impl Row {
         8
     }
 
+    /// A line has this state.
+    pub(crate) fn mark(&mut self, rt: &impl Abort, number: u64, state: u64)
+        ensures { self.new.layout ≡ self.old.layout }
+    {
+        let address = line_at(rt, &self.layout, number, line::STATE);
+        self.stand(rt, address, state);
+    }
+
+    /// Each of the eight lines of the first caller has it.
+    pub(crate) fn mark_all(&mut self, rt: &impl Abort, state: u64)
+        ensures { self.new.layout ≡ self.old.layout }
+    {
+        for number in 0..8 {
+            self.mark(rt, number, state);
+        }
+    }
+
     /// The state of a line, and its durable twin.
     pub(crate) fn state(&self, rt: &impl Abort, number: u64) -> (u64, u64) {
         self.twins(rt, line_at(rt, &self.layout, number, line::STATE))
@@ -302,34 +317,6 @@ impl Row {
         }
         self.stored
     }
-}
-
-/// These words of nodes, each a node, an offset and a word, stand in both twins.
-pub(crate) fn set_words(rt: &impl Abort, row: &mut Row, words: &[(u64, u64, u64)])
-    ensures { row.new.layout ≡ row.old.layout }
-{
-    for (number, offset, word) in words.iter().copied() {
-        row.set(rt, number, offset, word);
-    }
-}
-
-/// A change of nodes 0 to 2 has left these words of nodes, these words of line 9, and around node 1 these: its status,
-/// and which nodes stand before it and before node 2.
-pub(crate) fn see_left(
-    rt: &impl Abort,
-    row: &Row,
-    words: &[(u64, u64, u64, u64)],
-    fields: [u64; 8],
-    around: [u64; 3],
-) {
-    assert_eq!(rt; row.other_twins(rt, words), words.len());
-    assert_eq!(rt; row.other_field(rt, 9, fields), 8);
-    let found = [
-        row.volatile(rt, 1, volatile::STATUS),
-        row.volatile(rt, 1, volatile::PREV),
-        row.volatile(rt, 2, volatile::PREV),
-    ];
-    assert_eq!(rt; found, around);
 }
 
 /// What a call of this caller sees.
