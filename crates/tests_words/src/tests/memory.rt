@@ -1,10 +1,8 @@
 //! The words of images by their places, and a memory after actions.
 
-ghost use Rattle.std.specs.Prelude.{◌≡◌, ◌≢◌, ℕ, ◌<◌, ◌≤◌, IfSome};
+ghost use Rattle.std.specs.Prelude.{◌≡◌, ◌<◌, ◌≤◌, IfSome};
 ghost use Rattle.pm_words.specs.Layouts.{IsLayout};
-ghost use Rattle.pm_words.specs.Locations.{image_words, HasWord, Node, Cached, at};
-
-mod stores;
+ghost use Rattle.pm_words.specs.Locations.{image_words};
 
 use pm_words::offsets::{header, leaf, node, volatile};
 use pm_words::{Action, Field, Image, Layout, LayoutFault, Memory, Steps};
@@ -173,19 +171,6 @@ fn drain<L: Ledger>(memory: &mut Memory, word: u64, value: u64, steps: &mut Step
     memory.act(Action::Drain(address, value), steps)
 }
 
-/// A store into one node's bitmap leaves each word of another node: told by the locations, with no arithmetic.
-fn store_bitmap<L: Ledger>(memory: &mut Memory, node: u64, bitmap: u64, steps: &mut Steps<L>)
-    requires { node < memory.old.layout.nodes }
-    ensures stored { at memory.new.layout memory.new.words (Cached (Node node 1)) ≡ bitmap }
-    ensures others { (n o : ℕ) → HasWord memory.old.layout (Node n o) → n ≢ node
-        → at memory.new.layout memory.new.words (Cached (Node n o)) ≡
-        at memory.old.layout memory.old.words (Cached (Node n o)) }
-{
-    let layout = memory.layout();
-    let address = layout.cached(layout.node_word(node, node::BITMAP));
-    memory.act(Action::Store(address, bitmap), steps);
-}
-
 /// What a load of the generation, a store of a number and two exchanges of the version word give.
 fn exchanges<L: Ledger>(
     memory: &mut Memory,
@@ -256,7 +241,12 @@ fn acts<L: Ledger>(alloc: Global, blank: Blank) -> Option<(Given, Image)>
     let version = layout.node_word(1, node::VERSION);
     let value = layout.node_word(1, node::SLOTS + 3);
     let given = act_on(&mut memory, version, value, &mut steps);
-    store_bitmap(&mut memory, 1, 3, &mut steps);
+    store(
+        &mut memory,
+        layout.node_word(1, node::BITMAP),
+        3,
+        &mut steps,
+    );
     Some((given, memory.crash()))
 }
 
