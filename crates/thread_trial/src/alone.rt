@@ -44,12 +44,14 @@ fn fill<L: Ledger>(core: &mut Core, mix: Mix, blank: Blank) -> Result<(), NoMemo
     Ok(())
 }
 
-/// So many calls of the first caller, one after another.
-pub fn play_alone(core: &mut Core, calls: u64, mix: Mix) -> Result<(), NoMemory>
-    requires quiet { IsQuiet core.old }
-    requires caller { 0 < core.old.layout.callers }
+/// The core behind so many calls of its first caller, one after another.
+pub fn play_alone(core: Core, calls: u64, mix: Mix) -> Result<Core, NoMemory>
+    requires quiet { IsQuiet core }
+    requires caller { 0 < core.layout.callers }
 {
-    play_on_core::<Brand>(core, calls, mix, Blank::new(1))
+    let mut core = core;
+    play_on_core::<Brand>(&mut core, calls, mix, Blank::new(1))?;
+    Ok(core)
 }
 
 /// The same, with a ledger for the steps of the calls, which nobody reads.

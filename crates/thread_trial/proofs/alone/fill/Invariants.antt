@@ -1,4 +1,4 @@
-use Rattle.std.proofs.Common.{◌≡◌, ◌<◌}
+use Rattle.std.proofs.Common.{◌≡◌}
 use Rattle.index_core.specs.Lone.{IsQuiet}
 use Rattle.thread_trial.proofs.alone.fill.Given as goal
 
