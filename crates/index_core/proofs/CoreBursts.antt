@@ -52,14 +52,14 @@ module _ (inside : Inside) (old : Index) (i : ℕ) (flies : IsInFlight old i) (v
 
     pub core_runs : (r : PartyState) (machine : Running) → IsRead r → r.machine ≡ Some machine → IsRunning machine
     core_runs r machine found has =
-        let at = core_reads r machine found has in subst IsRunning (sym at.same) at.facts.fits
+        let at = core_reads r machine found has in subst IsRunning (sym at.found.same) at.facts.fits
 
     -- a burst may begin, where the machine adds to no word
     pub core_may : (r now : PartyState) (machine : Running) → IsRead r → r.machine ≡ Some machine
         → AddsNothing (running_asks machine) → IsRead now → IsSomeAnd now.machine (MayBurst inside.memory)
     core_may r now machine found has adds again =
         let at = core_reads r machine found has in
-        let nothing = subst (λ (m : Running). AddsNothing (running_asks m)) at.same adds in
+        let nothing = subst (λ (m : Running). AddsNothing (running_asks m)) at.found.same adds in
         let may = may_go (index_of inside) i flies.state flies.machine core_index own_there flies.flies in
         subst (λ (o : Option Running). IsSomeAnd o (MayBurst inside.memory)) (sym (machine_of_read now again))
         (may, nothing)

@@ -13,10 +13,10 @@ use Rattle.index_core.specs.Cores.{IsCore, index_of, index_with}
 use Rattle.index_core.specs.Indexes.{Index, IsIndex, IsTurning}
 use Rattle.index_core.specs.PartyStates.{owed}
 use Rattle.index_core.specs.Turns.{TurnPasses}
-use Rattle.index_core.proofs.Lists.{read_is, within}
+use Rattle.index_core.proofs.Lists.{read_is, some_same, within}
 use Rattle.index_core.proofs.Passing.{may_pass, run_passes}
 use Rattle.index_core.proofs.Stepping.{respare}
-use Rattle.index_core.proofs.TurnReading.{some_making, turn_owes}
+use Rattle.index_core.proofs.TurnReading.{turn_owes}
 
 module _ (inside : Inside) (old : Index) (i : ℕ) (turns : IsTurning old i) (view : index_of inside ≡ old) where
   -- the state is read at the party's place
@@ -33,11 +33,11 @@ module _ (inside : Inside) (old : Index) (i : ℕ) (turns : IsTurning old i) (vi
   state_read r found = read_is inside.states.items i turns.state r own_there found
 
   -- it makes a turn
-  pub some_turn : (r : PartyState) → IsRead r → r.turn ≡ Some turns.making
-  some_turn r found = ap (λ (d : PartyState). d.turn) (state_read r found) ∙ turns.turns
+  pub some_turn : (r : PartyState) → IsRead r → r.turn ≡ Some turns.machine
+  some_turn r found = ap (λ (d : PartyState). d.turn) (state_read r found) ∙ turns.flies
 
-  making_read : (r : PartyState) (making : MakeTurn) → IsRead r → r.turn ≡ Some making → making ≡ turns.making
-  making_read r making found has = some_making (sym has ∙ some_turn r found)
+  making_read : (r : PartyState) (making : MakeTurn) → IsRead r → r.turn ≡ Some making → making ≡ turns.machine
+  making_read r making found has = some_same (sym has ∙ some_turn r found)
 
   module _ (core : IsCore inside) where
     core_index : IsIndex (index_of inside)
@@ -50,7 +50,7 @@ module _ (inside : Inside) (old : Index) (i : ℕ) (turns : IsTurning old i) (vi
       turn_may_pass =
           subst (MayGo making_asks making_turned making_left making_takes inside.memory.layout inside.memory.words)
           (sym (making_read r making found has))
-          (may_pass (index_of inside) i turns.state turns.making core_index own_there turns.turns)
+          (may_pass (index_of inside) i turns.state turns.machine core_index own_there turns.flies)
 
       -- the index once it has
       abbrev passed : Row → MakeTurn → ℕ → Index
@@ -83,7 +83,7 @@ module _ (inside : Inside) (old : Index) (i : ℕ) (turns : IsTurning old i) (vi
               states = slice_set inside.states.items i (record (sym state k) { turn = Some next });
             }) in
             subst (λ (v : Index). IsIndex v × TurnPasses (index_of inside) i v begun ended) is
-            (run_passes (index_of inside) i turns.state turns.making core_index own_there turns.turns on)
+            (run_passes (index_of inside) i turns.state turns.machine core_index own_there turns.flies on)
 
         -- which is an index still, whatever it may spare
         pub passed_is : (spare : ℕ) → IsIndex (passed row next spare)

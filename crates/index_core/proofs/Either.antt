@@ -25,7 +25,7 @@ use Rattle.index_core.specs.declared.party.PartyState.{PartyState}
 use Rattle.index_core.specs.declared.party.Rechecking.{Rechecking}
 use Rattle.index_core.specs.declared.party.Stepped.{Stepped}
 use Rattle.index_core.specs.declared.party.Stepped.TheVariants.{Going}
-use Rattle.index_core.specs.Indexes.{Index, IsBusy, IsInFlight, IsRechecking, IsTurning, KeepsRoom, Starts, StepsTo, told, view_of}
+use Rattle.index_core.specs.Indexes.{HasInFlight, Index, IsBusy, IsInFlight, IsRechecking, IsTurning, KeepsRoom, Starts, StepsTo, told, view_of}
 use Rattle.index_core.specs.CoreCalls.{machine_of}
 use Rattle.index_core.specs.Lone.{MayRunAlone}
 use Rattle.index_law.specs.Facts.{version_in}
@@ -137,13 +137,13 @@ pub turn_flies : (old new : Index) (i stamp release : ℕ) → StartsTurn old i 
 turn_flies old new i stamp release begun =
     let m = making_from old.layout old.generation stamp release in
     let now : PartyState = record (begun.state) { turn = Some m } in
-    inr (inl (record { state = now; making = m; there = ap (λ (v : Index). get_elem? v.states i) begun.is ∙ set_here old.states i now begun.state begun.there; turns = refl }))
+    inr (inl (record { state = now; machine = m; there = ap (λ (v : Index). get_elem? v.states i) begun.is ∙ set_here old.states i now begun.state begun.there; flies = refl }))
 
 pub recheck_flies : (old new : Index) (i node version : ℕ) → StartsRecheck old i node version new → IsBusy new i
 recheck_flies old new i node version begun =
     let r : Rechecking = record { since = length old.history; machine = Dating (view_of old i) node version } in
     let now : PartyState = record (begun.state) { recheck = Some r } in
-    inr (inr (record { state = now; rechecking = r; there = ap (λ (v : Index). get_elem? v.states i) begun.is ∙ set_here old.states i now begun.state begun.there; checks = refl }))
+    inr (inr (record { state = now; machine = r; there = ap (λ (v : Index). get_elem? v.states i) begun.is ∙ set_here old.states i now begun.state begun.there; flies = refl }))
 
 -- and so has one whose step goes on
 name_on : (m : Running) (turn : Turn Running (Once Placed)) → Going ≡ stepped_of m turn → (next : Running) × (turn ≡ Go next)
@@ -173,9 +173,9 @@ turn_goes_on old new i result step is =
     let now = state_turned t.state (making_turned t.making (turn_told old t.making)) in
     inr (inl (record {
       state = now;
-      making = go.0;
+      machine = go.0;
       there = ap (λ (v : Index). get_elem? v.states i) t.is ∙ set_here old.states i now t.state t.there;
-      turns = ap (λ (turn : Turn MakeTurn TurnReply). (state_turned t.state turn).turn) go.1;
+      flies = ap (λ (turn : Turn MakeTurn TurnReply). (state_turned t.state turn).turn) go.1;
     }))
 
 recheck_on : (turn : Turn Recheck (Once Same)) → Going ≡ recheck_stepped (recheck_reply turn) → (next : Recheck) × (turn ≡ Go next)
@@ -190,9 +190,9 @@ recheck_goes_on old new i result step is =
     let now = state_rechecked t.state t.rechecking.since turn in
     inr (inr (record {
       state = now;
-      rechecking = record { since = t.rechecking.since; machine = go.0 };
+      machine = record { since = t.rechecking.since; machine = go.0 };
       there = ap (λ (v : Index). get_elem? v.states i) t.is ∙ set_here old.states i now t.state t.there;
-      checks = ap (λ (turn : Turn Recheck (Once Same)). recheck_after t.rechecking.since turn) go.1;
+      flies = ap (λ (turn : Turn Recheck (Once Same)). recheck_after t.rechecking.since turn) go.1;
     }))
 
 -- a step of a recheck takes no room for writes
@@ -202,24 +202,16 @@ recheck_keeps_room old new i answer t =
     let owing = recheck_owes old.states i t.state now t.there in
     subst (KeepsRoom old) (sym t.is) (record { spare = omega arith; all = omega arith })
 
--- the state of a party whose call isn't answered, and whether that call is on a name, or a turn
+-- the state of a party whose call isn't answered, and whether that is one of a kind
 pub busy_there : (s : Index) (i : ℕ) → IsBusy s i → (e : PartyState) × (get_elem? s.states i ≡ some e)
 busy_there s i (inl flies) = (flies.state, flies.there)
 busy_there s i (inr (inl turns)) = (turns.state, turns.there)
 busy_there s i (inr (inr checks)) = (checks.state, checks.there)
 
-pub flies_told : (s : Index) (i : ℕ) (e : PartyState) → get_elem? s.states i ≡ some e → is_some e.machine ≡ true → IsInFlight s i
-flies_told s i e there is = let m = some_of e.machine is in record { state = e; machine = m.0; there = there; flies = m.1 }
+pub held_told : {A : Type 0} → (held : PartyState → Option A) (s : Index) (i : ℕ) (e : PartyState) → get_elem? s.states i ≡ some e → is_some (held e) ≡ true → HasInFlight held s i
+held_told held s i e there is = let m = some_of (held e) is in record { state = e; machine = m.0; there = there; flies = m.1 }
 
-pub tells_flight : (s : Index) (i : ℕ) (e : PartyState) → get_elem? s.states i ≡ some e → IsInFlight s i → is_some e.machine ≡ true
-tells_flight s i e there f =
+pub tells_held : {A : Type 0} → (held : PartyState → Option A) (s : Index) (i : ℕ) (e : PartyState) → get_elem? s.states i ≡ some e → HasInFlight held s i → is_some (held e) ≡ true
+tells_held held s i e there f =
     let same : e ≡ f.state = some-injective _ _ (sym there ∙ f.there) in
-    ap (λ (d : PartyState). is_some d.machine) same ∙ ap is_some f.flies
-
-pub turns_told : (s : Index) (i : ℕ) (e : PartyState) → get_elem? s.states i ≡ some e → is_some e.turn ≡ true → IsTurning s i
-turns_told s i e there is = let t = some_of e.turn is in record { state = e; making = t.0; there = there; turns = t.1 }
-
-pub tells_turn : (s : Index) (i : ℕ) (e : PartyState) → get_elem? s.states i ≡ some e → IsTurning s i → is_some e.turn ≡ true
-tells_turn s i e there f =
-    let same : e ≡ f.state = some-injective _ _ (sym there ∙ f.there) in
-    ap (λ (d : PartyState). is_some d.turn) same ∙ ap is_some f.turns
+    ap (λ (d : PartyState). is_some (held d)) same ∙ ap is_some f.flies

@@ -4,6 +4,7 @@ pub mod Owing
 pub mod Ordering
 pub mod Bounds
 pub mod Footings
+pub mod Found
 pub mod Checks
 pub mod Beside
 pub mod RecheckReading

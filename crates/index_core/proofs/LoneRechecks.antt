@@ -24,7 +24,7 @@ use Rattle.index_core.specs.PartyStates.{recheck_after, recheck_reply, state_rec
 use Rattle.index_core.specs.Indexes.{Index, IsIndex, IsRechecking, view_of, world}
 use Rattle.index_core.specs.Lone.{HasNoRechecks}
 use Rattle.index_core.specs.Rechecks.{CutsRecheckOff, GoesOnSame, RecheckSteps, RechecksAlone, StartsRecheck, recheck_told}
-use Rattle.index_core.proofs.Lists.{set_twice}
+use Rattle.index_core.proofs.Lists.{set_twice, some_same}
 
 -- The index as the party's recheck goes on, which has so many actions left.
 pub record LoneRecheck (s0 s : Index) (i node version left : ℕ) : Type 0 where
@@ -51,9 +51,6 @@ lone_recheck_left s0 s i node version left o = subst (λ (n : ℕ). 1 ≤ n) o.l
 
 pub lone_recheck_cut : (s0 s : Index) (i node version left : ℕ) → LoneRecheck s0 s i node version left → CutsRecheckOff s0 i node version s
 lone_recheck_cut s0 s i node version left o = record { state = o.state; there = o.there; recheck = o.machine; node_is = o.node_is; version_is = o.version_is; is = o.is }
-
-some_rechecking : {m n : Rechecking} → Some m ≡ Some n → m ≡ n
-some_rechecking e = cc
 
 -- what a turn comes to, by its reply
 goes : (t : Turn Recheck (Once Same)) → recheck_reply t ≡ None → (next : Recheck) × (t ≡ Go next)
@@ -84,14 +81,14 @@ module _ (s0 s : Index) (i node version left : ℕ) (o : LoneRecheck s0 s i node
   at_i = ap (λ (v : Index). get_elem? v.states i) o.is ∙ set_here s0.states i now o.state o.there
 
   pub lone_recheck_flies : IsRechecking s i
-  lone_recheck_flies = record { state = now; rechecking = r; there = at_i; checks = refl }
+  lone_recheck_flies = record { state = now; machine = r; there = at_i; flies = refl }
 
   module _ (s' : Index) (result : Option (Once Same)) (t : RecheckSteps s i s' result) where
     state_is : t.state ≡ now
     state_is = some-injective _ _ (sym t.there ∙ at_i)
 
     rechecking_is : t.rechecking ≡ r
-    rechecking_is = some_rechecking (sym t.checks ∙ ap (λ (d : PartyState). d.recheck) state_is)
+    rechecking_is = some_same (sym t.checks ∙ ap (λ (d : PartyState). d.recheck) state_is)
 
     turn_is : recheck_turned t.rechecking.machine (recheck_told s t.rechecking.machine) ≡ recheck_turned o.machine (recheck_told s o.machine)
     turn_is = λ k. recheck_turned (rechecking_is k).machine (recheck_told s (rechecking_is k).machine)

@@ -18,7 +18,7 @@ use Rattle.index_law.specs.Footings.{NeedsNoParty, IsInHand}
 use Rattle.index_law.specs.Whole.{Whole}
 use Rattle.index_law.proofs.Noting.{line-here}
 use Rattle.index_law.proofs.AnySteps.{set_own}
-use Rattle.index_law.proofs.Parties.{at_set, set_here}
+use Rattle.index_law.proofs.Parties.{set_here}
 use Rattle.updater.specs.updater_row_law.specs.Columns.{line_count, line_word}
 use Rattle.updater.specs.updater_row_law.proofs.RowColumns.{column-here}
 use Rattle.updater.specs.updater_row_law.specs.Turnings.{Turning}
@@ -56,7 +56,7 @@ use Rattle.index_core.specs.Turns.{KeepsNodes, StartsTurn, TurnAlong, at_first, 
 use Rattle.index_core.specs.Turns.{turn_told, turned_index}
 use Rattle.index_core.proofs.Layering.{turn_of, rest_turns, at_rest}
 use Rattle.index_core.proofs.Lists.{map_there, set_twice}
-use Rattle.index_core.proofs.Quiet.{idle_lines, quiet_parties}
+use Rattle.index_core.proofs.Quiet.{idle_lines, none_now, quiet_parties}
 use Rattle.index_core.proofs.MachineLaw.{none_weigh}
 use Rattle.index_core.proofs.Turning.{layered_is, parties_same, turns_keep}
 
@@ -142,7 +142,7 @@ pub lone_turn_there : (s0 s : Index) (i stamp release : ℕ) (o : LoneTurn s0 s 
 lone_turn_there s0 s i stamp release o = ap (λ (v : Index). get_elem? v.states i) o.is ∙ set_here s0.states i (record (o.state) { turn = Some o.making }) o.state o.there
 
 pub lone_turn_flies : (s0 s : Index) (i stamp release : ℕ) → LoneTurn s0 s i stamp release → IsTurning s i
-lone_turn_flies s0 s i stamp release o = record { state = record (o.state) { turn = Some o.making }; making = o.making; there = lone_turn_there s0 s i stamp release o; turns = refl }
+lone_turn_flies s0 s i stamp release o = record { state = record (o.state) { turn = Some o.making }; machine = o.making; there = lone_turn_there s0 s i stamp release o; flies = refl }
 
 abbrev pub left_of_turn : Option MakeTurn → ℕ
 left_of_turn None = 0
@@ -276,25 +276,16 @@ module _ (s0 s s' : Index) (i stamp release : ℕ) (o : LoneTurn s0 s i stamp re
   -- nothing is in flight once its turn is done
   quiet_then : turn_after turn ≡ None → IsQuiet s'
   quiet_then done = record {
-    calls = λ j e at. ⊎_elim
-        (λ (mine : (j ≡ i) × (now ≡ e)). ap (λ (d : PartyState). d.machine) (sym mine.1) ∙ o.quiet.calls i o.state o.there)
-        (λ (other : (j ≢ i) × (get_elem? s0.states j ≡ some e)). o.quiet.calls j e other.1)
-        (was j e at);
-    turns = λ j e at. ⊎_elim
-        (λ (mine : (j ≡ i) × (now ≡ e)). ap (λ (d : PartyState). d.turn) (sym mine.1) ∙ done)
-        (λ (other : (j ≢ i) × (get_elem? s0.states j ≡ some e)). o.quiet.turns j e other.1)
-        (was j e at);
-    rechecks = λ j e at. ⊎_elim
-        (λ (mine : (j ≡ i) × (now ≡ e)). ap (λ (d : PartyState). d.recheck) (sym mine.1) ∙ o.quiet.rechecks i o.state o.there)
-        (λ (other : (j ≢ i) × (get_elem? s0.states j ≡ some e)). o.quiet.rechecks j e other.1)
-        (was j e at);
+    calls = none_now s0 s' i now states (λ (d : PartyState). d.machine) (o.quiet.calls i o.state o.there) o.quiet.calls;
+    turns = none_now s0 s' i now states (λ (d : PartyState). d.turn) done o.quiet.turns;
+    rechecks = none_now s0 s' i now states (λ (d : PartyState). d.recheck) (o.quiet.rechecks i o.state o.there) o.quiet.rechecks;
   }
     where
       now : PartyState
       now = record (o.state) { turn = turn_after turn }
 
-      was : (j : ℕ) (e : PartyState) → get_elem? s'.states j ≡ some e → ((j ≡ i) × (now ≡ e)) ⊎ ((j ≢ i) × (get_elem? s0.states j ≡ some e))
-      was j e at = at_set s0.states i j now e (ap (λ (v : Index). get_elem? v.states j) (sym left_is) ∙ at)
+      states : s'.states ≡ set s0.states i now
+      states = ap (λ (v : Index). v.states) left_is
 
   -- its turn by its machine
   turn_by : (m : MakeTurn) → o.making ≡ m → turn ≡ making_turned m (turn_told s m)

@@ -1,6 +1,6 @@
 -- What the code reads at a party's place is its state.
 use Rattle.std.proofs.Common.{◌≡◌, ℕ, ◌<◌, ◌≤◌, length, get_or, true, sym, ap, ◌∙◌, subst, arith}
-use Rattle.std.specs.Prelude.{Bool, Option, Some, None, IfSome, IsSomeAnd}
+use Rattle.std.specs.Prelude.{Bool, Option, Some, None, IfSome, IsSomeAnd, is_some}
 use Rattle.std.proofs.lemmas.Bool.{false_from_ne_true}
 use mathlib.Core.Option.{some}
 use lib.ListN.{get_elem?}
@@ -8,9 +8,9 @@ use Rattle.index_core.specs.declared.index.Core.TheInside.{Inside}
 use Rattle.index_core.specs.declared.party.PartyState.{PartyState}
 use Rattle.index_core.specs.PartyStates.{is_busy}
 use Rattle.index_core.specs.Cores.{index_of, index_with}
-use Rattle.index_core.specs.Indexes.{Index, IsBusy, IsIndex}
+use Rattle.index_core.specs.Indexes.{HasInFlight, Index, IsBusy, IsIndex}
 use Rattle.index_core.proofs.Busy.{busy_told, idle_told}
-use Rattle.index_core.proofs.Either.{busy_there}
+use Rattle.index_core.proofs.Either.{busy_there, held_told, tells_held}
 use Rattle.index_core.proofs.Lists.{there_at, within}
 
 module _ (inside : Inside) (old : Index) (i : ℕ) (view : index_of inside ≡ old) where
@@ -42,13 +42,14 @@ module _ (inside : Inside) (old : Index) (i : ℕ) (view : index_of inside ≡ o
     pub idle_read : (IsBusy old i → ⊥) → (r.machine ≡ None) × (r.turn ≡ None) × (r.recheck ≡ None)
     idle_read free = idle_told r (false_from_ne_true (is_busy r) (λ busy. free (busy_told old i r party_read busy)))
 
--- The same where the party is known to be busy.
-pub busy_tests : (inside : Inside) (old : Index) (i : ℕ) (view : index_of inside ≡ old) → IsBusy old i
-    → (r : PartyState) → r ≡ get_or inside.states.items i r
-    → (told : Bool) (test : PartyState → Bool) (P : Type 0) → told ≡ test r
-    → ((e : PartyState) → get_elem? old.states i ≡ some e → test e ≡ true → P)
-    → ((e : PartyState) → get_elem? old.states i ≡ some e → P → test e ≡ true) → (told ≡ true → P) × (P → told ≡ true)
-busy_tests inside old i view busy r found = test_tells inside old i view r (busy_within inside old i view busy) found
+-- Where the party is known to be busy, one tells whether it has this in flight.
+pub busy_tests : {A : Type 0} → (held : PartyState → Option A) (inside : Inside) (old : Index) (i : ℕ)
+    (view : index_of inside ≡ old) → IsBusy old i → (r : PartyState) → r ≡ get_or inside.states.items i r
+    → (told : Bool) → told ≡ is_some (held r)
+    → (told ≡ true → HasInFlight held old i) × (HasInFlight held old i → told ≡ true)
+busy_tests held inside old i view busy r found told is =
+    test_tells inside old i view r (busy_within inside old i view busy) found told
+    (λ (d : PartyState). is_some (held d)) (HasInFlight held old i) is (held_told held old i) (tells_held held old i)
 
 -- The state r that it reads is e, which has this machine in flight: what is said of the machine in r is so of this one,
 pub told_of : {A : Type 0} → (held : PartyState → Option A) (r e : PartyState) (m : A) → r ≡ e → held e ≡ Some m

@@ -56,20 +56,22 @@ can_walk s is quiet = walks_come s is quiet.calls
 pub quiet_is_still : (party : ℕ) (s : Index) → IsQuiet s → IsStill party s
 quiet_is_still party s quiet = record { calls = quiet.calls; turns = λ i state at. inl (quiet.turns i state at); rechecks = quiet.rechecks }
 
--- One party, which has no call on a name in flight then, is another, with the same turn of the updater and recheck.
-module _ (s new : Index) (i : ℕ) (state now : PartyState) (there : get_elem? s.states i ≡ some state) (states : new.states ≡ slice_set s.states i now) (idle : now.machine ≡ None) (turn : now.turn ≡ state.turn) (recheck : now.recheck ≡ state.recheck) where
-  was : (j : ℕ) (e : PartyState) → get_elem? new.states j ≡ some e → ((j ≡ i) × (now ≡ e)) ⊎ ((j ≢ i) × (get_elem? s.states j ≡ some e))
-  was j e at = at_set s.states i j now e (ap (λ (l : List PartyState). get_elem? l j) (sym states) ∙ at)
+-- One party is another.
+module _ (s new : Index) (i : ℕ) (now : PartyState) (states : new.states ≡ slice_set s.states i now) where
+  pub stood_before : (j : ℕ) (e : PartyState) → get_elem? new.states j ≡ some e → ((j ≡ i) × (now ≡ e)) ⊎ ((j ≢ i) × (get_elem? s.states j ≡ some e))
+  stood_before j e at = at_set s.states i j now e (ap (λ (l : List PartyState). get_elem? l j) (sym states) ∙ at)
 
-  -- what no party has, none has then, if this one has none then,
-  none_now : {A : Type 0} → (held : PartyState → Option A) → held now ≡ None → ((j : ℕ) (e : PartyState) → get_elem? s.states j ≡ some e → held e ≡ None)
+  -- what no party has, none has then, if this one has none then
+  pub none_now : {A : Type 0} → (held : PartyState → Option A) → held now ≡ None → ((j : ℕ) (e : PartyState) → get_elem? s.states j ≡ some e → held e ≡ None)
       → (j : ℕ) (e : PartyState) → get_elem? new.states j ≡ some e → held e ≡ None
   none_now held here each j e at = ⊎_elim
       (λ (mine : (j ≡ i) × (now ≡ e)). ap held (sym mine.1) ∙ here)
       (λ (other : (j ≢ i) × (get_elem? s.states j ≡ some e)). each j e other.1)
-      (was j e at)
+      (stood_before j e at)
 
-  -- and what none has then, none has, if this one has what it has then
+-- So it is where the party has no call on a name in flight then, and the same turn of the updater and recheck.
+module _ (s new : Index) (i : ℕ) (state now : PartyState) (there : get_elem? s.states i ≡ some state) (states : new.states ≡ slice_set s.states i now) (idle : now.machine ≡ None) (turn : now.turn ≡ state.turn) (recheck : now.recheck ≡ state.recheck) where
+  -- what none has then, none has, if this one has what it has then
   none_before : {A : Type 0} → (held : PartyState → Option A) → held now ≡ held state → ((j : ℕ) (e : PartyState) → get_elem? new.states j ≡ some e → held e ≡ None)
       → (j : ℕ) (e : PartyState) → get_elem? s.states j ≡ some e → held e ≡ None
   none_before held stays each j e at = ⊎_elim
@@ -80,15 +82,15 @@ module _ (s new : Index) (i : ℕ) (state now : PartyState) (there : get_elem? s
       (cases_eq j i)
 
   pub none_then : HasNoCalls s → HasNoCalls new
-  none_then none = none_now (λ (d : PartyState). d.machine) idle none
+  none_then none = none_now s new i now states (λ (d : PartyState). d.machine) idle none
 
   rechecks_then : HasNoRechecks s → HasNoRechecks new
-  rechecks_then none = none_now (λ (d : PartyState). d.recheck) (recheck ∙ none i state there) none
+  rechecks_then none = none_now s new i now states (λ (d : PartyState). d.recheck) (recheck ∙ none i state there) none
 
   pub quiet_then : IsQuiet s → IsQuiet new
   quiet_then quiet = record {
     calls = none_then quiet.calls;
-    turns = none_now (λ (d : PartyState). d.turn) (turn ∙ quiet.turns i state there) quiet.turns;
+    turns = none_now s new i now states (λ (d : PartyState). d.turn) (turn ∙ quiet.turns i state there) quiet.turns;
     rechecks = rechecks_then quiet.rechecks;
   }
 
@@ -108,6 +110,6 @@ module _ (s new : Index) (i : ℕ) (state now : PartyState) (there : get_elem? s
         subst (λ (q : ℕ × Option MakeTurn). (q.1 ≡ None) ⊎ ((q.0 ≢ party) × HoldsLock q.1))
         (λ k. (sym mine.0 k, (sym turn ∙ ap (λ (d : PartyState). d.turn) mine.1) k)) (still.turns i state there))
         (λ (other : (j ≢ i) × (get_elem? s.states j ≡ some e)). still.turns j e other.1)
-        (was j e at);
+        (stood_before s new i now states j e at);
     rechecks = rechecks_then still.rechecks;
   }

@@ -22,14 +22,12 @@ use Rattle.index_core.specs.declared.party.PartyState.{PartyState}
 use Rattle.index_core.specs.CoreCalls.{machine_of, most_writes}
 use Rattle.index_core.specs.PartyStates.{state_with, state_after, owed}
 use Rattle.index_core.specs.Indexes.{Index, IsIndex, IsInFlight, TurnsTo, view_of, started_index, told, stepped_index}
-use Rattle.index_core.proofs.Lists.{read_is}
-use Rattle.index_core.proofs.Stepping.{StepFacts, step_facts, step_at, same_machine, step_room, start_keeps, start_owes, start_at}
+use Rattle.index_core.proofs.Found.{Found, finds}
+use Rattle.index_core.proofs.Stepping.{StepFacts, step_facts, step_at, step_room, start_keeps, start_owes, start_at}
 
 -- The state r that a step reads is the party's, e, and the machine in it its call's, m.
 pub record Reads (s : Index) (i : ℕ) (e r : PartyState) (m machine : Running) : Type 0 where
-  pub there : get_elem? s.states i ≡ some e
-  pub read : r ≡ e
-  pub same : machine ≡ m
+  pub found : Found s i e r m machine
   pub sound : Sound s.layout s.generation m
   pub of : IsOf (op_in m) m
   pub facts : StepFacts s i e m
@@ -37,21 +35,18 @@ pub record Reads (s : Index) (i : ℕ) (e r : PartyState) (m machine : Running) 
 pub reads : (s old : Index) (i : ℕ) (flies : IsInFlight old i) (r : PartyState) (machine : Running) → s.states ≡ old.states → IsIndex s → r ≡ get_or s.states i r → r.machine ≡ Some machine
     → Reads s i flies.state r flies.machine machine
 reads s old i flies r machine states is found has =
-    let there = ap (λ (l : List PartyState). get_elem? l i) states ∙ flies.there in
-    let read = read_is s.states i flies.state r there found in
+    let at = finds (λ (d : PartyState). d.machine) s old i flies r machine states found has in
     record {
-      there = there;
-      read = read;
-      same = same_machine r flies.state machine flies.machine read has flies.flies;
-      sound = subst (λ (o : Option Running). IfSome o (Sound s.layout s.generation)) flies.flies (is.states i flies.state there).machine;
-      of = subst (λ (o : Option Running). IfSome o (λ q. IsOf (op_in q) q)) flies.flies (is.states i flies.state there).op;
-      facts = step_facts s i flies.state flies.machine is there flies.flies;
+      found = at;
+      sound = subst (λ (o : Option Running). IfSome o (Sound s.layout s.generation)) flies.flies (is.states i flies.state at.there).machine;
+      of = subst (λ (o : Option Running). IfSome o (λ q. IsOf (op_in q) q)) flies.flies (is.states i flies.state at.there).op;
+      facts = step_facts s i flies.state flies.machine is at.there flies.flies;
     }
 
 -- So it is the machine that takes a turn there.
 pub reads_turned : (s old new : Index) (i : ℕ) (answer : Option (Once Placed)) (t : TurnsTo old i new answer) (r : PartyState) (machine : Running) → s.states ≡ old.states → IsIndex s → r ≡ get_or s.states i r → r.machine ≡ Some machine
     → machine ≡ t.machine
-reads_turned s old new i answer t r machine states is found has = (reads s old i (record { state = t.state; machine = t.machine; there = t.there; flies = t.flies }) r machine states is found has).same
+reads_turned s old new i answer t r machine states is found has = (reads s old i (record { state = t.state; machine = t.machine; there = t.there; flies = t.flies }) r machine states is found has).found.same
 
 -- The row, the state and the history that it has made are those of the step, and there is room for what is owed.
 pub record Leaves (s : Index) (i : ℕ) (e : PartyState) (m : Running) (row : Row) (turn : Turn Running (Once Placed)) (now : PartyState) (history : List Write) (len cap len' cap' : ℕ) : Type 0 where
@@ -69,11 +64,11 @@ leaves s i e r m machine at flies action row word turn now counts history len ca
     let words : row ≡ record { layout = s.layout; words = acted s.layout s.words (running_asks machine) } = acts ∙ ap (λ (a : Action). record { layout = s.layout; words = acted s.layout s.words a }) asks in
     let told_is : word ≡ got s.layout s.words (running_asks machine) = gives ∙ ap (got s.layout s.words) asks in
     let items = writes ∙ ap (λ (o : Option Change). s.history ++ written r.caller r.index o) counted_is in
-    let same = λ (spare : ℕ). step_at s i e r now m machine row word turn history spare at.read at.same words told_is turns goes items in
-    let fits = step_room s i e m history (set s.states i now) len cap len' cap' at.there flies (ap (λ (v : Index). v.history) (same 0)) (ap (λ (v : Index). v.states) (same 0)) was is larger room in
+    let same = λ (spare : ℕ). step_at s i e r now m machine row word turn history spare at.found.state at.found.same words told_is turns goes items in
+    let fits = step_room s i e m history (set s.states i now) len cap len' cap' at.found.there flies (ap (λ (v : Index). v.history) (same 0)) (ap (λ (v : Index). v.states) (same 0)) was is larger room in
     record {
       same = same;
-      turned = turns ∙ (λ k. running_turned (at.same k) (told_is k)) ∙ ap (λ (q : Running). running_turned m (told s q)) at.same;
+      turned = turns ∙ (λ k. running_turned (at.found.same k) (told_is k)) ∙ ap (λ (q : Running). running_turned m (told s q)) at.found.same;
       room = fits.0;
       spare = fits.1;
     }

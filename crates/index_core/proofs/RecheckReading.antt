@@ -1,5 +1,5 @@
 -- A recheck that begins, and its steps: what they need and leave.
-use Rattle.std.proofs.Common.{◌≡◌, ℕ, List, length, get_or, set, refl, sym, ap, ◌∙◌, subst, arith}
+use Rattle.std.proofs.Common.{◌≡◌, ℕ, List, length, get_or, set, refl, sym, subst, arith}
 use Rattle.std.specs.Prelude.{Option, Some, IfSome}
 use mathlib.Core.Option.{some}
 use lib.ListN.{get_elem?}
@@ -25,7 +25,7 @@ use Rattle.index_core.proofs.Beside.{beside_index}
 use Rattle.index_core.proofs.Checks.{checks_with}
 use Rattle.index_core.proofs.Footings.{line_of, debt_of}
 use Rattle.index_core.proofs.Layering.{turn_of, map_own}
-use Rattle.index_core.proofs.Lists.{read_is}
+use Rattle.index_core.proofs.Found.{Found, finds}
 use Rattle.index_core.proofs.Permuting.{same_row}
 use Rattle.index_core.proofs.Rechecks.{goes_same, rechecks_act, rechecks_are_answered, rechecks_go_on}
 
@@ -99,24 +99,13 @@ recheck_step_law s i state r is there checks =
 
 -- What the code of a step has in hand.
 pub record RecheckRead (s : Index) (i : ℕ) (e r : PartyState) (m read : Rechecking) : Type 0 where
-  pub there : get_elem? s.states i ≡ some e
-  pub state : r ≡ e
-  pub same : read ≡ m
+  pub found : Found s i e r m read
   pub law : RecheckLaw s i e m
 
-some_rechecking : {m n : Rechecking} → Some m ≡ Some n → m ≡ n
-some_rechecking e = cc
-
-pub recheck_reads : (s old : Index) (i : ℕ) (f : IsRechecking old i) (r : PartyState) (read : Rechecking) → s.states ≡ old.states → IsIndex s → r ≡ get_or s.states i r → r.recheck ≡ Some read → RecheckRead s i f.state r f.rechecking read
+pub recheck_reads : (s old : Index) (i : ℕ) (f : IsRechecking old i) (r : PartyState) (read : Rechecking) → s.states ≡ old.states → IsIndex s → r ≡ get_or s.states i r → r.recheck ≡ Some read → RecheckRead s i f.state r f.machine read
 recheck_reads s old i f r read states is found has =
-    let there = ap (λ (l : List PartyState). get_elem? l i) states ∙ f.there in
-    let state = read_is s.states i f.state r there found in
-    record {
-      there = there;
-      state = state;
-      same = some_rechecking (sym has ∙ ap (λ (d : PartyState). d.recheck) state ∙ f.checks);
-      law = recheck_step_law s i f.state f.rechecking is there f.checks;
-    }
+    let at = finds (λ (d : PartyState). d.recheck) s old i f r read states found has in
+    record { found = at; law = recheck_step_law s i f.state f.machine is at.there f.flies }
 
 -- The index that a step leaves, at values that are equal to its own.
 pub recheck_at : (s : Index) (i : ℕ) (e now : PartyState) (m : Rechecking) (row : Row) (spare : ℕ) → row ≡ record { layout = s.layout; words = s.words } → now ≡ state_rechecked e m.since (recheck_turned m.machine (recheck_told s m.machine)) → spare ≡ s.spare

@@ -396,9 +396,6 @@ start_at s i e r e' c m since spare p q a d =
     let state' : e' ≡ state_with e (length s.history) (machine_of (view_of s i) c) = d ∙ (λ k. state_with (p k) (q k) (a k)) in
     λ k. record { layout = s.layout; generation = s.generation; words = s.words; states = set s.states i (state' k); base = s.base; history = s.history; spare = spare }
 
-pub same_machine : (r e : PartyState) (m' m : Running) → r ≡ e → r.machine ≡ Some m' → e.machine ≡ Some m → m' ≡ m
-same_machine r e m' m p q d = let both : Some m' ≡ Some m = sym q ∙ ap (λ (x : PartyState). x.machine) p ∙ d in cc
-
 -- a step leaves room for what is owed
 pub step_room : (s : Index) (i : ℕ) (e : PartyState) (m : Running) (history : List Write) (states : List PartyState) (len cap len' cap' : ℕ) → get_elem? s.states i ≡ some e → e.machine ≡ Some m
     → history ≡ s.history ++ written e.caller e.index (counted (stage_of m)) → states ≡ (stepped_index s i e m 0).states → len ≡ length s.history → len' ≡ length history → cap ≤ cap' → len + owed s.states ≤ cap

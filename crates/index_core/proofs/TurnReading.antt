@@ -1,5 +1,5 @@
 -- What the code of a turn of the updater has in hand.
-use Rattle.std.proofs.Common.{◌≡◌, ℕ, List, get_or, set, sym, ap, ◌∙◌, subst, arith}
+use Rattle.std.proofs.Common.{◌≡◌, ℕ, List, get_or, set, subst, arith}
 use Rattle.std.specs.Prelude.{Option, Some, IfSome}
 use mathlib.Core.Option.{some}
 use lib.ListN.{get_elem?}
@@ -11,29 +11,22 @@ use Rattle.index_core.specs.declared.party.PartyState.{PartyState}
 use Rattle.index_core.specs.PartyStates.{owed, state_turned, IsTurnOf}
 use Rattle.index_core.specs.Indexes.{Index, IsIndex, IsTurning}
 use Rattle.index_core.specs.Turns.{turn_begun, turn_told, turned_index, TurnLaw}
-use Rattle.index_core.proofs.Lists.{read_is, owed-set}
+use Rattle.index_core.proofs.Found.{Found, finds}
+use Rattle.index_core.proofs.Lists.{owed-set}
 use Rattle.index_core.proofs.Turning.{turns_keep}
 
 pub record TurnRead (s : Index) (i : ℕ) (e r : PartyState) (m read : MakeTurn) : Type 0 where
-  pub there : get_elem? s.states i ≡ some e
-  pub state : r ≡ e
-  pub same : read ≡ m
+  pub found : Found s i e r m read
   pub sound : IsMaking m
   pub law : TurnLaw s i e m
 
-pub some_making : {m n : MakeTurn} → Some m ≡ Some n → m ≡ n
-some_making e = cc
-
-pub turn_reads : (s old : Index) (i : ℕ) (f : IsTurning old i) (r : PartyState) (read : MakeTurn) → s.states ≡ old.states → IsIndex s → r ≡ get_or s.states i r → r.turn ≡ Some read → TurnRead s i f.state r f.making read
+pub turn_reads : (s old : Index) (i : ℕ) (f : IsTurning old i) (r : PartyState) (read : MakeTurn) → s.states ≡ old.states → IsIndex s → r ≡ get_or s.states i r → r.turn ≡ Some read → TurnRead s i f.state r f.machine read
 turn_reads s old i f r read states is found has =
-    let there = ap (λ (l : List PartyState). get_elem? l i) states ∙ f.there in
-    let state = read_is s.states i f.state r there found in
+    let at = finds (λ (d : PartyState). d.turn) s old i f r read states found has in
     record {
-      there = there;
-      state = state;
-      same = some_making (sym has ∙ ap (λ (d : PartyState). d.turn) state ∙ f.turns);
-      sound = (subst (λ (o : Option MakeTurn). IfSome o (IsTurnOf s.layout s.generation)) f.turns (is.states i f.state there).turn).sound;
-      law = turns_keep s i f.state f.making is there f.turns;
+      found = at;
+      sound = (subst (λ (o : Option MakeTurn). IfSome o (IsTurnOf s.layout s.generation)) f.flies (is.states i f.state at.there).turn).sound;
+      law = turns_keep s i f.state f.machine is at.there f.flies;
     }
 
 -- turns of the updater owe no write

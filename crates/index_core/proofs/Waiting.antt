@@ -14,7 +14,7 @@ use Rattle.pm_words.specs.Codes.{untaken_lock, taken_lock}
 use Rattle.index_law.specs.Anchors.{anchors_of}
 use Rattle.index_law.specs.Facts.{Facts}
 use Rattle.index_law.proofs.AnySteps.{set_own}
-use Rattle.index_law.proofs.Parties.{at_set, set_here}
+use Rattle.index_law.proofs.Parties.{set_here}
 use Rattle.lone_hops_law.specs.lone_call_law.specs.Locks.{fewest_locks, locks_of}
 use Rattle.pm_alloc.specs.declared.gone.ReleaseAt.{ReleaseAt}
 use Rattle.pm_alloc.specs.declared.gone.ReleaseAt.TheVariants as release_at
@@ -42,6 +42,7 @@ use Rattle.index_core.proofs.Lists.{map_there, set_twice}
 use Rattle.index_core.proofs.LoneTurning.{LoneTurn, begun_keeps, begun_weighs, lone_turn_begins, lone_turn_ends}
 use Rattle.index_core.proofs.LoneTurning.{lone_turn_flies, lone_turn_goes, turn_left_at, turn_left_begins}
 use Rattle.index_core.proofs.LoneTurning.{turned_same}
+use Rattle.index_core.proofs.Quiet.{none_now, stood_before}
 use Rattle.index_core.proofs.Withins.{turn_cut}
 
 -- A party's turn has the updater lock.
@@ -228,25 +229,19 @@ turns_begin_so s0 s i stamp release before is0 still some_stamp small starts is 
 -- a turn that has the lock leaves the index still for others, where nothing else is in flight
 turn_is_still : (s0 s : Index) (i stamp release : ℕ) (o : LoneTurn s0 s i stamp release) → HoldsLock (Some o.making) → (party : ℕ) → party ≢ i → IsStill party s
 turn_is_still s0 s i stamp release o holds party other = record {
-  calls = λ j e at_j. ⊎_elim
-      (λ (mine : (j ≡ i) × (now ≡ e)). ap (λ (d : PartyState). d.machine) (sym mine.1) ∙ o.quiet.calls i o.state o.there)
-      (λ (else : (j ≢ i) × (get_elem? s0.states j ≡ some e)). o.quiet.calls j e else.1)
-      (was j e at_j);
+  calls = none_now s0 s i now states (λ (d : PartyState). d.machine) (o.quiet.calls i o.state o.there) o.quiet.calls;
   turns = λ j e at_j. ⊎_elim
       (λ (mine : (j ≡ i) × (now ≡ e)). inr ((λ same. other (sym same ∙ mine.0)), subst (λ (d : PartyState). HoldsLock d.turn) mine.1 holds))
       (λ (else : (j ≢ i) × (get_elem? s0.states j ≡ some e)). inl (o.quiet.turns j e else.1))
-      (was j e at_j);
-  rechecks = λ j e at_j. ⊎_elim
-      (λ (mine : (j ≡ i) × (now ≡ e)). ap (λ (d : PartyState). d.recheck) (sym mine.1) ∙ o.quiet.rechecks i o.state o.there)
-      (λ (else : (j ≢ i) × (get_elem? s0.states j ≡ some e)). o.quiet.rechecks j e else.1)
-      (was j e at_j);
+      (stood_before s0 s i now states j e at_j);
+  rechecks = none_now s0 s i now states (λ (d : PartyState). d.recheck) (o.quiet.rechecks i o.state o.there) o.quiet.rechecks;
 }
   where
     now : PartyState
     now = record (o.state) { turn = Some o.making }
 
-    was : (j : ℕ) (e : PartyState) → get_elem? s.states j ≡ some e → ((j ≡ i) × (now ≡ e)) ⊎ ((j ≢ i) × (get_elem? s0.states j ≡ some e))
-    was j e at_j = at_set s0.states i j now e (ap (λ (v : Index). get_elem? v.states j) (sym o.is) ∙ at_j)
+    states : s.states ≡ set s0.states i now
+    states = ap (λ (v : Index). v.states) o.is
 
 module _ (s0 s : Index) (i stamp release before now : ℕ) (o : Turns s0 s i stamp release before now) where
   pub turns_flies : IsTurning s i
@@ -256,9 +251,9 @@ module _ (s0 s : Index) (i stamp release before now : ℕ) (o : Turns s0 s i sta
       let state : PartyState = record (waits.starts.state) { turn = Some (making_from s0.layout s0.generation stamp release) } in
       record {
         state = state;
-        making = making_from s0.layout s0.generation stamp release;
+        machine = making_from s0.layout s0.generation stamp release;
         there = ap (λ (v : Index). get_elem? v.states i) waits.starts.is ∙ set_here s0.states i state waits.starts.state waits.starts.there;
-        turns = refl;
+        flies = refl;
       })
       o
 

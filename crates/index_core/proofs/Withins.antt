@@ -144,7 +144,7 @@ turn_cuts_off s0 s i c idle t =
       layout = t.layout;
       generation = t.generation;
       base = t.base;
-      busy = inr (inl (record { state = cut; making = t.making; there = ap (λ (l : List PartyState). get_elem? l i) t.states ∙ set_here s0.states i cut t.state t.there; turns = refl }));
+      busy = inr (inl (record { state = cut; machine = t.making; there = ap (λ (l : List PartyState). get_elem? l i) t.states ∙ set_here s0.states i cut t.state t.there; flies = refl }));
       weighs = let light = t.weighs in omega (arith, light);
       each_lock = inl (turn_each s0 s i t);
       locks = inl (turn_locks s0 s i t);

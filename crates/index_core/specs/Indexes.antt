@@ -35,10 +35,8 @@ use Rattle.index_law.specs.Footings.{AreTended}
 use Rattle.index_law.specs.Weights.{AddsName, RisesBy, weight_sum}
 use Rattle.index_image_law.specs.index_layer_law.specs.Layers.{Layered, IsLayered}
 use Rattle.permutation_law.specs.Permuted.{Permuted, IsPermuted}
-use Rattle.updater.specs.declared.making.MakeTurn.{MakeTurn}
 use Rattle.index_core.specs.declared.party.CoreCall.{CoreCall}
 use Rattle.index_core.specs.declared.party.PartyState.{PartyState}
-use Rattle.index_core.specs.declared.party.Rechecking.{Rechecking}
 use Rattle.index_core.specs.declared.party.Stepped.{Stepped}
 use Rattle.index_core.specs.Answers.{SaysOf}
 use Rattle.index_core.specs.Heard.{HearsOn}
@@ -136,26 +134,22 @@ pub record IsIndex (s : Index) : Type 0 where
   pub permuted : IsPermuted (permuted s)
   pub relying : AreRelying s.layout s.generation (facts (world s)) s.words s.states  -- and each party's reading stands
 
--- The party's call, and the party that makes it.
-pub record IsInFlight (s : Index) (party : ℕ) : Type 0 where
+-- What the party has in flight, read off its state, and the party that has it.
+pub record HasInFlight {A : Type 0} (held : PartyState → Option A) (s : Index) (party : ℕ) : Type 0 where
   pub state : PartyState
-  pub machine : Running
+  pub machine : A
   pub there : get_elem? s.states party ≡ some state
-  pub flies : state.machine ≡ Some machine
+  pub flies : held state ≡ Some machine
 
--- The turn that the party makes, and the party that makes it.
-pub record IsTurning (s : Index) (party : ℕ) : Type 0 where
-  pub state : PartyState
-  pub making : MakeTurn
-  pub there : get_elem? s.states party ≡ some state
-  pub turns : state.turn ≡ Some making
+-- That is a call, a turn of the updater or a recheck.
+abbrev pub IsInFlight : Index → ℕ → Type 0
+IsInFlight s party = HasInFlight (λ (state : PartyState). state.machine) s party
 
--- The recheck that the party makes, and the party that makes it.
-pub record IsRechecking (s : Index) (party : ℕ) : Type 0 where
-  pub state : PartyState
-  pub rechecking : Rechecking
-  pub there : get_elem? s.states party ≡ some state
-  pub checks : state.recheck ≡ Some rechecking
+abbrev pub IsTurning : Index → ℕ → Type 0
+IsTurning s party = HasInFlight (λ (state : PartyState). state.turn) s party
+
+abbrev pub IsRechecking : Index → ℕ → Type 0
+IsRechecking s party = HasInFlight (λ (state : PartyState). state.recheck) s party
 
 -- The party's last call isn't answered.
 abbrev pub IsBusy : Index → ℕ → Type 0

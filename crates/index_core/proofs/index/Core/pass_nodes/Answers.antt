@@ -13,7 +13,7 @@ pub unreachable-requires : goal.unreachable-requires
 unreachable-requires g c =
     let some = some_turn c.self.inside c.args.self.now c.args.party c.requires.turns c.self.view_is
     c.index_mut.result.now c.index_mut.ensures.value in
-    c.in_default.not-Some c.requires.turns.making some
+    c.in_default.not-Some c.requires.turns.machine some
 
 pub passes-requires : goal.passes-requires
 passes-requires g c =

@@ -50,27 +50,27 @@ reads_first g c =
 pub action-action-requires : goal.action-action-requires
 action-action-requires g c =
     let at = reads_first g (goal.at.action-action-requires g c).After-running-machine in
-    subst IsRunning (sym at.same) at.facts.fits
+    subst IsRunning (sym at.found.same) at.facts.fits
 
 pub count-requires-clause-fits : goal.count-requires-clause-fits
 count-requires-clause-fits g c =
     let at = reads_first g (goal.at.count-requires-clause-fits g c).After-running-machine in
-    subst IsRunning (sym at.same) at.facts.fits
+    subst IsRunning (sym at.found.same) at.facts.fits
 
 pub count-requires-clause-adds : goal.count-requires-clause-adds
 count-requires-clause-adds g c =
     let s = index_with c.self.inside 0 in
     let flies = c.requires.flies in
     let at = reads_first g (goal.at.count-requires-clause-adds g c).After-running-machine in
-    let asks : c.action-action.result ≡ running_asks flies.machine = c.action-action.ensures ∙ ap running_asks at.same in
-    subst (λ (q : Action × Running). IfSome (counted (stage_of q.1)) (λ _. IsAdd q.0)) (λ k. (sym asks k, sym at.same k))
+    let asks : c.action-action.result ≡ running_asks flies.machine = c.action-action.ensures ∙ ap running_asks at.found.same in
+    subst (λ (q : Action × Running). IfSome (counted (stage_of q.1)) (λ _. IsAdd q.0)) (λ k. (sym asks k, sym at.found.same k))
     (adds_if_counts s.layout (length s.history) (running_asks flies.machine) (told s flies.machine) (counted (stage_of flies.machine)) at.facts.counts)
 
 pub act-got-requires : goal.act-got-requires
 act-got-requires g c =
     let s = index_with c.self.inside 0 in
     let at = reads_first g (goal.at.act-got-requires g c).After-running-machine in
-    subst (CanAct s.layout s.words) (sym (c.action-action.ensures ∙ ap running_asks at.same)) at.facts.can
+    subst (CanAct s.layout s.words) (sym (c.action-action.ensures ∙ ap running_asks at.found.same)) at.facts.can
 
 pub count-requires-clause-room : goal.count-requires-clause-room
 count-requires-clause-room g c =
@@ -80,7 +80,7 @@ count-requires-clause-room g c =
     let e = flies.state in
     let m = flies.machine in
     let at = reads_first g (goal.at.count-requires-clause-room g c).After-running-machine in
-    count_room s i e c.index.result.now m (counted (stage_of c.running-machine.result.now)) _ _ at.there flies.flies at.read (ap (λ (n : Running). counted (stage_of n)) at.same) c.self.invariant.1
+    count_room s i e c.index.result.now m (counted (stage_of c.running-machine.result.now)) _ _ at.found.there flies.flies at.found.state (ap (λ (n : Running). counted (stage_of n)) at.found.same) c.self.invariant.1
 
 pub advance-requires : goal.advance-requires
 advance-requires g c =
@@ -88,8 +88,8 @@ advance-requires g c =
     let flies = c.requires.flies in
     let m = flies.machine in
     let at = reads_first g (goal.at.advance-requires g c).After-running-machine in
-    let given : c.act-got.result ≡ told s m = c.act-got.ensures.got ∙ ap (got s.layout s.words) (c.action-action.ensures ∙ ap running_asks at.same) in
-    let read = read_is s.states c.args.party flies.state c.index_mut.result.now at.there c.index_mut.ensures.value in
+    let given : c.act-got.result ≡ told s m = c.act-got.ensures.got ∙ ap (got s.layout s.words) (c.action-action.ensures ∙ ap running_asks at.found.same) in
+    let read = read_is s.states c.args.party flies.state c.index_mut.result.now at.found.there c.index_mut.ensures.value in
     holds_in (λ (d : PartyState). d.machine) c.index_mut.result.now flies.state m read flies.flies (λ (q : Running). running_takes q c.act-got.result)
     (subst (λ (n : ℕ). running_takes m n) (sym given) at.facts.takes)
 
@@ -104,19 +104,19 @@ of_call : (g : _) (c : goal.After-self-1 g) (P : PartyState → Running → Type
 of_call g c P says =
     let at = reads_at g c in
     let flies = c.requires.flies in
-    let read = read_is (index_with c.self.inside 0).states c.args.party flies.state c.index_mut.result.now at.there c.index_mut.ensures.value in
+    let read = read_is (index_with c.self.inside 0).states c.args.party flies.state c.index_mut.result.now at.found.there c.index_mut.ensures.value in
     told_of (λ (d : PartyState). d.machine) c.index_mut.result.now flies.state flies.machine read flies.flies P says
 
 goes_at : (g : _) (c : goal.After-self-1 g) → c.advance.new.self ≡ state_after c.index.result.now (running_turned c.running-machine.result.now c.act-got.result)
 goes_at g c =
     let at = reads_at g c in
     of_call g c (λ d q. c.advance.new.self ≡ state_after d (running_turned q c.act-got.result)) c.advance.ensures.state
-    ∙ (λ k. state_after (sym at.read k) (running_turned (sym at.same k) c.act-got.result))
+    ∙ (λ k. state_after (sym at.found.state k) (running_turned (sym at.found.same k) c.act-got.result))
 
 told_at : (g : _) (c : goal.After-self-1 g) → c.act-got.result ≡ told (index_with c.self.inside 0) c.requires.flies.machine
 told_at g c =
     let s = index_with c.self.inside 0 in
-    c.act-got.ensures.got ∙ ap (got s.layout s.words) (c.action-action.ensures ∙ ap running_asks (reads_at g c).same)
+    c.act-got.ensures.got ∙ ap (got s.layout s.words) (c.action-action.ensures ∙ ap running_asks (reads_at g c).found.same)
 
 answers_at : (g : _) (c : goal.After-self-1 g) → c.advance.result ≡ reply_of (running_turned c.requires.flies.machine (told (index_with c.self.inside 0) c.requires.flies.machine))
 answers_at g c =

@@ -29,7 +29,7 @@ running-machine-requires g c =
 pub listed-listed-requires : goal.listed-listed-requires
 listed-listed-requires g c =
     let at = reads (index_with c.self.inside 0) c.args.self.now c.args.party c.requires.flies c.index.result.now c.running-machine.result.now (ap (λ (v : Index). v.states) c.self.view_is) c.self.invariant.0 c.index.ensures c.running-machine.ensures in
-    subst IsRunning (sym at.same) at.facts.fits
+    subst IsRunning (sym at.found.same) at.facts.fits
 
 pub of-requires : goal.of-requires
 of-requires g c = λ counts none.
