@@ -62,6 +62,15 @@ swap_footed s i state now is there caller same lawful =
     let debts = map_own debt_of s.states i state now there (ap (λ (f : Footing). f.debt) same) in
     subst (λ (q : List (Option HeldLine) × List Debt). IsFooted (record { world = record (world s) { parties = map party_of (set s.states i now) }; lines = q.0; debts = q.1 })) (λ k. (sym lines k, sym debts k)) kept
 
+-- The party that a turn leaves has what stands behind that.
+pub after_stage : (state : PartyState) (turn : Turn Running (Once Placed)) → (party_of (state_after state turn)).stage ≡ (footing_after turn).stage
+after_stage state (Go next) = sym (footing_stage next)
+after_stage state (Done answer) = refl
+
+pub after_line : (state : PartyState) (turn : Turn Running (Once Placed)) → line_of (state_after state turn) ≡ (footing_after turn).line
+after_line state (Go next) = refl
+after_line state (Done answer) = refl
+
 -- each step of a party keeps them
 pub step_footed : (s : Index) (i : ℕ) (state : PartyState) (machine : Running) → IsFooted (footed s) → get_elem? s.states i ≡ some state → state.machine ≡ Some machine
     → FootStep s.layout s.generation state.caller (footing_of machine) (running_asks machine) (told s machine) (footing_after (running_turned machine (told s machine))) (reply_of (running_turned machine (told s machine)))
@@ -80,8 +89,8 @@ step_footed s i state machine is there flies k room lawful =
     let kept = foot_keeps z i p (footing_of machine) next a (told s machine) (reply_of turn) is.0 is.1 party_at line_at debt_at (stage ∙ sym (footing_stage machine)) k refl room in
     let zz = stepped_whole z i p a next in
     let parties : set zz.world.parties i (party_of now) ≡ map party_of (set s.states i now) = set_twice z.world.parties i (moved_on p next.stage) (party_of now) ∙ sym (map_set party_of s.states i now) in
-    let alike = alike_here zz.world.parties i (moved_on p next.stage) (party_of now) (set_here z.world.parties i (moved_on p next.stage) p party_at) (after_caller turn) (after_stage turn) in
-    let lines : slice_set z.lines i next.line ≡ map line_of (set s.states i now) = ap (set z.lines i) (sym (after_line turn)) ∙ sym (map_set line_of s.states i now) in
+    let alike = alike_here zz.world.parties i (moved_on p next.stage) (party_of now) (set_here z.world.parties i (moved_on p next.stage) p party_at) (after_caller turn) (after_stage state turn) in
+    let lines : slice_set z.lines i next.line ≡ map line_of (set s.states i now) = ap (set z.lines i) (sym (after_line state turn)) ∙ sym (map_set line_of s.states i now) in
     let debts : slice_set z.debts i next.debt ≡ map debt_of (set s.states i now) = ap (set z.debts i) (sym (after_debt turn)) ∙ sym (map_set debt_of s.states i now) in
     let lawful' : Lawful (record (zz.world) { parties = map party_of (set s.states i now) }) =
     subst (λ (u : Stage). Lawful (record (zz.world) { parties = map party_of (set s.states i now); history = s.history ++ written state.caller state.index (counted u) })) (sym stage) lawful in
@@ -92,14 +101,6 @@ step_footed s i state machine is there flies k room lawful =
     after_caller : (turn : Turn Running (Once Placed)) → (party_of (state_after state turn)).caller ≡ state.caller
     after_caller (Go next) = refl
     after_caller (Done answer) = refl
-
-    after_stage : (turn : Turn Running (Once Placed)) → (party_of (state_after state turn)).stage ≡ (footing_after turn).stage
-    after_stage (Go next) = sym (footing_stage next)
-    after_stage (Done answer) = refl
-
-    after_line : (turn : Turn Running (Once Placed)) → line_of (state_after state turn) ≡ (footing_after turn).line
-    after_line (Go next) = refl
-    after_line (Done answer) = refl
 
     after_debt : (turn : Turn Running (Once Placed)) → debt_of (state_after state turn) ≡ (footing_after turn).debt
     after_debt (Go next) = refl

@@ -41,7 +41,7 @@ use Rattle.index_core.specs.declared.party.PartyState.{PartyState}
 use Rattle.index_core.specs.PartyStates.{machine_stage, machine_footing, party_of, resting, turning_of, state_after}
 use Rattle.index_core.specs.Crashes.{evicted_index}
 use Rattle.index_core.specs.Indexes.{Index, footed, layered, world, told, stepped_index}
-use Rattle.index_core.proofs.Footings.{line_of, debt_of}
+use Rattle.index_core.proofs.Footings.{after_line, after_stage, line_of, debt_of}
 use Rattle.index_core.proofs.Lists.{map_there, map_from, map_set, there_is}
 
 abbrev pub turn_of : PartyState → Turning
@@ -118,14 +118,6 @@ module _ (s : Index) (i : ℕ) (state : PartyState) (machine : Running) (there :
   abbrev stepped_layered : Layered
   stepped_layered = record { whole = stepped_whole (footed s) i (party_of state) action next; turns = (layered s).turns }
 
-  after_stage : (t : Turn Running (Once Placed)) → (party_of (state_after state t)).stage ≡ (footing_after t).stage
-  after_stage (Go m) = sym (footing_stage m)
-  after_stage (Done answer) = refl
-
-  after_line : (t : Turn Running (Once Placed)) → line_of (state_after state t) ≡ (footing_after t).line
-  after_line (Go m) = refl
-  after_line (Done answer) = refl
-
   after_turn : (t : Turn Running (Once Placed)) → (state_after state t).turn ≡ state.turn
   after_turn (Go m) = refl
   after_turn (Done answer) = refl
@@ -134,7 +126,7 @@ module _ (s : Index) (i : ℕ) (state : PartyState) (machine : Running) (there :
   stepped_states = set s.states i now
 
   lines : map line_of stepped_states ≡ stepped_layered.whole.lines
-  lines = map_set line_of s.states i now ∙ ap (set (map line_of s.states) i) (after_line turn)
+  lines = map_set line_of s.states i now ∙ ap (set (map line_of s.states) i) (after_line state turn)
 
   kept_parties : (j : ℕ) (q : Party) → get_elem? (map party_of stepped_states) j ≡ some q → IsIdleOrKept stepped_layered.whole (map line_of stepped_states) j q
   kept_parties j q at =
@@ -145,7 +137,7 @@ module _ (s : Index) (i : ℕ) (state : PartyState) (machine : Running) (there :
       (λ (mine : (j ≡ i) × (party_of now ≡ q)). inr (
         moved,
         ap (get_elem? stepped_layered.whole.world.parties) mine.0 ∙ set_here (map party_of s.states) i moved p (map_there party_of s.states i state there),
-        sym (after_stage turn) ∙ ap (λ (r : Party). r.stage) mine.1,
+        sym (after_stage state turn) ∙ ap (λ (r : Party). r.stage) mine.1,
         ap (λ (ls : List (Option HeldLine)). get_elem? ls j) lines,
       ))
       (λ (other : (j ≢ i) × (get_elem? (map party_of s.states) j ≡ some q)). inr (
