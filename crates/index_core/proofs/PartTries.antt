@@ -1,5 +1,5 @@
 -- The turns of a part of a scan that is made with no other call in flight.
-use Rattle.std.proofs.Common.{◌≡◌, ℕ, ◌+◌, ◌≤◌, ◌↔◌, List, length, refl, sym, ap, ◌∙◌, subst}
+use Rattle.std.proofs.Common.{◌≡◌, ℕ, ◌+◌, ◌≤◌, ◌↔◌, Bool, true, false, List, length, refl, sym, ap, ◌∙◌, subst}
 use Rattle.std.specs.Prelude.{Option, Some, None, IfSome, IsSome}
 use mathlib.Core.Option.{some-injective}
 use Rattle.cat_history.specs.declared.op.NameOp.{NameOp}
@@ -134,17 +134,20 @@ module _ (s0 s s' : Index) (i : ℕ) (low : List ℕ) (count : ℕ) (result : Op
       (part_done s0 s' i low count o.before o.still words (lone_tries s0 s s' i c result o on (once.Done (words_placed words)) answered) node (reading_of m) is (sorts words h))
 
   -- one that is answered before is told early
-  pub part_is_early : (answer : Once Placed) → (HasListing s i → ⊥) → result ≡ Some answer → IsEarly answer
-  part_is_early answer none answered =
+  pub part_is_early : (answer : Once Placed) (found : Bool) → (HasListing s i → found ≡ true) → found ≡ false → result ≡ Some answer → IsEarly answer
+  part_is_early answer found tells no answered =
       let done = done_of _ answer (sym (turn_told s0 s s' i c result o on) ∙ answered) in
       is_early m (told s m) answer done (subst IsSome (sym o.count) refl) (unlisted (listed_in m) refl)
     where
       unlisted : (found : Option PartWords) → listed_in m ≡ found → found ≡ None
       unlisted None is = refl
-      unlisted (Some words) is = absurd (none (words, record { state = state_with o.state (length s0.history) m; machine = m; there = lone_there s0 s i c o; flies = refl; listed = is }))
+      unlisted (Some words) is = absurd (
+          let yes = tells (words, record { state = state_with o.state (length s0.history) m; machine = m; there = lone_there s0 s i c o; flies = refl; listed = is }) in
+          let fails = no in
+          cc)
 
-  pub part_stops : (answer : Once Placed) → (HasListing s i → ⊥) → result ≡ Some answer → EndsAlone s0 s' i low count (part_whole (early_of answer))
-  part_stops answer none answered =
+  pub part_stops : (answer : Once Placed) (found : Bool) → (HasListing s i → found ≡ true) → found ≡ false → result ≡ Some answer → EndsAlone s0 s' i low count (part_whole (early_of answer))
+  part_stops answer found tells no answered =
       ends_alone answer answered (part_whole (early_of answer))
-      (part_early s0 s' i low count o.before o.still answer (part_is_early answer none answered) (lone_tries s0 s s' i c result o on answer answered)
+      (part_early s0 s' i low count o.before o.still answer (part_is_early answer found tells no answered) (lone_tries s0 s s' i c result o on answer answered)
       (lone_each s0 s s' i c result o on answer answered) (lone_locks s0 s s' i c result o on answer answered))

@@ -55,16 +55,13 @@ pub step_call-requires-in-steps : goal.step_call-requires-in-steps
 step_call-requires-in-steps g c = record { flies = lone_flies _ _ _ _ c.steps.invariant.0 }
 
 pub early-requires : goal.early-requires
-early-requires g c =
-    let t = c.step_call-in-steps.ensures in
-    part_is_early c.args.self.now c.steps.self c.step_call-in-steps.new.self c.args.caller c.args.low c.args.count c.step_call-in-steps.result c.steps.invariant.0 t.turned t.index t.spare.all c.in-Some.answer
-    (λ h. let yes = c.has_listed.ensures.1 h in let no = c.if-has_listed.false in cc) c.in-Some.is
+early-requires g c = part_is_early c.args.self.now c.steps.self c.step_call-in-steps.new.self c.args.caller c.args.low c.args.count c.step_call-in-steps.result c.steps.invariant.0 c.step_call-in-steps.ensures.turned c.step_call-in-steps.ensures.index c.step_call-in-steps.ensures.spare.all c.in-Some.answer _ c.has_listed.ensures.1 c.if-has_listed.false c.in-Some.is
 
 pub returns-in-Some : goal.returns-in-Some
 returns-in-Some g c =
     let t = c.step_call-in-steps.ensures in
     let e = part_stops c.args.self.now c.steps.self c.step_call-in-steps.new.self c.args.caller c.args.low c.args.count c.step_call-in-steps.result c.steps.invariant.0 t.turned t.index t.spare.all c.in-Some.answer
-    (λ h. let yes = c.has_listed.ensures.1 h in let no = c.if-has_listed.false in cc) c.in-Some.is in
+    _ c.has_listed.ensures.1 c.if-has_listed.false c.in-Some.is in
     record {
       runs = subst (λ (r : Once PartWords). RunsAlone c.args.self.now c.args.caller (call.Part c.args.low c.args.count) c.step_call-in-steps.new.self (part_whole r)) (sym c.early.ensures) e.runs;
       quiet = e.quiet c.requires.quiet;
