@@ -8,9 +8,7 @@ use Rattle.index_core.proofs.CoreBursts.{core_flies, core_left, core_may, core_r
 use Rattle.index_core.proofs.index.Core.burst.Goals as goal
 
 pub index-requires : goal.index-requires
-index-requires g c =
-    let here = core_within c.self.inside c.args.self.now c.args.party c.requires.flies c.self.view_is in
-    omega (arith, c.self.inside.states.ok.0)
+index-requires g c = omega (arith, core_within c.self.inside c.args.self.now c.args.party c.requires.flies c.self.view_is, c.self.inside.states.ok.0)
 
 pub running-requires : goal.running-requires
 running-requires g c =
@@ -27,9 +25,7 @@ returns-then-is_counted_next-clause-bursts g c =
     let e = c.step_call.ensures in one_turn e.turned e.index e.spare e.tick
 
 pub index_mut-requires : goal.index_mut-requires
-index_mut-requires g c =
-    let here = core_within c.self.inside c.args.self.now c.args.party c.requires.flies c.self.view_is in
-    omega (arith, c.self.inside.states.ok.0)
+index_mut-requires g c = omega (arith, core_within c.self.inside c.args.self.now c.args.party c.requires.flies c.self.view_is, c.self.inside.states.ok.0)
 
 pub burst-requires : goal.burst-requires
 burst-requires g c =

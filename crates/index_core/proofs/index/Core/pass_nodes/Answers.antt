@@ -5,9 +5,7 @@ use Rattle.index_core.proofs.CorePasses.{passed_is, passed_owes, some_turn, turn
 use Rattle.index_core.proofs.index.Core.pass_nodes.Goals as goal
 
 pub index_mut-requires : goal.index_mut-requires
-index_mut-requires g c =
-    let here = turn_within c.self.inside c.args.self.now c.args.party c.requires.turns c.self.view_is in
-    omega (arith, c.self.inside.states.ok.0)
+index_mut-requires g c = omega (arith, turn_within c.self.inside c.args.self.now c.args.party c.requires.turns c.self.view_is, c.self.inside.states.ok.0)
 
 pub unreachable-requires : goal.unreachable-requires
 unreachable-requires g c =
