@@ -45,8 +45,8 @@ use Rattle.index_core.specs.Schedules.{BegunCall, AnsweredCall, begun_call, flyi
 use Rattle.index_core.proofs.Stepping.{begins_limit, begins_count}
 use Rattle.index_core.proofs.Flights.{each_starts, each_alone}
 use Rattle.index_core.proofs.Indexed.{next_other, next_own, indexes_push, states_set}
-use Rattle.index_core.proofs.Lists.{within, at_end, end_there, got_end}
-use Rattle.index_core.proofs.Scheduling.{IsEarlier, AnswerHolds, CallHolds, in_flight, CountsUpTo, Kept, longer_call, flies_elsewhere, answered_longer}
+use Rattle.index_core.proofs.Lists.{within, at_end, got_end}
+use Rattle.index_core.proofs.Scheduling.{IsEarlier, AnswerHolds, CallHolds, in_flight, CountsUpTo, Kept, longer_call, flies_elsewhere, answered_last, answered_longer, in_order_more}
 
 -- a limit that isn't reached is above
 below_limit : (limit : Option ℕ) (count : ℕ) → (IsSomeAnd limit (λ most. most ≤ count) → ⊥) → IfSome limit (λ most. count < most)
@@ -290,21 +290,6 @@ module _ (first : Index) (begun : List BegunCall) (calls : List AnsweredCall) (s
       caller_is : e.caller ≡ i
       caller_is = (k.index.states i e there).caller
 
-      ordered : (p q : ℕ) (u v : AnsweredCall) → get_elem? (calls ++ a ∷ []) p ≡ some u → get_elem? (calls ++ a ∷ []) q ≡ some v → p < q → u.call.caller ≡ v.call.caller → (u.next ≤ v.call.index) × (u.until ≤ v.call.since)
-      ordered p q u v at_p at_q less caller =
-          ⊎_elim
-          (λ (one : get_elem? calls p ≡ some u). ⊎_elim
-          (λ (two : get_elem? calls q ≡ some v). k.order p q u v one two less caller)
-          (λ (two : (q ≡ length calls) × (a ≡ v)).
-          subst (λ (d : AnsweredCall). (u.next ≤ d.call.index) × (u.until ≤ d.call.since)) two.1
-          (before_it p u one (caller ∙ ap (λ (d : AnsweredCall). d.call.caller) (sym two.1) ∙ caller_is), (k.holds p u one).1))
-          (at_end calls a v q at_q))
-          (λ (one : (p ≡ length calls) × (a ≡ u)). absurd (
-          let last : q < length calls + 1 = subst (λ (len : ℕ). q < len) (length-append calls (a ∷ [])) (within (calls ++ a ∷ []) q v at_q) in
-          let start = one.0 in
-          omega arith))
-          (at_end calls a u p at_p)
-
       -- the index after it, as far as schedules speak of it
       abbrev after_it : Index → Index
       after_it new = record new { states = slice_set s.states i done; base = s.base; history = history }
@@ -318,7 +303,7 @@ module _ (first : Index) (begun : List BegunCall) (calls : List AnsweredCall) (s
             (λ (old : get_elem? calls j ≡ some d). longer_call first.layout.slots base s.history (alone_writes e.caller e.index c result) d (k.holds j d old))
             (λ (last : (j ≡ length calls) × (a ≡ d)). subst (CallHolds first.layout.slots base history) last.1 (tells result is, omega arith, lists result is))
             (at_end calls a d j at);
-        order = ordered;
+        order = in_order_more calls a k.order (λ p u at caller. (before_it p u at (caller ∙ caller_is), (k.holds p u at).1));
         earlier = λ j d p state at at_p caller. ⊎_elim
             (λ (mine : (p ≡ i) × (done ≡ state)). let up = went_up in ⊎_elim
             (λ (old : get_elem? calls j ≡ some d).
@@ -339,17 +324,7 @@ module _ (first : Index) (begun : List BegunCall) (calls : List AnsweredCall) (s
             (λ (w : IsAnsweredWrite calls place write). answered_longer calls (a ∷ []) w)
             (λ (w : IsWriteInFlight s.states place write). absurd (none_flies w.party w.state w.machine w.there w.flies))
             (k.writes place write before))
-            (λ last. record {
-              number = length calls;
-              answered = a;
-              placed = last.0;
-              there = end_there calls a;
-              answer = last.1;
-              place = last.2;
-              caller = last.3;
-              index = last.4;
-              change = last.5;
-            })
+            (λ last. answered_last calls a last.0 last.1 last.2 last.3 last.4 last.5)
             (last_write result is place write stands));
         next = λ j d at. ⊎_elim
             (λ (old : get_elem? calls j ≡ some d). k.next j d old)

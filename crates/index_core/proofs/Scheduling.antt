@@ -78,13 +78,34 @@ pub record CountsUpTo (first : Index) (begun : List BegunCall) (i : ℕ) (state 
   pub there : get_elem? first.states i ≡ some was
   pub most : state.index + in_flight state.machine ≤ was.index + length begun
 
+-- The second of two calls of a caller comes behind the first one,
+abbrev pub ComesBehind : AnsweredCall → AnsweredCall → Type 0
+ComesBehind a b = (a.next ≤ b.call.index) × (a.until ≤ b.call.since)
+
+-- as it is with each two of these,
+abbrev pub ComeInOrder : List AnsweredCall → Type 0
+ComeInOrder calls = (i j : ℕ) (a b : AnsweredCall) → get_elem? calls i ≡ some a → get_elem? calls j ≡ some b → i < j → a.call.caller ≡ b.call.caller → ComesBehind a b
+
+-- and with one more, which comes behind all of its caller.
+pub in_order_more : (calls : List AnsweredCall) (c : AnsweredCall) → ComeInOrder calls → ((i : ℕ) (a : AnsweredCall) → get_elem? calls i ≡ some a → a.call.caller ≡ c.call.caller → ComesBehind a c) → ComeInOrder (calls ++ c ∷ [])
+in_order_more calls c order behind i j a b at_i at_j less caller =
+    ⊎_elim
+    (λ (first : get_elem? calls i ≡ some a). ⊎_elim
+    (λ (second : get_elem? calls j ≡ some b). order i j a b first second less caller)
+    (λ (second : (j ≡ length calls) × (c ≡ b)). subst (ComesBehind a) second.1 (behind i a first (caller ∙ ap (λ (d : AnsweredCall). d.call.caller) (sym second.1))))
+    (at_end calls c b j at_j))
+    (λ (first : (i ≡ length calls) × (c ≡ a)). absurd (
+    let last : j < length calls + 1 = subst (λ (len : ℕ). j < len) (length-append calls (c ∷ [])) (within (calls ++ c ∷ []) j b at_j) in
+    let start = first.0 in
+    omega arith))
+    (at_end calls c a i at_i)
+
 pub record Kept (first : Index) (begun : List BegunCall) (calls : List AnsweredCall) (s : Index) : Type 0 where
   pub index : IsIndex s
   pub layout_is : s.layout ≡ first.layout
   pub base_is : map_of s.base ≡ map_of first.base
   pub holds : (n : ℕ) (c : AnsweredCall) → get_elem? calls n ≡ some c → CallHolds first.layout.slots (map_of first.base) s.history c
-  pub order : (i j : ℕ) (a b : AnsweredCall) → get_elem? calls i ≡ some a → get_elem? calls j ≡ some b → i < j → a.call.caller ≡ b.call.caller
-      → (a.next ≤ b.call.index) × (a.until ≤ b.call.since)
+  pub order : ComeInOrder calls
   pub earlier : (n : ℕ) (c : AnsweredCall) (i : ℕ) (state : PartyState) → get_elem? calls n ≡ some c → get_elem? s.states i ≡ some state → c.call.caller ≡ i → IsEarlier c state state.machine
   pub writes : EachWriteIsOfACall calls s.states s.history
   pub next : (n : ℕ) (c : AnsweredCall) → get_elem? calls n ≡ some c → IsNext c.call.index c.next c.whole c.answer
@@ -158,6 +179,21 @@ flies_elsewhere states i now w other = record {
   caller = w.caller;
   index = w.index;
   change = w.change;
+}
+
+-- and that of the call that was answered last
+pub answered_last : (calls : List AnsweredCall) (a : AnsweredCall) (placed : Placed) {place : ℕ} {write : Write} → a.answer ≡ once.Done placed → placed.place ≡ place
+    → write.caller ≡ a.call.caller → write.index ≡ a.call.index → change_of a.call.op ≡ Some write.change → IsAnsweredWrite (calls ++ a ∷ []) place write
+answered_last calls a placed answer place caller index change = record {
+  number = length calls;
+  answered = a;
+  placed = placed;
+  there = end_there calls a;
+  answer = answer;
+  place = place;
+  caller = caller;
+  index = index;
+  change = change;
 }
 
 -- and an answered write of a list that is longer now
@@ -398,36 +434,13 @@ module _ (first : Index) (begun : List BegunCall) (calls : List AnsweredCall) (s
         let machine : w.machine ≡ m = machine_there w.state w.machine here w.flies in
         let asks : change_of (op_in m) ≡ Some write.change = ap (λ (q : Running). change_of (op_in q)) (sym machine) ∙ w.change in
         let by = placed_by answer place write.change ends (ap (λ (q : Running). placed_in (stage_of q)) (sym machine) ∙ w.place) asks in
-        inl (record {
-          number = length calls;
-          answered = call;
-          placed = by.0;
-          there = end_there calls call;
-          answer = by.1;
-          place = by.2;
-          caller = w.caller ∙ ap (λ (d : PartyState). d.caller) state;
-          index = w.index ∙ ap (λ (d : PartyState). d.index) state;
-          change = asks;
-        }))
+        inl (answered_last calls call by.0 by.1 by.2 (w.caller ∙ ap (λ (d : PartyState). d.caller) state) (w.index ∙ ap (λ (d : PartyState). d.index) state) asks))
         (λ (other : w.party ≢ i). inr (flies_elsewhere s.states i done w other))
         (cases_eq w.party i))
         (k.writes place write stands)
 
     abbrev done_index : Index
     done_index = record s { words = acted s.layout s.words (running_asks m); states = slice_set s.states i done; spare = n }
-
-    ordered : (p q : ℕ) (a b : AnsweredCall) → get_elem? (calls ++ call ∷ []) p ≡ some a → get_elem? (calls ++ call ∷ []) q ≡ some b → p < q → a.call.caller ≡ b.call.caller → (a.next ≤ b.call.index) × (a.until ≤ b.call.since)
-    ordered p q a b at_p at_q less caller =
-        ⊎_elim
-        (λ (first : get_elem? calls p ≡ some a). ⊎_elim
-        (λ (second : get_elem? calls q ≡ some b). k.order p q a b first second less caller)
-        (λ (second : (q ≡ length calls) × (call ≡ b)). subst (λ (c : AnsweredCall). (a.next ≤ c.call.index) × (a.until ≤ c.call.since)) second.1 (before_it p a first (caller ∙ ap (λ (c : AnsweredCall). c.call.caller) (sym second.1))))
-        (at_end calls call b q at_q))
-        (λ (first : (p ≡ length calls) × (call ≡ a)). absurd (
-        let last : q < length calls + 1 = subst (λ (len : ℕ). q < len) (length-append calls (call ∷ [])) (within (calls ++ call ∷ []) q b at_q) in
-        let start = first.0 in
-        omega arith))
-        (at_end calls call a p at_p)
 
     answered : IsAnswerOf first.layout.slots base s.history e (op_in m) (running_call m).limit answer → CallLists base s.history (op_in m) (count_in m) answer part → IsIndex done_index
         → Kept first begun (calls ++ call ∷ []) done_index
@@ -440,7 +453,7 @@ module _ (first : Index) (begun : List BegunCall) (calls : List AnsweredCall) (s
           (λ (last : (j ≡ length calls) × (call ≡ c)).
           subst (CallHolds first.layout.slots base s.history) last.1 (tells_it answer says, omega arith, lists))
           (at_end calls call c j at);
-      order = ordered;
+      order = in_order_more calls call k.order before_it;
       earlier = λ j c p state at at_p caller. ⊎_elim
           (λ (mine : (p ≡ i) × (done ≡ state)). ⊎_elim
           (λ (old : get_elem? calls j ≡ some c).
