@@ -66,7 +66,7 @@ use Rattle.recovery.specs.updater.specs.Events.{how_many}
 use Rattle.recovery.specs.updater.specs.declared.terms.Turned.{Turned}
 use Rattle.recovery.specs.index_core.specs.Turns.{TurnsAlone}
 use Rattle.recovery.specs.index_core.proofs.WornNodes.{worn_target}
-use Rattle.recovery.specs.index_core.proofs.Retrying.{stamped_are_gone}
+use Rattle.recovery.specs.index_core.proofs.Retrying.{stamped_are_gone, tries_between}
 use Rattle.recovery.specs.index_core.proofs.Quiet.{quiet_parties}
 use Rattle.recovery.specs.index_core.proofs.Fulls.{no_room_is_full_put}
 use Rattle.std.proofs.lemmas.List.{length-map}
@@ -186,14 +186,6 @@ in_time s (call.Recheck node version) unlimited left over = over
 in_time s (call.Turn stamp release) unlimited left over = over
 in_time s (call.Del name limit) unlimited left over = let room : 0 < 2 ^ 62 - length s.history = le_trans left (min-le_right s.spare (2 ^ 62 - length s.history)) in omega (arith, room, unlimited, over)
 
-few_tries : (c : CoreCall) → most_tries c ≤ 4
-few_tries (call.Put name value limit) = omega arith
-few_tries (call.Del name limit) = omega arith
-few_tries (call.Get name) = omega arith
-few_tries (call.Part low count) = omega arith
-few_tries (call.Recheck node version) = omega arith
-few_tries (call.Turn stamp release) = omega arith
-
 pub goes_through : (s : Index) (i : ℕ) (c : CoreCall) (new : Index) (r : Once Placed) → IsIndex s → IsUnlimited c → 0 < calls_left_of s → most_writes c ≤ writes_left_of s → IsWholeAnswer (most_tries c) s i c new (whole_of r)
     → ((clock : ℕ) × (r ≡ once.Spent clock)) ⊎ ((node : ℕ) × (word : ℕ) × (r ≡ once.Worn node word)) → ⊥
 goes_through s i c new r is unlimited left writes answer = ⊎_elim
@@ -204,7 +196,7 @@ goes_through s i c new r is unlimited left writes answer = ⊎_elim
     both_worn node word (inl first) = unworn s c is left first.0
     both_worn node word (inr again) =
         let four = locks_remain s left in
-        let few = few_tries c in
+        let few = (tries_between c).1 in
         let less = again.1 in
         omega (arith, four, few, less)
 
@@ -328,7 +320,7 @@ writes_fall s s' c r caller runs spare =
 pub calls_fall : (s s' : Index) (c : CoreCall) (caller : ℕ) → TakesLocks caller c s s' → calls_left_of s ≤ calls_left_of s' + 1
 calls_fall s s' c caller takes = ⊎_elim
     (λ (one : locks_left s ≤ locks_left s' + 1). omega (arith, one))
-    (λ (again : IsMadeAgain caller c s × (locks_left s ≤ locks_left s' + most_tries c)). let few = few_tries c in let more = again.1 in omega (arith, few, more))
+    (λ (again : IsMadeAgain caller c s × (locks_left s ≤ locks_left s' + most_tries c)). let few = (tries_between c).1 in let more = again.1 in omega (arith, few, more))
     takes
 
 -- what a whole call leaves

@@ -725,13 +725,14 @@ full_is_put (call.Part low count) w full = absurd full
 full_is_put (call.Recheck node version) w full = absurd full
 full_is_put (call.Turn stamp release) w full = absurd full
 
-turns_and_one : (c : CoreCall) → most_turns c + 1 ≤ most_tries c
-turns_and_one (call.Put name value limit) = omega arith
-turns_and_one (call.Del name limit) = omega arith
-turns_and_one (call.Get name) = omega arith
-turns_and_one (call.Part low count) = omega arith
-turns_and_one (call.Recheck node version) = omega arith
-turns_and_one (call.Turn stamp release) = omega arith
+-- A call has a try behind each of its turns and one more, and is made four times at most.
+pub tries_between : (c : CoreCall) → (most_turns c + 1 ≤ most_tries c) × (most_tries c ≤ 4)
+tries_between (call.Put name value limit) = (omega arith, omega arith)
+tries_between (call.Del name limit) = (omega arith, omega arith)
+tries_between (call.Get name) = (omega arith, omega arith)
+tries_between (call.Part low count) = (omega arith, omega arith)
+tries_between (call.Recheck node version) = (omega arith, omega arith)
+tries_between (call.Turn stamp release) = (omega arith, omega arith)
 
 -- Once a log line isn't what a call lacks any more: it was turned back for want of one at most once.
 pub record HasItsLine (s0 s : Index) (i : ℕ) (c : CoreCall) (answer : Once Placed) : Type 0 where
@@ -795,7 +796,7 @@ pub ran_once : (s0 s : Index) (i : ℕ) (c : CoreCall) (answer : Once Placed) �
 ran_once s0 s i c answer none h one =
     let t = h.tried in
     let allowed = h.allowed in
-    let most = turns_and_one c in
+    let most = (tries_between c).0 in
     ran_all s0 t.before s i c answer h.tries 1 t.index_before t.quiet_before t.begun (omega arith) (omega arith)
     (one_try t.before s i c t.index_before t.still_before answer t.last t.each t.locks one (false_from_ne_true (lacks_line answer) h.lined) h.sweeps (on_name c answer none))
 
@@ -857,7 +858,7 @@ module _ (s0 s s' : Index) (i : ℕ) (c : CoreCall) (answer : Once Placed) (each
   takes_behind_line t lacks =
       let again = tried_is_again s0 s i c answer 0 t (inl (inl lacks)) in
       let some_turn = may_turn c s0 i again in
-      let most = turns_and_one c in
+      let most = (tries_between c).0 in
       takes_more 0 t (omega (arith, some_turn, most)) (inl (inl lacks))
 
   pub takes_behind_node : HasItsLine s0 s i c answer → lacks_node answer ≡ true → TakesEachLock i c s0 s' × TakesLocks i c s0 s'
