@@ -45,7 +45,7 @@ use Rattle.index_core.specs.Schedules.{BegunCall, AnsweredCall, begun_call, flyi
 use Rattle.index_core.proofs.Stepping.{begins_limit, begins_count}
 use Rattle.index_core.proofs.Flights.{each_starts, each_alone}
 use Rattle.index_core.proofs.Indexed.{next_other, next_own, indexes_push, states_set}
-use Rattle.index_core.proofs.Lists.{within, at_end, got_end}
+use Rattle.index_core.proofs.Lists.{at_end, got_end}
 use Rattle.index_core.proofs.Scheduling.{IsEarlier, AnswerHolds, CallHolds, in_flight, CountsUpTo, Kept, longer_call, flies_elsewhere, answered_last, answered_longer, in_order_more}
 
 -- a limit that isn't reached is above

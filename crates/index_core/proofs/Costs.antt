@@ -42,8 +42,8 @@ use Rattle.index_core.specs.declared.party.CoreCall.{CoreCall}
 use Rattle.index_core.specs.declared.party.CoreCall.TheVariants as call
 use Rattle.index_core.specs.CoreCalls.{limit_of, machine_of, op_of}
 use Rattle.index_core.specs.Bursts.{TurnsOn}
-use Rattle.index_core.specs.Costs.{ActionsAreFew, ActsWithin, IsUnworn, IsUnwornWhole, TriesWithin, list_actions}
-use Rattle.index_core.specs.Costs.{look_actions, merge_actions, most_actions, other_actions, split_actions}
+use Rattle.index_core.specs.Costs.{ActionsAreFew, ActsWithin, IsUnworn, IsUnwornWhole, TriesWithin}
+use Rattle.index_core.specs.Costs.{behind_actions, look_actions, most_actions, other_actions, split_actions}
 use Rattle.index_core.specs.Indexes.{Index, IsIndex, Starts, told, view_of, world}
 use Rattle.index_core.specs.Lone.{HasNoCalls, HasShortWays, IsWholeAnswer, NeedsNoTurn, TriesAlone, lacks_line}
 use Rattle.index_core.specs.Lone.{lacks_node, needs_split, part_whole, whole_of}
@@ -60,14 +60,7 @@ lone_cost s0 s i c o = ap cost_in (lone_there s0 s i c o)
 
 -- as it begins
 abbrev pub first_left : Layout → CoreCall → ℕ
-first_left l c = floor_most l + 20 * l.nodes + 3 * l.slots + 12 + elim c [
-  | call.Put name value limit ↦ split_actions
-  | call.Get name ↦ 1
-  | call.Del name limit ↦ merge_actions
-  | call.Part low count ↦ list_actions l
-  | call.Recheck node version ↦ 1
-  | call.Turn stamp release ↦ 1
-]
+first_left l c = floor_most l + 20 * l.nodes + 3 * l.slots + 12 + behind_actions l c
 
 begun_left : (v : View) (c : CoreCall) → running_left (machine_of v c) + spared (machine_of v c) ≤ first_left v.layout c
 begun_left v (call.Put name value limit) = omega arith

@@ -26,7 +26,6 @@ use Rattle.index_law.specs.Worlds.{World}
 use Rattle.lone_hops_law.specs.lone_call_law.specs.LoneCalls.{FindsFull, Foresees, IsThere}
 use Rattle.lone_hops_law.specs.lone_call_law.specs.There.{LookupStands, WalksBy}
 use Rattle.lone_hops_law.specs.lone_updater_law.specs.CallLogs.{ready_lines}
-use Rattle.node_ops.specs.search_layer.specs.Floors.{floor_most}
 use Rattle.lone_hops_law.proofs.Short.{short_stays}
 use Rattle.index_core.specs.declared.party.CoreCall.{CoreCall}
 use Rattle.index_core.specs.declared.party.CoreCall.TheVariants as call
@@ -146,14 +145,6 @@ splits_none w (call.Part low count) m of foresees room = omega arith
 splits_none w (call.Recheck node version) m of foresees room = omega arith
 splits_none w (call.Turn stamp release) m of foresees room = omega arith
 
-first_is : (l : Layout) (c : CoreCall) → first_left l c ≡ floor_most l + 20 * l.nodes + 3 * l.slots + 12 + behind_actions l c
-first_is l (call.Put name value limit) = refl
-first_is l (call.Get name) = refl
-first_is l (call.Del name limit) = refl
-first_is l (call.Part low count) = refl
-first_is l (call.Recheck node version) = refl
-first_is l (call.Turn stamp release) = refl
-
 -- so the next action of one in flight is one of those that it makes at most
 module _ (s0 s : Index) (i : ℕ) (c : CoreCall) (o : Lone s0 s i c) (before now : ℕ) (kept : now + cost_at s i ≤ before + first_left s0.layout c) (short : HasShortWays s0) where
   has_left : 20 * s0.layout.nodes + not_split o.machine ≤ cost_at s i + 10 * (ready_lines (world s0) + 1)
@@ -165,14 +156,13 @@ module _ (s0 s : Index) (i : ℕ) (c : CoreCall) (o : Lone s0 s i c) (before now
       omega (arith, was, of_call)
 
   next_in_time : now + 1 ≤ before + (look_actions s0.layout (ready_lines (world s0)) + behind_actions s0.layout c)
-  next_in_time = let few = has_left in let first = first_is s0.layout c in omega (arith, kept, few, first)
+  next_in_time = let few = has_left in omega (arith, kept, few)
 
   next_with_room : (FindsFull (world s0) (op_of c) → ⊥) → now + 1 ≤ before + (look_actions s0.layout (ready_lines (world s0)) + room_actions s0.layout c)
   next_with_room room =
       let few = has_left in
-      let first = first_is s0.layout c in
       let none = splits_none (world s0) c o.machine o.call.of o.call.foresees room in
-      omega (arith, kept, few, first, none)
+      omega (arith, kept, few, none)
 
 -- where it is cut off, and where it is answered
 pub cut_in_time : (T : Type 0) (s0 s : Index) (i : ℕ) (c : CoreCall) → Lone s0 s i c → (budget before now : ℕ) → now + cost_at s i ≤ before + first_left s0.layout c → now ≡ before + budget → TriesInTime {T = T} s0 c None budget before now

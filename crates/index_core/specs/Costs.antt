@@ -33,32 +33,29 @@ merge_actions = 30052
 abbrev pub list_actions : Layout → ℕ
 list_actions l = 4 * l.slots + 2
 
--- Those of one try behind its look-up. A put that isn't answered that it took place may have split its node.
+-- Those of one try behind its look-up, of which a put makes so many.
+abbrev pub try_actions : ℕ → Layout → CoreCall → ℕ
+try_actions put l (call.Put name value limit) = put
+try_actions put l (call.Get name) = 1
+try_actions put l (call.Del name limit) = merge_actions
+try_actions put l (call.Part low count) = list_actions l
+try_actions put l (call.Recheck node version) = 1
+try_actions put l (call.Turn stamp release) = 1
+
+-- A put that isn't answered that it took place may have split its node.
+abbrev pub put_actions : Once Placed → ℕ
+put_actions (once.Done placed) = fill_actions
+put_actions _ = split_actions
+
 abbrev pub other_actions : Layout → CoreCall → Once Placed → ℕ
-other_actions l (call.Put name value limit) (once.Done placed) = fill_actions
-other_actions l (call.Put name value limit) _ = split_actions
-other_actions l (call.Get name) _ = 1
-other_actions l (call.Del name limit) _ = merge_actions
-other_actions l (call.Part low count) _ = list_actions l
-other_actions l (call.Recheck node version) _ = 1
-other_actions l (call.Turn stamp release) _ = 1
+other_actions l c answer = try_actions (put_actions answer) l c
 
 -- Those of any such try, whatever it is answered; and where a put's node has room for its name, so that it isn't split.
 abbrev pub behind_actions : Layout → CoreCall → ℕ
-behind_actions l (call.Put name value limit) = split_actions
-behind_actions l (call.Get name) = 1
-behind_actions l (call.Del name limit) = merge_actions
-behind_actions l (call.Part low count) = list_actions l
-behind_actions l (call.Recheck node version) = 1
-behind_actions l (call.Turn stamp release) = 1
+behind_actions l c = try_actions split_actions l c
 
 abbrev pub room_actions : Layout → CoreCall → ℕ
-room_actions l (call.Put name value limit) = fill_actions
-room_actions l (call.Get name) = 1
-room_actions l (call.Del name limit) = merge_actions
-room_actions l (call.Part low count) = list_actions l
-room_actions l (call.Recheck node version) = 1
-room_actions l (call.Turn stamp release) = 1
+room_actions l c = try_actions fill_actions l c
 
 -- Those of a whole call that needs no turn of the updater, as so many log lines are READY: a put may split its node,
 -- and is made again then.
