@@ -103,7 +103,7 @@ use Rattle.index_core.specs.declared.party.CoreCall.{CoreCall}
 use Rattle.index_core.specs.declared.party.CoreCall.TheVariants as core_call
 use Rattle.index_core.specs.CoreCalls.{machine_of}
 use Rattle.node_ops.specs.RunningSteps.{IsRunning, Sound, running_call, running_turned, wrapped, wrapped_part}
-use Rattle.index_core.specs.Causes.{FoundNoLine, AreInUse, none_yet, one_more, FoundNoNode, HasCause, HasCauseIn}
+use Rattle.index_core.specs.Causes.{FoundNoLine, AreInUse, none_yet, one_more, FoundNoNode, HasCause, HasCauseIn, HasTold}
 use Rattle.index_core.specs.Heard.{EndsFull, TakeHasAt, TakeTold, EndsInUse, EndsSeen, ClaimHasAt, ClaimHas, ClaimTold, SplitHas, SplitTold, WalkHas, WalkTold, HoldHas, LookHas, LookTold, PutHas, DelHas, GetHas, PartHas, WayHas, RunningHas, RunningTold, CallsHear}
 
 at_end : (told : List ℕ) (x : ℕ) → Contains (told ++ x ∷ []) x
@@ -126,11 +126,10 @@ one_full told n x ends some = record {
 all_full : (told : List ℕ) → EndsFull told 8 → FoundNoLine told
 all_full told ends = record {
   before = ends.before;
-  states = ends.states;
+  part = ends.states;
   rest = [];
   is = ends.is ∙ ap (λ (l : List ℕ). ends.before ++ l) (sym (append-nil ends.states));
-  all = ends.count;
-  none = ends.full;
+  holds = (ends.count, ends.full);
 }
 
 take_told : (take : Take) (at : TakeAt) (told : List ℕ) (x : ℕ) → take.index < 8 → take.at ≡ at → TakeHasAt told take.index at → TakeTold (told ++ x ∷ []) (take_at_turned take at x)
@@ -169,10 +168,10 @@ one_in_use g told node version status ends used = record {
 all_in_use : (l : Layout) (g : ℕ) (told : List ℕ) → EndsInUse g told l.nodes → FoundNoNode l g told
 all_in_use l g told ends = record {
   before = ends.before;
-  nodes = ends.nodes;
+  part = ends.nodes;
   rest = [];
   is = ends.is ∙ ap (λ (n : List ℕ). ends.before ++ n) (sym (append-nil ends.nodes));
-  all = let same : ends.count ≡ l.nodes - 1 = omega (arith, ends.next) in subst (AreInUse g ends.nodes) same ends.used;
+  holds = let same : ends.count ≡ l.nodes - 1 = omega (arith, ends.next) in subst (AreInUse g ends.nodes) same ends.used;
 }
 
 claim_begins : (l : Layout) (g : ℕ) (told : List ℕ) → ClaimHas told (claim_from l g)
@@ -218,10 +217,10 @@ module _ (claim : Claim) (within : claim.node < claim.layout.nodes) where
   claim_told : (at : ClaimAt) (told : List ℕ) (x : ℕ) → ClaimHasAt l g told claim.node at → ClaimTold l g (told ++ x ∷ []) (claim_at_turned claim at x)
   claim_told claim_at.Nowhere told x one = record {
     before = told ++ x ∷ [];
-    nodes = [];
+    part = [];
     rest = [];
     is = sym (append-nil (told ++ x ∷ []));
-    all = let zero : 0 ≡ l.nodes - 1 = omega (arith, one) in subst (AreInUse g []) zero none_yet;
+    holds = let zero : 0 ≡ l.nodes - 1 = omega (arith, one) in subst (AreInUse g []) zero none_yet;
   }
   claim_told claim_at.Version told x ends = record { before = told; is = refl; ends = ends }
   claim_told (claim_at.Status version) told x seen = sees told version x seen
@@ -234,25 +233,21 @@ module _ (claim : Claim) (within : claim.node < claim.layout.nodes) where
 -- ---- the split
 
 -- what was told stays told
+longer_told : {told : List ℕ} {P : List ℕ → Type 0} → (x : ℕ) → HasTold told P → HasTold (told ++ x ∷ []) P
+longer_told x has = record {
+  before = has.before;
+  part = has.part;
+  rest = has.rest ++ x ∷ [];
+  is = ap (λ (t : List ℕ). t ++ x ∷ []) has.is ∙ append_assoc has.before (has.part ++ has.rest) (x ∷ []) ∙ ap (λ (t : List ℕ). has.before ++ t) (append_assoc has.part has.rest (x ∷ []));
+  holds = has.holds;
+}
+
 longer : (l : Layout) (g : ℕ) (told : List ℕ) (x : ℕ) (why : Again) → HasCause l g told why → HasCause l g (told ++ x ∷ []) why
 longer l g told x (again.Locked node word) cause = (Contains-append_left told (x ∷ []) word cause.0, cause.1)
 longer l g told x (again.Moved node first second) cause = (Contains-append_left told (x ∷ []) first cause.0, Contains-append_left told (x ∷ []) second cause.1, cause.2)
 longer l g told x (again.Hops count) cause = cause
-longer l g told x again.LogFull cause = record {
-  before = cause.before;
-  states = cause.states;
-  rest = cause.rest ++ x ∷ [];
-  is = ap (λ (t : List ℕ). t ++ x ∷ []) cause.is ∙ append_assoc cause.before (cause.states ++ cause.rest) (x ∷ []) ∙ ap (λ (t : List ℕ). cause.before ++ t) (append_assoc cause.states cause.rest (x ∷ []));
-  all = cause.all;
-  none = cause.none;
-}
-longer l g told x again.NoFree cause = record {
-  before = cause.before;
-  nodes = cause.nodes;
-  rest = cause.rest ++ x ∷ [];
-  is = ap (λ (t : List ℕ). t ++ x ∷ []) cause.is ∙ append_assoc cause.before (cause.nodes ++ cause.rest) (x ∷ []) ∙ ap (λ (t : List ℕ). cause.before ++ t) (append_assoc cause.nodes cause.rest (x ∷ []));
-  all = cause.all;
-}
+longer l g told x again.LogFull cause = longer_told x cause
+longer l g told x again.NoFree cause = longer_told x cause
 longer l g told x (again.NeedsSplit node) cause = tt
 longer l g told x (again.Held word) cause = absurd cause
 longer l g told x (again.Epoch first second) cause = absurd cause

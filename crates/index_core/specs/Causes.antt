@@ -9,14 +9,17 @@ use Rattle.call_stages.specs.declared.once.Once.{Once}
 use Rattle.call_stages.specs.declared.once.Once.TheVariants as once
 use Rattle.call_stages.specs.declared.once.Placed.{Placed}
 
--- It loaded the states of its caller's eight log lines, one after another, and none was EMPTY, whose number is 0.
-pub record FoundNoLine (told : List ℕ) : Type 0 where
+-- Of what it was told some part holds this.
+pub record HasTold (told : List ℕ) (P : List ℕ → Type 0) : Type 0 where
   pub before : List ℕ
-  pub states : List ℕ
+  pub part : List ℕ
   pub rest : List ℕ
-  pub is : told ≡ before ++ (states ++ rest)
-  pub all : length states ≡ 8
-  pub none : All (λ (state : ℕ). state ≢ empty_state) states
+  pub is : told ≡ before ++ (part ++ rest)
+  pub holds : P part
+
+-- It loaded the states of its caller's eight log lines, one after another, and none was EMPTY, whose number is 0.
+abbrev pub FoundNoLine : List ℕ → Type 0
+FoundNoLine told = HasTold told (λ states. (length states ≡ 8) × All (λ (state : ℕ). state ≢ empty_state) states)
 
 -- Of so many nodes, one after another, it loaded the version word and the status. None is FREE, but for such as have no
 -- lock left.
@@ -26,12 +29,8 @@ pub data AreInUse (g : ℕ) : List ℕ → ℕ → Type 0 where
       (status ≢ free_status) ⊎ IsWorn version g → AreInUse g (told ++ version ∷ status ∷ []) (n + 1)
 
 -- So it found each node but node 0, which is always listed.
-pub record FoundNoNode (l : Layout) (g : ℕ) (told : List ℕ) : Type 0 where
-  pub before : List ℕ
-  pub nodes : List ℕ
-  pub rest : List ℕ
-  pub is : told ≡ before ++ (nodes ++ rest)
-  pub all : AreInUse g nodes (l.nodes - 1)
+abbrev pub FoundNoNode : Layout → ℕ → List ℕ → Type 0
+FoundNoNode l g told = HasTold told (λ nodes. AreInUse g nodes (l.nodes - 1))
 
 -- The cause of each answer that says to make the call again. Another party has the node: the call was given this
 -- version word, which isn't free. The node has changed: it was given one version word, and another one, by a load or by
