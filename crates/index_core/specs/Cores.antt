@@ -4,19 +4,11 @@ use Rattle.pm_words.specs.declared.action.Action.{Action}
 use Rattle.pm_words.specs.declared.action.Action.TheVariants as action
 use Rattle.index_core.specs.declared.index.Core.TheInside.{Inside}
 use Rattle.index_core.specs.PartyStates.{owed}
-use Rattle.index_core.specs.Indexes.{Index, IsIndex}
+use Rattle.index_core.specs.Indexes.{Index, IsIndex, index_made}
 
 -- The index, with so much room to spare.
 abbrev pub index_with : Inside → ℕ → Index
-index_with c spare = record {
-  layout = c.memory.layout;
-  generation = c.generation;
-  words = c.memory.words;
-  states = c.states.items;
-  base = c.base;
-  history = c.history.items;
-  spare = spare;
-}
+index_with c spare = index_made c.memory c.generation c.states.items c.base c.history.items spare
 
 -- What is written, and what the calls in flight may still place, beside which the room is spare.
 abbrev pub taken : Inside → ℕ

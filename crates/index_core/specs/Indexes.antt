@@ -7,6 +7,7 @@ use lib.ListN.{get_elem?}
 use Rattle.cat_key.specs.declared.Pair.{Pair}
 use Rattle.pm_words.specs.Codes.{free_status}
 use Rattle.pm_words.specs.declared.layout.Layout.{Layout}
+use Rattle.pm_words.specs.Images.{Row}
 use Rattle.pm_words.specs.Rows.{acted, got}
 use Rattle.cat_history.specs.Maps.{Map, map_of}
 use Rattle.cat_history.specs.Writes.{after, after_all}
@@ -55,6 +56,18 @@ pub record Index : Type 0 where
   pub base : List Pair  -- the map as the run began
   pub history : List Write  -- the writes since, in the order in which they were placed
   pub spare : ℕ  -- for how many more writes there is room, beside those of the calls in flight
+
+-- The index of this row in this run, with these parties, this base and this history.
+abbrev pub index_made : Row → ℕ → List PartyState → List Pair → List Write → ℕ → Index
+index_made row generation states base history spare = record {
+  layout = row.layout;
+  generation = generation;
+  words = row.words;
+  states = states;
+  base = base;
+  history = history;
+  spare = spare;
+}
 
 -- What the law of the index is about.
 abbrev pub world : Index → World
