@@ -11,7 +11,7 @@ use Rattle.call_stages.specs.declared.once.Placed.{Placed}
 use Rattle.call_stages.specs.Stages.{Held, Stage}
 use Rattle.call_stages.specs.AnySteps.{AnyStep, on_nodes, beside}
 use Rattle.call_stages.specs.Kinds.{Read, views, views_live, views_word, views_next, dates, notes, finds, confirms, wavers}
-use Rattle.call_stages.specs.Kinds.{Look, turns_back, is_worn, wears, roams, roams_status, sees, misses, misses_read, times, learns, decides, glances, reads_on, finds_live, watches, watches_next, turns_away, steps_back, wanders, fills, lights, switches, glances_left, glances_fresh, drains_left, drains_fresh, trims, splits, meets, knows_own, knows_right, copies, takes_up, puts_down, parts, gathers, joins, glances_joined, drains_joined, retires, yields, merges, peeks, peeks_status, eyes, eyes_free, passes, loses, claims, publishes, leaves, Answers, writes, reads, is_spent, has_no_room, refuses, Step, looks, locks, locks_read, stores, commits, drains, counts, unlocks}
+use Rattle.call_stages.specs.Kinds.{Look, reads_on, turns_away, steps_back, wanders, fills, lights, switches, glances_left, glances_fresh, drains_left, drains_fresh, trims, splits, meets, knows_own, knows_right, copies, takes_up, puts_down, parts, gathers, joins, glances_joined, drains_joined, retires, yields, merges, claims, publishes, leaves, Answers, writes, reads, is_spent, has_no_room, refuses, Step, looks, locks, locks_read, stores, commits, drains, counts, unlocks}
 use Rattle.call_stages.specs.Kinds.{GivesUp, IsRefusal}
 use Rattle.index_core.specs.MachineLaws.{IsNoEpoch}
 
@@ -60,31 +60,11 @@ module _ {l : Layout} {g : ℕ} where
   read_known (wavers here other) = tt
 
   look_known : {s : Stage} {a : Action} {x : ℕ} {t : Stage} {r : Option (Once Placed)} → Look l g s a x t r → IsNoEpoch r
-  look_known (turns_back loose here busy) = tt
-  look_known (wears loose here free worn) = tt
-  look_known (roams has) = tt
-  look_known (roams_status here) = tt
-  look_known (is_worn has) = tt
-  look_known (sees loose here free unworn lock) = tt
-  look_known (finds_live here is) = tt
-  look_known (watches has positive live next learnt) = tt
-  look_known (watches_next has low high ne live live' next leads learnt) = tt
   look_known (turns_away {r = r} loose here up) = gives_up r up
   look_known (steps_back {r = r} loose here up) = gives_up r up
   look_known (wanders {r = r} loose here up) = gives_up r up
-  look_known (peeks here unready) = tt
-  look_known (peeks_status here unready) = tt
-  look_known (eyes still durable here nonzero free unworn lock) = tt
-  look_known (eyes_free here is) = tt
-  look_known (passes here) = tt
-  look_known (loses here other) = tt
-  look_known (misses other) = tt
-  look_known (misses_read other small) = tt
-  look_known (times clean below) = tt
-  look_known (learns has positive unready learnt) = tt
-  look_known (decides has positive clean durable about learnt decided) = tt
   look_known (reads_on k) = read_known k
-  look_known (glances has unready) = tt
+  look_known _ = tt
 
   node_known : {s : Stage} {a : Action} {x : ℕ} {t : Stage} {r : Option (Once Placed)} → Step l g s a x t r → IsNoEpoch r
   node_known (looks look) = look_known look

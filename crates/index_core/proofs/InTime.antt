@@ -68,14 +68,7 @@ module _ (l : Layout) (words0 words : List ℕ) (call : Call) (lines : ℕ) (nod
       let short = few stands.1.hops stands.1.walks in
       let all = stands.1.way.all in
       omega (arith, same, short, all)
-  look_left (look.Read seen) here stands = landed (look.Read seen) refl stands
-  look_left (look.Lock seen locked) here stands = landed (look.Lock seen locked) refl stands
-  look_left (look.Clock locked) here stands = landed (look.Clock locked) refl stands
-  look_left (look.Spent hold) here stands = landed (look.Spent hold) refl stands
-  look_left (look.Bitmap hold) here stands = landed (look.Bitmap hold) refl stands
-  look_left (look.Prints hold bitmap prints k) here stands = landed (look.Prints hold bitmap prints k) refl stands
-  look_left (look.Name hold directory left slot k) here stands = landed (look.Name hold directory left slot k) refl stands
-  look_left (look.Value hold directory slot) here stands = landed (look.Value hold directory slot) refl stands
+  look_left at here stands = landed at refl stands
 
 -- and so has any call
 module _ (l : Layout) (words0 words : List ℕ) (lines : ℕ) where

@@ -62,21 +62,8 @@ in_use_weighs s is used = use_weighs (world s) is.lawful (splits_are_full s is) 
 
 -- a turn ends so only behind its last count of nodes, by which none is FREE
 work_ends : (work : Work) (at : WorkAt) (x : ℕ) → FindsNoneFree (worked (work_at_turned work at x)) → work_at_stage work.terms at ≡ Counts work.terms.layout.nodes true
-work_ends work (at.State line) x finds = absurd finds
-work_ends work (at.Reading read) x finds = absurd finds
-work_ends work (at.Landing line entry floor) x finds = absurd finds
-work_ends work (at.Walking line entry walk) x finds = absurd finds
-work_ends work (at.Seeing line entry found) x finds = absurd finds
-work_ends work (at.Setting line entry set) x finds = absurd finds
-work_ends work (at.Unsetting line entry unset) x finds = absurd finds
-work_ends work (at.Stamping line entry) x finds = absurd finds
-work_ends work (at.Clearing clear) x finds = absurd finds
-work_ends work (at.Status node) x finds = absurd finds
-work_ends work (at.Stamp node) x finds = absurd finds
-work_ends work (at.Version node) x finds = absurd finds
-work_ends work (at.Releasing release) x finds = absurd finds
-work_ends work (at.Counting node none) x finds = absurd finds
 work_ends work (at.Leaving none) x finds = ap (Counts work.terms.layout.nodes) finds
+work_ends work _ x finds = absurd finds
 
 pub ends_counting : (making : MakeTurn) (x : ℕ) → FindsNoneFree (making_turned making x) → (making_turning making).stage ≡ Counts (making_terms making).layout.nodes true
 ends_counting (Taking terms) x finds = absurd (elim (x == untaken_lock) as (λ b. FindsNoneFree (cond b (Go (Working (work_from terms.layout terms.generation terms.stamp terms.release))) (Done (reply.Held x))) → ⊥) [

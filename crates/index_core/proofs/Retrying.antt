@@ -728,11 +728,7 @@ full_is_put (call.Turn stamp release) w full = absurd full
 -- A call has a try behind each of its turns and one more, and is made four times at most.
 pub tries_between : (c : CoreCall) → (most_turns c + 1 ≤ most_tries c) × (most_tries c ≤ 4)
 tries_between (call.Put name value limit) = (omega arith, omega arith)
-tries_between (call.Del name limit) = (omega arith, omega arith)
-tries_between (call.Get name) = (omega arith, omega arith)
-tries_between (call.Part low count) = (omega arith, omega arith)
-tries_between (call.Recheck node version) = (omega arith, omega arith)
-tries_between (call.Turn stamp release) = (omega arith, omega arith)
+tries_between _ = (omega arith, omega arith)
 
 -- Once a log line isn't what a call lacks any more: it was turned back for want of one at most once.
 pub record HasItsLine (s0 s : Index) (i : ℕ) (c : CoreCall) (answer : Once Placed) : Type 0 where

@@ -12,21 +12,13 @@ use Rattle.lone_hops_law.specs.lone_updater_law.specs.CallLogs.{LeavesLines, Mak
 use Rattle.index_core.specs.Lone.{lacks_node, needs_split}
 
 -- Its answer tells it.
-told_by : (r : Once Placed) → (needs_split r ≡ true → (n : ℕ) × (r ≡ once.Again (again.NeedsSplit n))) × (lacks_node r ≡ true → r ≡ once.Again again.NoFree)
-told_by (once.Again (again.NeedsSplit n)) = (λ is. (n, refl), λ is. absurd (cc))
-told_by (once.Again again.NoFree) = (λ is. absurd (cc), λ is. refl)
-told_by (once.Again again.LogFull) = (λ is. absurd (cc), λ is. absurd (cc))
-told_by (once.Again (again.Locked n word)) = (λ is. absurd (cc), λ is. absurd (cc))
-told_by (once.Again (again.Moved n first second)) = (λ is. absurd (cc), λ is. absurd (cc))
-told_by (once.Again (again.Hops count)) = (λ is. absurd (cc), λ is. absurd (cc))
-told_by (once.Again (again.Held word)) = (λ is. absurd (cc), λ is. absurd (cc))
-told_by (once.Again (again.Epoch first second)) = (λ is. absurd (cc), λ is. absurd (cc))
-told_by (once.Done placed) = (λ is. absurd (cc), λ is. absurd (cc))
-told_by (once.Spent clock) = (λ is. absurd (cc), λ is. absurd (cc))
-told_by (once.Worn node word) = (λ is. absurd (cc), λ is. absurd (cc))
-
 pub is_split : (r : Once Placed) → needs_split r ≡ true → (n : ℕ) × (r ≡ once.Again (again.NeedsSplit n))
-is_split r = (told_by r).0
+is_split (once.Again (again.NeedsSplit n)) is = (n, refl)
+is_split _ is = absurd (cc)
+
+lacks_free : (r : Once Placed) → lacks_node r ≡ true → r ≡ once.Again again.NoFree
+lacks_free (once.Again again.NoFree) is = refl
+lacks_free _ is = absurd (cc)
 
 -- So its cause is the one of that answer,
 pub split_told : (w : World) (asked : NameOp) (limit : Option ℕ) (w' : World) (p : Party) (r : Once Placed)
@@ -37,7 +29,7 @@ split_told w asked limit w' p r end is = subst (IsAnswered w asked limit w' p) (
 pub lacks_told : (w : World) (asked : NameOp) (limit : Option ℕ) (w' : World) (p : Party) (r : Once Placed)
     → IsAnswered w asked limit w' p r → lacks_node r ≡ true
     → IsAnswered w asked limit w' p (once.Again again.NoFree)
-lacks_told w asked limit w' p r end is = subst (IsAnswered w asked limit w' p) ((told_by r).1 is) end
+lacks_told w asked limit w' p r end is = subst (IsAnswered w asked limit w' p) (lacks_free r is) end
 
 -- and one that has split its node has made a log line READY.
 pub split_is_ready : (name : List ℕ) (caller : ℕ) (w w' : World) (r : Once Placed) → LeavesLines name caller w w' r
