@@ -32,7 +32,7 @@ use Rattle.index_core.specs.Weights.{added_by}
 use Rattle.pac_index.specs.declared.shared.Shared.{Shared}
 use Rattle.pac_index.specs.Budgets.{CutsOff, StopsAt, TriedBack, place_in}
 use Rattle.pac_index.specs.Cuts.{HasEnded, HasPaid, IsCutCall, IsCutTry, IsCutWithin, IsTried, StopsTry, own_cut}
-use Rattle.pac_index.specs.Kept.{placed_by}
+use Rattle.pac_index.specs.Kept.{PlacesNone, placed_by}
 use Rattle.pac_index.specs.Calls.{Answers, PartAnswers, counted_index, own_at}
 use Rattle.pac_index.specs.Callers.{IsAtRest, IsCallerOf, StaysCaller, pins_of, seen_by, spare_of}
 use Rattle.pac_index.specs.CutTurns.{IsCutTurn, IsCutTurnTry, StopsDated, StopsUndated, TurnCutsOff, TurnStops, TurnStopsAt}
@@ -285,18 +285,22 @@ stays_noted : (noted : Bool) (answer : TurnReply) → noted ≡ true → noted_i
 stays_noted noted (reply.Turned turned) is = ap (λ (b : Bool). b || turned.none_free) is
 stays_noted noted (reply.Held word) is = is
 
--- what a turn leaves
-pub turn_reads : (epoch : ℕ) (v w : Member) (answer : TurnReply) → TurnAnswers epoch v answer w → HasOnlyRead v w
-turn_reads epoch v w answer is = record {
+-- what steps leave that place no write
+none_reads : (v w : Member) → PlacesNone v w → w.state.caller ≡ v.state.caller → (v.none_free ≡ true → w.none_free ≡ true) → HasOnlyRead v w
+none_reads v w is caller none_free = record {
   about = is.about;
-  caller = ap (λ (e : PartyState). e.caller) is.state;
+  caller = caller;
   taken = let t = is.taken in omega arith;
   added = is.added;
-  none_free = λ noted. is.none_free ∙ stays_noted v.none_free answer noted;
+  none_free = none_free;
   known = still_same v.known w.known is.known;
   seen = is.seen;
   own = is.own;
 }
+
+-- so a turn
+pub turn_reads : (epoch : ℕ) (v w : Member) (answer : TurnReply) → TurnAnswers epoch v answer w → HasOnlyRead v w
+turn_reads epoch v w answer is = none_reads v w is.leaves (ap (λ (e : PartyState). e.caller) is.state) (λ noted. is.none_free ∙ stays_noted v.none_free answer noted)
 
 pub held_reads : (word : ℕ) (v w : Member) → TurnHeld word v w → HasOnlyRead v w
 held_reads word v w is = turn_reads first_epoch v w (reply.Held word) (is first_epoch)
@@ -347,16 +351,7 @@ turned_at_last parties old w pins pins_now turned is = record { before = is.last
 
 -- of whichever try of a turn: what it leaves
 stops_reads : (epoch : ℕ) (v w : Member) → TurnStopsAt epoch v w → HasOnlyRead v w
-stops_reads epoch v w is = record {
-  about = is.about;
-  caller = ap (λ (e : PartyState). e.caller) is.state;
-  taken = let t = is.taken in omega arith;
-  added = is.added;
-  none_free = λ noted. is.none_free ∙ noted;
-  known = still_same v.known w.known is.known;
-  seen = is.seen;
-  own = is.own;
-}
+stops_reads epoch v w is = none_reads v w is.leaves (ap (λ (e : PartyState). e.caller) is.state) (λ noted. is.none_free ∙ noted)
 
 pub cut_turn_reads : (parties : ℕ) (v w : Member) (pins pins_now : PinMember) → TurnStops parties v pins w pins_now → HasOnlyRead v w
 cut_turn_reads parties v w pins pins_now is = ⊎_elim

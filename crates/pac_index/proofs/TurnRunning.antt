@@ -22,7 +22,7 @@ use Rattle.index_core.specs.PartyStates.{state_turned}
 use Rattle.index_core.specs.declared.party.PartyState.{PartyState}
 use Rattle.pac_index.specs.declared.rule.About.{About}
 use Rattle.pac_index.specs.declared.rule.Member.{Member}
-use Rattle.pac_index.specs.Kept.{placed_by}
+use Rattle.pac_index.specs.Kept.{PlacesNone, placed_by}
 use Rattle.pac_index.specs.Calls.{run_of}
 use Rattle.pac_index.specs.Turns.{turn_in, turning, turning_at, work_in, TurnReady, TurnGoes, TurnRuns, HasLock, noted_by, TurnAnswers, TurnHeld, WorkStepsOn, actions_left}
 use Rattle.pac_index.proofs.Lists.{begins_trans}
@@ -47,21 +47,27 @@ refused_turn terms x other =
 abbrev terms_in : Member → ℕ → Terms
 terms_in v epoch = record { layout = v.about.layout; generation = v.about.generation; stamp = epoch; release = epoch - 2 }
 
+-- what the step at the updater lock leaves of its party, in whichever state that is then
+pub lock_leaves : (old w : Member) (x : ℕ) (state : PartyState) → TurnGoes (turn_in old first_epoch) (turning old) x w → PlacesNone old (record w { state = state })
+lock_leaves old w x state goes = record {
+  about = goes.stepped.about;
+  taken = goes.stepped.taken ∙ ap (λ (l : List ℕ). old.taken + length l) (sym goes.stepped.told);
+  added = goes.added;
+  known = goes.known;
+  seen = goes.stepped.seen;
+  own = goes.own;
+}
+
 pub turn_held : (old w : Member) (x : ℕ) → TurnGoes (turn_in old first_epoch) (turning old) x w → x ≢ untaken_lock → TurnHeld x old w
 turn_held old w x goes other = λ epoch.
     let ended = refused_turn (terms_in old first_epoch) x other in
     record {
-      about = goes.stepped.about;
+      leaves = lock_leaves old w x w.state goes;
       state = goes.state ∙ ap (state_turned old.state) ended;
       ran = ap (run_of making_turned (Go (turn_in old epoch))) goes.stepped.told ∙ refused_ran (terms_in old epoch) x other;
       lock = (goes.stepped.told, other);
       free = tt;
-      taken = goes.stepped.taken ∙ ap (λ (l : List ℕ). old.taken + length l) (sym goes.stepped.told);
-      added = goes.added;
       none_free = goes.none_free ∙ ap (noted_by old.none_free) ended;
-      known = goes.known;
-      seen = goes.stepped.seen;
-      own = goes.own;
     }
 
 -- what holds of a party that has taken the lock
@@ -80,16 +86,11 @@ module _ (old w : Member) (goes : TurnGoes (turn_in old first_epoch) (turning ol
   lock_dated epoch ready =
       let same : work_in old epoch ≡ work_in w epoch = ap (λ (b : About). Working (work_from b.layout b.generation epoch (epoch - 2))) (sym goes.stepped.about) in
       subst (λ (m : MakeTurn). TurnRuns epoch old (Go m) (record w { state = record w.state { turn = Some m } })) same (record {
-        about = goes.stepped.about;
+        leaves = lock_leaves old w untaken_lock (record w.state { turn = Some (work_in old epoch) }) goes;
         state = ap (λ (e : PartyState). record e { turn = Some (work_in old epoch) }) goes.state;
         ran = ap (run_of making_turned (Go (turn_in old epoch))) goes.stepped.told;
         lock = (tt, ([], goes.stepped.told));
-        taken = goes.stepped.taken ∙ ap (λ (l : List ℕ). old.taken + length l) (sym goes.stepped.told);
-        added = goes.added;
         none_free = goes.none_free;
-        known = goes.known;
-        seen = goes.stepped.seen;
-        own = goes.own;
         ready = ready;
       })
 
@@ -111,17 +112,19 @@ turn_on epoch old v w turn making x runs is goes =
     let turn' = making_turned making x in
     let caller : v.state.caller ≡ old.state.caller = ap (λ (e : PartyState). e.caller) runs.state in
     record {
-      about = goes.stepped.about ∙ runs.about;
+      leaves = record {
+        about = goes.stepped.about ∙ runs.leaves.about;
+        taken = let was = runs.leaves.taken in let one = goes.stepped.taken in let long = ap length goes.stepped.told ∙ length-append v.told (x ∷ []) in omega arith;
+        added = goes.added ∙ runs.leaves.added;
+        known = goes.known ∙ runs.leaves.known;
+        seen = begins_trans old.seen v.seen w.seen runs.leaves.seen goes.stepped.seen;
+        own = subst (λ (c : ℕ). placed_by c w.seen ≡ placed_by c v.seen) caller goes.own ∙ runs.leaves.own;
+      };
       state = goes.state ∙ ap (λ (e : PartyState). state_turned e turn') runs.state;
       ran = ap (run_of making_turned (Go (turn_in old epoch))) goes.stepped.told ∙ run_more making_turned (Go (turn_in old epoch)) v.told making x (runs.ran ∙ is);
       lock = subst (λ (l : List ℕ). HasLock l turn') (sym goes.stepped.told) (lock_on v.told making x (subst (HasLock v.told) is runs.lock));
-      taken = let was = runs.taken in let one = goes.stepped.taken in let long = ap length goes.stepped.told ∙ length-append v.told (x ∷ []) in omega arith;
-      added = goes.added ∙ runs.added;
       none_free = goes.none_free ∙ ap (λ (b : Bool). noted_by b turn') (runs.none_free ∙ ap (noted_by old.none_free) is);
-      known = goes.known ∙ runs.known;
-      seen = begins_trans old.seen v.seen w.seen runs.seen goes.stepped.seen;
-      own = subst (λ (c : ℕ). placed_by c w.seen ≡ placed_by c v.seen) caller goes.own ∙ runs.own;
-      ready = subst (λ (b : About). TurnReady b.layout turn') runs.about goes.ready;
+      ready = subst (λ (b : About). TurnReady b.layout turn') runs.leaves.about goes.ready;
     }
 
 -- without an answer the work goes on
@@ -147,15 +150,10 @@ work_lessens work (Done answer) less = omega arith
 -- the answer that it ends with
 pub turn_ends : (epoch : ℕ) (old v : Member) (turn : Turn MakeTurn TurnReply) (answer : TurnReply) → TurnRuns epoch old turn v → turn ≡ Done answer → 0 < old.about.layout.nodes → TurnAnswers epoch old answer v
 turn_ends epoch old v turn answer runs is some = record {
-  about = runs.about;
+  leaves = runs.leaves;
   state = runs.state ∙ ap (state_turned old.state) is;
   ran = runs.ran ∙ is;
   lock = subst (HasLock v.told) is runs.lock;
   free = turn_tells epoch old v.told answer some (subst (HasLock v.told) is runs.lock) (runs.ran ∙ is);
-  taken = runs.taken;
-  added = runs.added;
   none_free = runs.none_free ∙ ap (noted_by old.none_free) is;
-  known = runs.known;
-  seen = runs.seen;
-  own = runs.own;
 }

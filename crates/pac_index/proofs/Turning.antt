@@ -1,5 +1,5 @@
 -- Turns of the updater that are answered, or cut off, and the caller that they leave.
-use Rattle.std.proofs.Common.{◌≡◌, ℕ, ◌+◌, ⊎_elim, inl, inr, List, [], length, sym, ap, ◌∙◌, subst}
+use Rattle.std.proofs.Common.{◌≡◌, ℕ, ⊎_elim, inl, inr, [], sym, ap, ◌∙◌, subst}
 use Rattle.std.specs.Prelude.{None, Some, Result}
 use Rattle.pm_words.specs.declared.machine.Turn.{Turn}
 use Rattle.pm_words.specs.declared.machine.Turn.TheVariants.{Go}
@@ -24,21 +24,17 @@ use Rattle.pac_index.specs.CutTurns.{StopsDated, StopsUndated, TurnStops, TurnSt
 use Rattle.pac_index.specs.Outcomes.{TurnTryComesTo, TurnTryRests}
 use Rattle.pac_index.specs.Turns.{HasLock, IsDated, MadeTurn, OnTurn, TurnAnswers, TurnGoes, TurnHeld, TurnRuns, noted_by, turn_in, turning, work_in}
 use Rattle.pac_index.proofs.Remaining.{IsSeated, rests_tells, unplaced_caller}
+use Rattle.pac_index.proofs.TurnRunning.{lock_leaves}
 
 -- a turn that is cut off behind a step
 turn_stops : (epoch : ℕ) (old v : Member) (turn : Turn MakeTurn TurnReply) (making : MakeTurn) → TurnRuns epoch old turn v → turn ≡ Go making → TurnStopsAt epoch old v
 turn_stops epoch old v turn making runs is = record {
   making = making;
-  about = runs.about;
+  leaves = runs.leaves;
   state = runs.state ∙ ap (state_turned old.state) is;
   ran = runs.ran ∙ is;
   lock = subst (HasLock v.told) is runs.lock;
-  taken = runs.taken;
-  added = runs.added;
   none_free = runs.none_free ∙ ap (noted_by old.none_free) is;
-  known = runs.known;
-  seen = runs.seen;
-  own = runs.own;
 }
 
 pub dated_stops : (parties epoch : ℕ) (old v : Member) (pins pins_now : PinMember) (advanced : Result ℕ Advance) (turn : Turn MakeTurn TurnReply) (making : MakeTurn) → TurnRuns epoch old turn v → turn ≡ Go making → IsDated parties pins epoch advanced pins_now → TurnStops parties old pins v pins_now
@@ -52,16 +48,11 @@ lock_stops parties old w x pins pins_now free first same =
     inl (record {
       stops = record {
         making = work_in old first_epoch;
-        about = goes.stepped.about;
+        leaves = lock_leaves old w untaken_lock w.state goes;
         state = goes.state;
         ran = ran;
         lock = (tt, ([], goes.stepped.told));
-        taken = goes.stepped.taken ∙ ap (λ (l : List ℕ). old.taken + length l) (sym goes.stepped.told);
-        added = goes.added;
         none_free = goes.none_free;
-        known = goes.known;
-        seen = goes.stepped.seen;
-        own = goes.own;
       };
       only = goes.stepped.told;
       pins_are = same;
@@ -72,12 +63,12 @@ module _ (s : Shared) (b a : Caller) (is : IsCallerOf s b) (rests : IsAtRest b) 
   answered_so : (epoch : ℕ) (answer : TurnReply) → TurnAnswers epoch (seen_by b) answer (seen_by a) → IsCallerOf s a × IsAtRest a
   answered_so epoch answer told =
       let now : IsAtRest a = (ap (λ (e : PartyState). e.machine) told.state ∙ rests.0, ap (λ (e : PartyState). e.turn) told.state, cut ∙ rests.2) in
-      (unplaced_caller s b a is seated (record { kept = kept; about = told.about; caller = ap (λ (e : PartyState). e.caller) told.state; own = told.own }) (rests_tells a now) (inl now), now)
+      (unplaced_caller s b a is seated (record { kept = kept; about = told.leaves.about; caller = ap (λ (e : PartyState). e.caller) told.state; own = told.leaves.own }) (rests_tells a now) (inl now), now)
 
   stopped_so : (epoch : ℕ) → a.left ≡ Some 0 → TurnStopsAt epoch (seen_by b) (seen_by a) → IsCallerOf s a
   stopped_so epoch spent t =
       let idle : (seen_by a).state.machine ≡ None = ap (λ (e : PartyState). e.machine) t.state ∙ rests.0 in
-      unplaced_caller s b a is seated (record { kept = kept; about = t.about; caller = ap (λ (e : PartyState). e.caller) t.state; own = t.own }) (subst (λ o. TellsCut o (seen_by a).state) (sym (cut ∙ rests.2)) idle) (inr spent)
+      unplaced_caller s b a is seated (record { kept = kept; about = t.leaves.about; caller = ap (λ (e : PartyState). e.caller) t.state; own = t.leaves.own }) (subst (λ o. TellsCut o (seen_by a).state) (sym (cut ∙ rests.2)) idle) (inr spent)
 
   abbrev Ran : TriedTurn → Type 0
   Ran t = OnTurn t (λ turned epoch advanced. MadeTurn s.epochs.parties (seen_by b) (pins_of b) turned epoch advanced (seen_by a) (pins_of a)) (λ word. TurnHeld word (seen_by b) (seen_by a) × (pins_of a ≡ pins_of b))

@@ -1,5 +1,5 @@
 -- Turns of the updater that were cut off, and how far they are.
-use Rattle.std.specs.Prelude.{◌≡◌, ◌⊎◌, ℕ, ◌+◌, [], ◌∷◌, length, Result, Some}
+use Rattle.std.specs.Prelude.{◌≡◌, ◌⊎◌, ℕ, [], ◌∷◌, Result, Some}
 use Rattle.epochs.specs.declared.answers.Advance.{Advance}
 use Rattle.epochs.specs.declared.rule.PinMember.{PinMember}
 use Rattle.epochs.specs.Kept.{first_epoch}
@@ -10,7 +10,7 @@ use Rattle.updater.specs.Makings.{making_turned}
 use Rattle.pac_index.specs.declared.caller.Caller.{Caller}
 use Rattle.pac_index.specs.declared.rule.Member.{Member}
 use Rattle.pac_index.specs.Callers.{pins_of, seen_by}
-use Rattle.pac_index.specs.Kept.{Begins, placed_by}
+use Rattle.pac_index.specs.Kept.{PlacesNone}
 use Rattle.pac_index.specs.Calls.{run_of}
 use Rattle.pac_index.specs.Ends.{AtLast}
 use Rattle.pac_index.specs.Turns.{FoundHeld, HasLock, IsDated, turn_in}
@@ -19,16 +19,11 @@ use Rattle.pac_index.specs.Turns.{FoundHeld, HasLock, IsDated, turn_in}
 -- goes on so. It has placed no write and counted no call.
 pub record TurnStopsAt (epoch : ℕ) (old new : Member) : Type 0 where
   pub making : MakeTurn
-  pub about : new.about ≡ old.about
+  pub leaves : PlacesNone old new
   pub state : new.state ≡ record old.state { turn = Some making }
   pub ran : run_of making_turned (Go (turn_in old epoch)) new.told ≡ Go making
   pub lock : HasLock new.told (Go making)
-  pub taken : new.taken ≡ old.taken + length new.told
-  pub added : new.added ≡ old.added
   pub none_free : new.none_free ≡ old.none_free
-  pub known : new.known ≡ old.known
-  pub seen : Begins old.seen new.seen
-  pub own : placed_by old.state.caller new.seen ≡ placed_by old.state.caller old.seen
 
 -- Of its steps only the first was made, which took the updater lock. So it has no epoch yet, and its party has made no
 -- step on the epoch.

@@ -244,6 +244,15 @@ pub record Stepped (v : Member) (x : ℕ) (w : Member) : Type 0 where
   pub taken : w.taken ≡ v.taken + 1
   pub seen : Begins v.seen w.seen
 
+-- What the steps of a turn leave of their party, which place no write and count no call.
+pub record PlacesNone (old new : Member) : Type 0 where
+  pub about : new.about ≡ old.about
+  pub taken : new.taken ≡ old.taken + length new.told
+  pub added : new.added ≡ old.added
+  pub known : new.known ≡ old.known
+  pub seen : Begins old.seen new.seen
+  pub own : placed_by old.state.caller new.seen ≡ placed_by old.state.caller old.seen
+
 -- What a party's step with its machine, which is told this number, leaves and shows.
 pub record Goes (m : Running) (v : Member) (x : ℕ) (w : Member) : Type 0 where
   pub takes : running_takes m x

@@ -25,7 +25,7 @@ use Rattle.atomic_table.specs.Table.{Me}
 use Rattle.pac_index.specs.declared.rule.Member.{Member}
 use Rattle.pac_index.specs.declared.tried.TriedTurn.{TriedTurn}
 use Rattle.pac_index.specs.declared.tried.TriedTurn.TheVariants as tried
-use Rattle.pac_index.specs.Kept.{Begins, Stepped, placed_by, party, IsLone}
+use Rattle.pac_index.specs.Kept.{PlacesNone, Stepped, placed_by, party, IsLone}
 use Rattle.pac_index.specs.Calls.{run_of}
 use Rattle.pac_index.specs.Ends.{AtLast}
 
@@ -104,16 +104,11 @@ HasLock told (Done answer) = FoundLock told answer
 
 -- How far a turn at this epoch is: it places no write.
 pub record TurnRuns (epoch : ℕ) (old : Member) (turn : Turn MakeTurn TurnReply) (new : Member) : Type 0 where
-  pub about : new.about ≡ old.about
+  pub leaves : PlacesNone old new
   pub state : new.state ≡ state_turned old.state turn
   pub ran : run_of making_turned (Go (turn_in old epoch)) new.told ≡ turn
   pub lock : HasLock new.told turn
-  pub taken : new.taken ≡ old.taken + length new.told
-  pub added : new.added ≡ old.added
   pub none_free : new.none_free ≡ noted_by old.none_free turn
-  pub known : new.known ≡ old.known
-  pub seen : Begins old.seen new.seen
-  pub own : placed_by old.state.caller new.seen ≡ placed_by old.state.caller old.seen
   pub ready : TurnReady old.about.layout turn
 
 -- Among the numbers that a turn was told stand the statuses of all nodes, from the first to the last, and it answers
@@ -135,17 +130,12 @@ TellsOfFree l told (reply.Held word) = Unit {0}
 -- which the caller's count of steps tells how many there were. The caller has seen a longer history, with no more
 -- writes of its own, and has counted no call.
 pub record TurnAnswers (epoch : ℕ) (old : Member) (answer : TurnReply) (new : Member) : Type 0 where
-  pub about : new.about ≡ old.about
+  pub leaves : PlacesNone old new
   pub state : new.state ≡ record old.state { turn = None }
   pub ran : run_of making_turned (Go (turn_in old epoch)) new.told ≡ Done answer
   pub lock : FoundLock new.told answer
   pub free : TellsOfFree old.about.layout new.told answer
-  pub taken : new.taken ≡ old.taken + length new.told
-  pub added : new.added ≡ old.added
   pub none_free : new.none_free ≡ noted_in old.none_free answer
-  pub known : new.known ≡ old.known
-  pub seen : Begins old.seen new.seen
-  pub own : placed_by old.state.caller new.seen ≡ placed_by old.state.caller old.seen
 
 -- One that was made, at some epoch.
 abbrev pub HasTurned : Turned → Member → Member → Type 0
