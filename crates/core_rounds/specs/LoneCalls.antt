@@ -55,6 +55,15 @@ AreReportCalls asked = All IsReportCall asked
 abbrev pub calls_in : List RoundPlan → ℕ
 calls_in plans = sum_by (λ plan. length plan.ops) plans
 
+-- Rounds of one caller each, all joined, that may be played where there are so many callers: a report can tell of
+-- them.
+pub record AreJoinedLone (count : ℕ) (plans : List RoundPlan) : Type 0 where
+  pub lone : AreLoneRounds plans
+  pub joined : AreJoined plans
+  pub callers : All (λ (plan : RoundPlan). All (λ a. a.caller < count) plan.ops) plans
+  pub told : All (λ (plan : RoundPlan). AreReportCalls plan.ops) plans
+  pub calls : calls_in plans ≤ 100000
+
 -- The map is what a call left that was answered so, whoever made it.
 abbrev pub IsLeftBy : Map → Op → Reply → Map → Type 0
 IsLeftBy base op reply end =

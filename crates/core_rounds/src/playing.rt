@@ -5,7 +5,7 @@ ghost use Rattle.pm_words.specs.Images.{Row};
 ghost use Rattle.recovery.specs.Opened.{IsOpenedFrom};
 ghost use Rattle.core_rounds.specs.CoreMaps.{ArePlayedLone, IsOfRun};
 ghost use Rattle.core_rounds.specs.LoneCalls.{AreJoined, AreLoneCalls, AreLoneRounds, AreReportCalls, calls_in};
-ghost use Rattle.core_rounds.specs.LoneCalls.{has_other, has_restart, is_crowd, restarts};
+ghost use Rattle.core_rounds.specs.LoneCalls.{AreJoinedLone, has_other, has_restart, is_crowd, restarts};
 ghost use Rattle.core_rounds.specs.Rounds.{RoundsEndWithTurn};
 ghost use Rattle.core_rounds.specs.Updated.{AreReportedFrom, WaitBehind, changes_of_rounds};
 ghost use Rattle.core_rounds.specs.Waiting.{HaveNoTurns, puts_asked, writes_asked};
@@ -32,11 +32,7 @@ pub struct LoneRounds {
 /// nothing done with it since. Memory that runs out is the only refusal.
 pub fn play_lone(alloc: Global, core: Core, plans: &[RoundPlan]) -> Result<LoneRounds, NoMemory>
     requires opened { (image : Row) × IsOpenedFrom image core }
-    requires lone { AreLoneRounds plans.now }
-    requires joined { AreJoined plans.now }
-    requires callers { All (λ plan. All (λ a. a.caller < core.layout.callers) plan.ops) plans.now }
-    requires told { All (λ plan. AreReportCalls plan.ops) plans.now }
-    requires calls { calls_in plans.now ≤ 100000 }
+    requires playable { AreJoinedLone core.layout.callers plans.now }
     ensures { IfOk result (λ done. ArePlayedLone core plans.now done.reports.items done.core) }
 {
     play_on_core::<Brand, Brand>(alloc, core, plans, Blank::new(1))

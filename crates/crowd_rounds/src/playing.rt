@@ -16,7 +16,7 @@ ghost use Rattle.core_crashes.specs.recovery.specs.Opened.{IsOpenedFrom};
 ghost use Rattle.core_crashes.specs.core_rounds.specs.CoreMaps.{HasNoLines, Waits, calls_left_of};
 ghost use Rattle.core_crashes.specs.core_rounds.specs.CrashWork.{CrashRoundsWork};
 ghost use Rattle.core_crashes.specs.core_rounds.specs.LoneCalls.{AreJoined, AreLoneRounds, AreReportCalls, calls_in};
-ghost use Rattle.core_crashes.specs.core_rounds.specs.LoneCalls.{has_restart, restarts};
+ghost use Rattle.core_crashes.specs.core_rounds.specs.LoneCalls.{AreJoinedLone, has_restart, restarts};
 ghost use Rattle.core_crashes.specs.core_rounds.specs.Rounds.{ArePlayed, RoundsEndWithTurn};
 ghost use Rattle.core_crashes.specs.core_rounds.specs.Waiting.{HaveNoTurns, changes_made, puts_asked, writes_asked};
 ghost use Rattle.crowd_rounds.specs.Segments.{AreFirstPlain, AreFirstPlayed, ArePlainPlayed, ArePlayable};
@@ -181,11 +181,7 @@ fn play_segment<R: Threads + Wait + Sync, G: Gate>(
 /// was opened.
 fn play_plain(alloc: Global, core: Core, plans: &[RoundPlan]) -> Result<LoneRounds, NoMemory>
     requires opened { (image : Row) × IsOpenedFrom image core }
-    requires lone { AreLoneRounds plans.now }
-    requires joined { AreJoined plans.now }
-    requires callers { All (λ plan. All (λ a. a.caller < core.layout.callers) plan.ops) plans.now }
-    requires told { All (λ plan. AreReportCalls plan.ops) plans.now }
-    requires calls { calls_in plans.now ≤ 100000 }
+    requires playable { AreJoinedLone core.layout.callers plans.now }
     ensures { IfOk result (λ done. ArePlainPlayed core plans.now done.reports.items done.core) }
 {
     if plans.is_empty() {

@@ -14,11 +14,10 @@ use Rattle.crowd_rounds.specs.Segments.{WorkOn}
 use Rattle.crowd_rounds.proofs.playing.play_rounds.Goals as goal
 
 -- behind no round the index is opened again
-pub play_lone-requires-clause-lone : goal.play_lone-requires-clause-lone
-play_lone-requires-clause-lone g c = ((joined_lone_have_no_restart c.args.plans.now).1 (sym c.restarts.ensures ∙ c.if-restarts-eq0.true)).0
-
-pub play_lone-requires-clause-joined : goal.play_lone-requires-clause-joined
-play_lone-requires-clause-joined g c = ((joined_lone_have_no_restart c.args.plans.now).1 (sym c.restarts.ensures ∙ c.if-restarts-eq0.true)).1
+pub play_lone-requires-clause-playable : goal.play_lone-requires-clause-playable
+play_lone-requires-clause-playable g c =
+    let plain = (joined_lone_have_no_restart c.args.plans.now).1 (sym c.restarts.ensures ∙ c.if-restarts-eq0.true) in
+    record { lone = plain.0; joined = plain.1; callers = c.requires.callers; told = c.requires.told; calls = c.requires.calls }
 
 pub returns-then-restarts-eq0-clause-report : goal.returns-then-restarts-eq0-clause-report
 returns-then-restarts-eq0-clause-report g c = subst (All IsReportRound) (sym c.of.ensures) c.in_ok-reports.ensures.told

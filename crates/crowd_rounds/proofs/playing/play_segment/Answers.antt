@@ -8,23 +8,25 @@ use Rattle.core_crashes.specs.core_rounds.proofs.Restarting.{joined_lone_have_no
 use Rattle.core_crashes.specs.core_rounds.specs.CoreMaps.{calls_left_of}
 use Rattle.core_crashes.specs.core_rounds.specs.LoneCalls.{AreReportCalls, has_restart}
 use Rattle.crowd_rounds.specs.Segments.{HasBudgets}
-use Rattle.crowd_rounds.proofs.Segmenting.{as-many, calls-before, next-there, plain-first, plain-then-restart}
+use Rattle.crowd_rounds.proofs.Segmenting.{as-many, calls-before, calls-first, next-there, plain-first, plain-then-restart}
 use Rattle.crowd_rounds.proofs.Working.{plain-works, stretch-works}
 use Rattle.crowd_rounds.proofs.playing.play_segment.Goals.{After-index-plans-count}
 use Rattle.crowd_rounds.proofs.playing.play_segment.Goals as goal
 
 -- they are of one caller each, and joined
-pub play_plain-requires-clause-lone : goal.play_plain-requires-clause-lone
-play_plain-requires-clause-lone g c = ((joined_lone_have_no_restart (take c.plain_at_first-count.result c.args.plans.now)).1 c.plain_at_first-count.ensures.none).0
-
-pub play_plain-requires-clause-joined : goal.play_plain-requires-clause-joined
-play_plain-requires-clause-joined g c = ((joined_lone_have_no_restart (take c.plain_at_first-count.result c.args.plans.now)).1 c.plain_at_first-count.ensures.none).1
-
-pub play_plain-requires-clause-callers : goal.play_plain-requires-clause-callers
-play_plain-requires-clause-callers g c = All-take (λ (p : RoundPlan). All (λ (a : CallerOp). a.caller < c.args.core.layout.callers) p.ops) c.plain_at_first-count.result c.args.plans.now c.requires.playable.callers
-
-pub play_plain-requires-clause-told : goal.play_plain-requires-clause-told
-play_plain-requires-clause-told g c = All-take (λ (p : RoundPlan). AreReportCalls p.ops) c.plain_at_first-count.result c.args.plans.now c.requires.playable.told
+pub play_plain-requires-clause-playable : goal.play_plain-requires-clause-playable
+play_plain-requires-clause-playable g c =
+    let plans = c.args.plans.now in
+    let count = c.plain_at_first-count.result in
+    let plain = (joined_lone_have_no_restart (take count plans)).1 c.plain_at_first-count.ensures.none in
+    let few = calls-first plans count in
+    record {
+      lone = plain.0;
+      joined = plain.1;
+      callers = All-take (λ (p : RoundPlan). All (λ (a : CallerOp). a.caller < c.args.core.layout.callers) p.ops) count plans c.requires.playable.callers;
+      told = All-take (λ (p : RoundPlan). AreReportCalls p.ops) count plans c.requires.playable.told;
+      calls = omega (arith, few, c.requires.playable.calls);
+    }
 
 pub returns-then-count-plans-clause-first : goal.returns-then-count-plans-clause-first
 returns-then-count-plans-clause-first g c =
