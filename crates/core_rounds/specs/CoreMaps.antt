@@ -123,22 +123,27 @@ pub record IsOfRun (l : Layout) (number : ℕ) (s : Index) : Type 0 where
 abbrev pub HasNoLines : Index → Type 0
 HasNoLines s = (j : ℕ) → line_state (world s) j ≡ empty_state
 
--- Joined rounds of one caller each were played on this core, which an image was just opened as, and reported so, and
--- left that one. An opened core has 100000 calls left of each node, of which these rounds take as many as they have.
--- Where the last of them ends with a turn, no line waits; without turns the changes of the shape wait that they make.
+-- What joined rounds of one caller each leave that were played on this core and reported so. An opened core has 100000
+-- calls left of each node, of which these rounds take as many as they have. Where the last of them ends with a turn, no
+-- line waits.
+pub record LeaveCore (s : Index) (plans : List RoundPlan) (reports : List RoundReport) (new : Index) : Type 0 where
+  pub told : All IsReportRound reports
+  pub weighs : weight_of new ≤ weight_of s + added_in reports
+  pub names : len (map_of_index new) ≤ len (map_of_index s) + added_in reports
+  pub layout : new.layout ≡ s.layout
+  pub generation : new.generation ≡ s.generation
+  pub index : IsIndex new
+  pub quiet : IsQuiet new
+  pub stamps : HasLowStamps new
+  pub calls_left : (calls : ℕ) → calls + calls_in plans ≤ 100000 → calls * s.layout.nodes ≤ calls_left_of new
+  pub settled : RoundsEndWithTurn plans → HasNoLines new
+
+-- They were played on a core that an image was just opened as. Without turns the changes of the shape wait that they
+-- make.
 pub record ArePlayedLone (s : Index) (plans : List RoundPlan) (reports : List RoundReport) (new : Index) : Type 0
   where
     pub played : ArePlayedFrom (state_of s) plans reports (state_of new)
-    pub told : All IsReportRound reports
-    pub weighs : weight_of new ≤ weight_of s + added_in reports
-    pub names : len (map_of_index new) ≤ len (map_of_index s) + added_in reports
-    pub layout : new.layout ≡ s.layout
-    pub generation : new.generation ≡ s.generation
-    pub index : IsIndex new
-    pub quiet : IsQuiet new
-    pub stamps : HasLowStamps new
-    pub calls_left : (calls : ℕ) → calls + calls_in plans ≤ 100000 → calls * s.layout.nodes ≤ calls_left_of new
-    pub settled : RoundsEndWithTurn plans → HasNoLines new
+    pub leaves : LeaveCore s plans reports new
     pub waits : HaveNoTurns plans → WaitBehind (Waits s) (Waits new) (changes_of_rounds (state_of s) reports)
         (writes_asked plans) (puts_asked plans)
 

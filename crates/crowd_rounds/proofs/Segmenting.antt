@@ -118,16 +118,18 @@ none-plain image s plans reports is none empty =
     subst (λ (ps : List RoundPlan). ArePlainPlayed s ps reports s) (sym none)
     (subst (λ (rs : List RoundReport). ArePlainPlayed s [] rs s) (sym empty) (record {
       played = ends;
-      told = All-from_recursion IsReportRound [] tt;
-      weighs = omega arith;
-      names = omega arith;
-      layout = refl;
-      generation = refl;
-      index = is.index;
-      quiet = is.quiet;
-      stamps = is.stamps;
-      calls_left = λ calls few. opened_calls image s calls is (omega (arith, few));
-      settled = λ turned. absurd turned;
+      leaves = record {
+        told = All-from_recursion IsReportRound [] tt;
+        weighs = omega arith;
+        names = omega arith;
+        layout = refl;
+        generation = refl;
+        index = is.index;
+        quiet = is.quiet;
+        stamps = is.stamps;
+        calls_left = λ calls few. opened_calls image s calls is (omega (arith, few));
+        settled = λ turned. absurd turned;
+      };
       still = λ no_round. refl;
     }))
 
@@ -145,19 +147,20 @@ plain-first s new plans count reports done first =
     let none = first.none in
     let same : take count plans ≡ take (length reports) plans = ap (λ (k : ℕ). take k plans) (sym many) in
     let again = ap restarts same in
-    let gone = done.generation in
+    let left = done.leaves in
+    let gone = left.generation in
     record {
       few = omega (arith, many, within);
       played = subst (λ (ps : List RoundPlan). ArePlayed s.layout.slots s.layout.nodes (weight_of s) (len (map_of_index s)) (map_of_index s) (anchors_in (world s)) ps reports (map_of_index new)
           (anchors_in (world new))) same done.played;
-      told = done.told;
-      weighs = done.weighs;
-      names = done.names;
-      layout = done.layout;
+      told = left.told;
+      weighs = left.weighs;
+      names = left.names;
+      layout = left.layout;
       generation = omega (arith, none, again, gone);
-      index = done.index;
-      quiet = done.quiet;
-      settled = λ turned. done.settled (subst RoundsEndWithTurn (sym same) turned);
+      index = left.index;
+      quiet = left.quiet;
+      settled = λ turned. left.settled (subst RoundsEndWithTurn (sym same) turned);
     }
 
 one-restart : (plan : RoundPlan) → has_restart plan ≡ true → restarts (plan ∷ []) ≡ 1

@@ -1,5 +1,5 @@
 -- Rounds one after another, and those between two openings of the index.
-use Rattle.std.specs.Prelude.{◌≡◌, ℕ, suc, ◌+◌, ◌*◌, ◌<◌, ◌≤◌, ◌^◌, List, [], ◌∷◌, All, IfSome, length, take}
+use Rattle.std.specs.Prelude.{◌≡◌, ℕ, suc, ◌+◌, ◌<◌, ◌≤◌, ◌^◌, List, [], ◌∷◌, All, IfSome, length, take}
 use Rattle.std.specs.Prelude.{get_or, true}
 use Rattle.std.specs.FinMap.{len}
 use Rattle.cat_history.specs.declared.plan.RoundPlan.{RoundPlan}
@@ -9,12 +9,11 @@ use Rattle.pm_words.specs.Images.{Row}
 use Rattle.shapes.specs.ShapeRounds.{puts_added}
 use Rattle.version_lock.specs.Versions.{IsGeneration}
 use Rattle.index_law.specs.Anchors.{anchors_in}
-use Rattle.thread_rounds.specs.index_core.specs.Fulls.{HasLowStamps}
 use Rattle.thread_rounds.specs.index_core.specs.Indexes.{Index, IsIndex, map_of_index, world}
 use Rattle.thread_rounds.specs.index_core.specs.Lone.{IsQuiet}
 use Rattle.thread_rounds.specs.index_core.specs.Weights.{weight_of}
 use Rattle.core_crashes.specs.recovery.specs.Opened.{IsOpenedFrom}
-use Rattle.core_crashes.specs.core_rounds.specs.CoreMaps.{HasNoLines, calls_left_of}
+use Rattle.core_crashes.specs.core_rounds.specs.CoreMaps.{HasNoLines, LeaveCore}
 use Rattle.core_crashes.specs.core_rounds.specs.CrashWork.{CrashRoundsWork, IsAnsweredInTime}
 use Rattle.core_crashes.specs.core_rounds.specs.LoneCalls.{AreReportCalls, calls_in, has_restart, restarts}
 use Rattle.core_crashes.specs.core_rounds.specs.Rounds.{ArePlayed, RoundsEndWithTurn, added_in}
@@ -39,23 +38,13 @@ pub record AreFirstPlain (plans : List RoundPlan) (count : ℕ) : Type 0 where
   pub none : restarts (take count plans) ≡ 0
   pub next : (plan : RoundPlan) → count < length plans → has_restart (get_or plans count plan) ≡ true
 
--- Joined rounds of one caller each were played on this core and reported so, and left that one. An opened core has
--- 100000 calls left of each node, of which these rounds take as many as they have. Where there are none, it is the same
--- core.
+-- Joined rounds of one caller each were played on this core and reported so, and left that one. Where there are none, it
+-- is the same core.
 pub record ArePlainPlayed (old : Index) (plans : List RoundPlan) (reports : List RoundReport) (new : Index) : Type 0
   where
     pub played : ArePlayed old.layout.slots old.layout.nodes (weight_of old) (len (map_of_index old)) (map_of_index old)
         (anchors_in (world old)) plans reports (map_of_index new) (anchors_in (world new))
-    pub told : All IsReportRound reports
-    pub weighs : weight_of new ≤ weight_of old + added_in reports
-    pub names : len (map_of_index new) ≤ len (map_of_index old) + added_in reports
-    pub layout : new.layout ≡ old.layout
-    pub generation : new.generation ≡ old.generation
-    pub index : IsIndex new
-    pub quiet : IsQuiet new
-    pub stamps : HasLowStamps new
-    pub calls_left : (calls : ℕ) → calls + calls_in plans ≤ 100000 → calls * old.layout.nodes ≤ calls_left_of new
-    pub settled : RoundsEndWithTurn plans → HasNoLines new
+    pub leaves : LeaveCore old plans reports new
     pub still : length plans ≡ 0 → new ≡ old
 
 -- A round of this plan was played on this core and reported so, and behind it that one was opened, of an image. Where

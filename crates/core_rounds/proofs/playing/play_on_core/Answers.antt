@@ -35,21 +35,23 @@ returns g c =
     let leaves : LeavesWaiting core map plans reports = subst (λ (s : Index). LeavesWaiting s map plans reports) is told.waits in
     record {
       played = all.played;
-      told = all.told;
-      weighs = all.weighs;
-      names = all.names;
-      layout = left.run.layout ∙ sym c.requires.run.layout;
-      generation = left.run.generation ∙ sym c.requires.run.generation;
-      index = left.index;
-      quiet = left.quiet;
-      stamps = left.stamps;
-      -- an opened core has calls enough for all of them
-      calls_left = λ calls few.
-          let enough = opened_calls c.requires.opened.0 c.args.core (calls + calls_in plans) c.requires.opened.1 few in
-          let after : calls * core.layout.nodes ≤ calls_left_of map =
-          subst (λ (s : Index). (calls + calls_in plans) * s.layout.nodes ≤ calls_left_of s → calls * s.layout.nodes ≤ calls_left_of map) is (told.calls_left calls) enough in
-          subst (λ (n : Index). calls * c.args.core.layout.nodes ≤ calls_left_of n) (sym left.core) after;
-      settled = λ ends. subst HasNoLines (sym left.core) (told.settled ends);
+      leaves = record {
+        told = all.told;
+        weighs = all.weighs;
+        names = all.names;
+        layout = left.run.layout ∙ sym c.requires.run.layout;
+        generation = left.run.generation ∙ sym c.requires.run.generation;
+        index = left.index;
+        quiet = left.quiet;
+        stamps = left.stamps;
+        -- an opened core has calls enough for all of them
+        calls_left = λ calls few.
+            let enough = opened_calls c.requires.opened.0 c.args.core (calls + calls_in plans) c.requires.opened.1 few in
+            let after : calls * core.layout.nodes ≤ calls_left_of map =
+            subst (λ (s : Index). (calls + calls_in plans) * s.layout.nodes ≤ calls_left_of s → calls * s.layout.nodes ≤ calls_left_of map) is (told.calls_left calls) enough in
+            subst (λ (n : Index). calls * c.args.core.layout.nodes ≤ calls_left_of n) (sym left.core) after;
+        settled = λ ends. subst HasNoLines (sym left.core) (told.settled ends);
+      };
       waits = λ none changes lines puts waits.
           subst (λ (n : Index). Waits n (changes + changes_of_rounds (state_of core) reports) lines puts) (sym left.core)
           (leaves none changes lines puts (record { ready = waits.ready; lines = waits.lines; nodes = waits.nodes }));

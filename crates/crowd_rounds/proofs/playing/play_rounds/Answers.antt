@@ -20,7 +20,7 @@ play_lone-requires-clause-playable g c =
     record { lone = plain.0; joined = plain.1; callers = c.requires.callers; told = c.requires.told; calls = c.requires.calls }
 
 pub returns-then-restarts-eq0-clause-report : goal.returns-then-restarts-eq0-clause-report
-returns-then-restarts-eq0-clause-report g c = subst (All IsReportRound) (sym c.of.ensures) c.in_ok-reports.ensures.told
+returns-then-restarts-eq0-clause-report g c = subst (All IsReportRound) (sym c.of.ensures) c.in_ok-reports.ensures.leaves.told
 
 pub returns-then-restarts-eq0-clause-works : goal.returns-then-restarts-eq0-clause-works
 returns-then-restarts-eq0-clause-works g c =

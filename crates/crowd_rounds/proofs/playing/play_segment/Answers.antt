@@ -1,4 +1,4 @@
-use Rattle.std.proofs.Common.{ℕ, suc, ◌*◌, ◌^◌, ◌<◌, ◌≤◌, length, take, sym, ap, ◌∙◌, subst, arith, All}
+use Rattle.std.proofs.Common.{◌≡◌, ℕ, suc, ◌*◌, ◌^◌, ◌<◌, ◌≤◌, length, take, sym, ap, ◌∙◌, subst, arith, All}
 use Rattle.std.proofs.lemmas.List.Elements.{All-take}
 use Rattle.cat_history.specs.declared.op.CallerOp.{CallerOp}
 use Rattle.cat_history.specs.declared.plan.RoundPlan.{RoundPlan}
@@ -28,23 +28,23 @@ play_plain-requires-clause-playable g c =
       calls = omega (arith, few, c.requires.playable.calls);
     }
 
+-- as many are reported as were played
+many : (g : _) (c : goal.Then-count-plans g) → length c.in_ok-reports.field-0.reports.items ≡ c.plain_at_first-count.result
+many g c = as-many c.args.core c.in_ok-reports.field-0.core c.args.plans.now c.plain_at_first-count.result c.in_ok-reports.field-0.reports.items c.in_ok-reports.ensures c.plain_at_first-count.ensures.few
+
 pub returns-then-count-plans-clause-first : goal.returns-then-count-plans-clause-first
 returns-then-count-plans-clause-first g c =
     plain-first c.args.core c.in_ok-reports.field-0.core c.args.plans.now c.plain_at_first-count.result c.in_ok-reports.field-0.reports.items c.in_ok-reports.ensures c.plain_at_first-count.ensures
 
 pub returns-then-count-plans-clause-some : goal.returns-then-count-plans-clause-some
-returns-then-count-plans-clause-some g c some =
-    let many = as-many c.args.core c.in_ok-reports.field-0.core c.args.plans.now c.plain_at_first-count.result c.in_ok-reports.field-0.reports.items c.in_ok-reports.ensures c.plain_at_first-count.ensures.few in
-    omega (arith, many, some, c.if-count-plans.true)
+returns-then-count-plans-clause-some g c some = omega (arith, many g c, some, c.if-count-plans.true)
 
 pub returns-then-count-plans-clause-works : goal.returns-then-count-plans-clause-works
 returns-then-count-plans-clause-works g c =
     plain-works c.args.core c.in_ok-reports.field-0.core c.args.plans.now c.plain_at_first-count.result c.in_ok-reports.field-0.reports.items c.in_ok-reports.ensures c.plain_at_first-count.ensures
 
 pub returns-then-count-plans-clause-opened : goal.returns-then-count-plans-clause-opened
-returns-then-count-plans-clause-opened g c less =
-    let many = as-many c.args.core c.in_ok-reports.field-0.core c.args.plans.now c.plain_at_first-count.result c.in_ok-reports.field-0.reports.items c.in_ok-reports.ensures c.plain_at_first-count.ensures.few in
-    absurd (omega (arith, many, less, c.if-count-plans.true))
+returns-then-count-plans-clause-opened g c less = absurd (omega (arith, many g c, less, c.if-count-plans.true))
 
 -- some are left
 fewer : (g : _) (c : After-index-plans-count g) → c.plain_at_first-count.result < length c.args.plans.now
@@ -52,12 +52,12 @@ fewer g c = let few = c.plain_at_first-count.ensures.few in let other = c.if-cou
 
 pub play_restart-requires-clause-next : goal.play_restart-requires-clause-next
 play_restart-requires-clause-next g c κs within =
-    subst (λ (n : ℕ). IsGeneration (suc n)) (sym c.in_ok-reports.ensures.generation)
+    subst (λ (n : ℕ). IsGeneration (suc n)) (sym c.in_ok-reports.ensures.leaves.generation)
     (next-there c.args.core.generation c.args.plans.now c.plain_at_first-count.result c.requires.playable.generations c.plain_at_first-count.ensures (fewer g c) c.index-plans-count.result)
 
 pub play_restart-requires-clause-callers : goal.play_restart-requires-clause-callers
 play_restart-requires-clause-callers g c κs within =
-    subst (λ (l : Layout). All (λ (a : CallerOp). a.caller < l.callers) c.index-plans-count.result.ops) (sym c.in_ok-reports.ensures.layout)
+    subst (λ (l : Layout). All (λ (a : CallerOp). a.caller < l.callers) c.index-plans-count.result.ops) (sym c.in_ok-reports.ensures.leaves.layout)
     (subst (λ (p : RoundPlan). All (λ (a : CallerOp). a.caller < c.args.core.layout.callers) p.ops) (sym c.index-plans-count.is)
     (c.requires.playable.callers c.plain_at_first-count.result c.index-plans-count.result (fewer g c)))
 
@@ -74,14 +74,14 @@ play_restart-requires-clause-restart g c κs within = ap has_restart c.index-pla
 
 pub play_restart-requires-clause-budgets : goal.play_restart-requires-clause-budgets
 play_restart-requires-clause-budgets g c κs within =
-    subst (λ (l : Layout). HasBudgets l.callers c.index-plans-count.result) (sym c.in_ok-reports.ensures.layout)
+    subst (λ (l : Layout). HasBudgets l.callers c.index-plans-count.result) (sym c.in_ok-reports.ensures.leaves.layout)
     (subst (HasBudgets c.args.core.layout.callers) (sym c.index-plans-count.is) (c.requires.playable.budgets c.plain_at_first-count.result c.index-plans-count.result (fewer g c)))
 
 pub play_restart-requires-clause-calls : goal.play_restart-requires-clause-calls
 play_restart-requires-clause-calls g c κs within =
     let few = calls-before c.args.plans.now c.plain_at_first-count.result c.index-plans-count.result (fewer g c) c.index-plans-count.is in
-    subst (λ (l : Layout). length c.index-plans-count.result.ops * l.nodes ≤ calls_left_of c.in_ok-reports.field-0.core) (sym c.in_ok-reports.ensures.layout)
-    (c.in_ok-reports.ensures.calls_left (length c.index-plans-count.result.ops) (omega (arith, few, c.requires.playable.calls)))
+    subst (λ (l : Layout). length c.index-plans-count.result.ops * l.nodes ≤ calls_left_of c.in_ok-reports.field-0.core) (sym c.in_ok-reports.ensures.leaves.layout)
+    (c.in_ok-reports.ensures.leaves.calls_left (length c.index-plans-count.result.ops) (omega (arith, few, c.requires.playable.calls)))
 
 pub returns-clause-first : goal.returns-clause-first
 returns-clause-first g c =
