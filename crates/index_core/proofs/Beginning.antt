@@ -92,7 +92,7 @@ module _ (first : Index) (begun : List BegunCall) (calls : List AnsweredCall) (s
     -- its index isn't at the end
     went_up : next_index e.index ≡ e.index + 1
     went_up =
-        let counts = k.counts i e there in
+        let counts = k.rest.counts i e there in
         let most = counts.most in
         let below = few i counts.was counts.there in
         let long = longer in
@@ -103,11 +103,11 @@ module _ (first : Index) (begun : List BegunCall) (calls : List AnsweredCall) (s
         let long = longer in
         ⊎_elim
         (λ (mine : (p ≡ i) × (now ≡ state)).
-        let counts = k.counts i e there in
+        let counts = k.rest.counts i e there in
         let most = counts.most in
         subst (CountsUpTo first more p) mine.1 (record { was = counts.was; there = ap (get_elem? first.states) mine.0 ∙ counts.there; most = omega arith }))
         (λ (other : (p ≢ i) × (get_elem? s.states p ≡ some state)).
-        let counts = k.counts p state other.1 in
+        let counts = k.rest.counts p state other.1 in
         let most = counts.most in
         record { was = counts.was; there = counts.there; most = omega arith })
         (at_set s.states i p now state at_p)
@@ -126,24 +126,22 @@ module _ (first : Index) (begun : List BegunCall) (calls : List AnsweredCall) (s
       kept_start index = record {
         index = index;
         layout_is = k.layout_is;
-        base_is = k.base_is;
-        holds = k.holds;
-        order = k.order;
-        earlier = λ j a p state at at_p caller. ⊎_elim
-            (λ (mine : (p ≡ i) × (now ≡ state)).
-            let before : a.next ≤ e.index = subst (IsEarlier a e) idle (k.earlier j a i e at there (caller ∙ mine.0)) in
-            subst (λ (d : PartyState). IsEarlier a d d.machine) mine.1 (before, (k.holds j a at).1))
-            (λ (other : (p ≢ i) × (get_elem? s.states p ≡ some state)). k.earlier j a p state at other.1 caller)
-            (at_set s.states i p now state at_p);
-        writes = λ place write stands. ⊎_elim
-            (λ (w : IsAnsweredWrite calls place write). inl w)
-            (λ (w : IsWriteInFlight s.states place write). inr (flies_elsewhere s.states i now w (elsewhere w.party w.state w.machine w.there w.flies)))
-            (k.writes place write stands);
-        next = k.next;
-        indexes = k.indexes;
-        states_count = states_set first calls s.states i now (λ p state other at_p. k.states_count p state at_p) (k.states_count i e there);
-        each_call = each_starts begun calls s.states k.each_call i e now there b (ap (flying_in e) idle) (ap (λ (c : BegunCall). c ∷ []) now_flies);
-        counts = counts_more now (omega arith);
+        rest = record {
+          told = k.rest.told;
+          earlier = λ j a p state at at_p caller. ⊎_elim
+              (λ (mine : (p ≡ i) × (now ≡ state)).
+              let before : a.next ≤ e.index = subst (IsEarlier a e) idle (k.rest.earlier j a i e at there (caller ∙ mine.0)) in
+              subst (λ (d : PartyState). IsEarlier a d d.machine) mine.1 (before, (k.rest.told.holds j a at).1))
+              (λ (other : (p ≢ i) × (get_elem? s.states p ≡ some state)). k.rest.earlier j a p state at other.1 caller)
+              (at_set s.states i p now state at_p);
+          writes = λ place write stands. ⊎_elim
+              (λ (w : IsAnsweredWrite calls place write). inl w)
+              (λ (w : IsWriteInFlight s.states place write). inr (flies_elsewhere s.states i now w (elsewhere w.party w.state w.machine w.there w.flies)))
+              (k.rest.writes place write stands);
+          states_count = states_set first calls s.states i now (λ p state other at_p. k.rest.states_count p state at_p) (k.rest.states_count i e there);
+          each_call = each_starts begun calls s.states k.rest.each_call i e now there b (ap (flying_in e) idle) (ap (λ (c : BegunCall). c ∷ []) now_flies);
+          counts = counts_more now (omega arith);
+        };
       }
         where
           -- no call is in flight there
@@ -169,7 +167,7 @@ module _ (first : Index) (begun : List BegunCall) (calls : List AnsweredCall) (s
 
       map_is : (h : List Write) (place : ℕ) → place ≡ length s.history → after base (s.history ++ h) place ≡ map_of_index s
       map_is h place last =
-          after-longer base s.history h place (omega arith) ∙ after-whole base s.history place last ∙ ap (λ (m : Map). after_all m s.history) (sym k.base_is)
+          after-longer base s.history h place (omega arith) ∙ after-whole base s.history place last ∙ ap (λ (m : Map). after_all m s.history) (sym k.rest.told.base_is)
 
       -- it took place at the end of the history, as one that writes
       took_write : (o : NameOp) (d : Change) (placed : Placed) → (interval_at o placed.place).end ≡ placed.place + 1 → change_of o ≡ Some d → IfSome (limit_of c) (λ most. length s.history < most)
@@ -285,7 +283,7 @@ module _ (first : Index) (begun : List BegunCall) (calls : List AnsweredCall) (s
       next_alone (whole.Worn node word) = went_up
 
       before_it : (j : ℕ) (d : AnsweredCall) → get_elem? calls j ≡ some d → d.call.caller ≡ i → d.next ≤ e.index
-      before_it j d at caller = subst (IsEarlier d e) idle (k.earlier j d i e at there caller)
+      before_it j d at caller = subst (IsEarlier d e) idle (k.rest.earlier j d i e at there caller)
 
       caller_is : e.caller ≡ i
       caller_is = (k.index.states i e there).caller
@@ -298,44 +296,48 @@ module _ (first : Index) (begun : List BegunCall) (calls : List AnsweredCall) (s
       kept_alone new layout index = record {
         index = index;
         layout_is = layout ∙ k.layout_is;
-        base_is = k.base_is;
-        holds = λ j d at. ⊎_elim
-            (λ (old : get_elem? calls j ≡ some d). longer_call first.layout.slots base s.history (alone_writes e.caller e.index c result) d (k.holds j d old))
-            (λ (last : (j ≡ length calls) × (a ≡ d)). subst (CallHolds first.layout.slots base history) last.1 (tells result is, omega arith, lists result is))
-            (at_end calls a d j at);
-        order = in_order_more calls a k.order (λ p u at caller. (before_it p u at (caller ∙ caller_is), (k.holds p u at).1));
-        earlier = λ j d p state at at_p caller. ⊎_elim
-            (λ (mine : (p ≡ i) × (done ≡ state)). let up = went_up in ⊎_elim
-            (λ (old : get_elem? calls j ≡ some d).
-            let before = before_it j d old (caller ∙ mine.0) in
-            let less : d.next ≤ done.index = omega arith in
-            subst (λ (q : PartyState). IsEarlier d q q.machine) mine.1 less)
-            (λ (last : (j ≡ length calls) × (a ≡ d)).
-            let less : a.next ≤ done.index = omega arith in
-            subst (λ (q : PartyState × AnsweredCall). IsEarlier q.1 q.0 q.0.machine) (λ t. (mine.1 t, last.1 t)) less)
-            (at_end calls a d j at))
-            (λ (other : (p ≢ i) × (get_elem? s.states p ≡ some state)). ⊎_elim
-            (λ (old : get_elem? calls j ≡ some d). k.earlier j d p state old other.1 caller)
-            (λ (last : (j ≡ length calls) × (a ≡ d)). absurd (other.0 (sym caller ∙ ap (λ (q : AnsweredCall). q.call.caller) (sym last.1) ∙ caller_is)))
-            (at_end calls a d j at))
-            (at_set s.states i p done state at_p);
-        writes = λ place write stands. inl (⊎_elim
-            (λ (before : slice_get s.history place ≡ Some write). ⊎_elim
-            (λ (w : IsAnsweredWrite calls place write). answered_longer calls (a ∷ []) w)
-            (λ (w : IsWriteInFlight s.states place write). absurd (none_flies w.party w.state w.machine w.there w.flies))
-            (k.writes place write before))
-            (λ last. answered_last calls a last.0 last.1 last.2 last.3 last.4 last.5)
-            (last_write result is place write stands));
-        next = λ j d at. ⊎_elim
-            (λ (old : get_elem? calls j ≡ some d). k.next j d old)
-            (λ (last : (j ≡ length calls) × (a ≡ d)). subst (λ (q : AnsweredCall). IsNext q.call.index q.next q.whole q.answer) last.1 (next_alone result))
-            (at_end calls a d j at);
-        indexes = indexes_push first calls a k.indexes (subst (λ (q : ℕ). IsNextIndex first calls q e.index) (sym caller_is) (k.states_count i e there));
-        states_count = states_set first (calls ++ a ∷ []) s.states i done
-            (λ p state other at_p. next_other first calls a p state.index (λ same. other (sym same ∙ caller_is)) (k.states_count p state at_p))
-            (next_own first calls a i e.index done.index caller_is (next_alone result) (k.states_count i e there));
-        each_call = each_alone begun calls s.states k.each_call i e done there a (ap (flying_in e) idle) refl;
-        counts = counts_more done (let up = went_up in omega arith);
+        rest = record {
+          told = record {
+            base_is = k.rest.told.base_is;
+            holds = λ j d at. ⊎_elim
+                (λ (old : get_elem? calls j ≡ some d). longer_call first.layout.slots base s.history (alone_writes e.caller e.index c result) d (k.rest.told.holds j d old))
+                (λ (last : (j ≡ length calls) × (a ≡ d)). subst (CallHolds first.layout.slots base history) last.1 (tells result is, omega arith, lists result is))
+                (at_end calls a d j at);
+            order = in_order_more calls a k.rest.told.order (λ p u at caller. (before_it p u at (caller ∙ caller_is), (k.rest.told.holds p u at).1));
+            next = λ j d at. ⊎_elim
+                (λ (old : get_elem? calls j ≡ some d). k.rest.told.next j d old)
+                (λ (last : (j ≡ length calls) × (a ≡ d)). subst (λ (q : AnsweredCall). IsNext q.call.index q.next q.whole q.answer) last.1 (next_alone result))
+                (at_end calls a d j at);
+            indexes = indexes_push first calls a k.rest.told.indexes (subst (λ (q : ℕ). IsNextIndex first calls q e.index) (sym caller_is) (k.rest.states_count i e there));
+          };
+          earlier = λ j d p state at at_p caller. ⊎_elim
+              (λ (mine : (p ≡ i) × (done ≡ state)). let up = went_up in ⊎_elim
+              (λ (old : get_elem? calls j ≡ some d).
+              let before = before_it j d old (caller ∙ mine.0) in
+              let less : d.next ≤ done.index = omega arith in
+              subst (λ (q : PartyState). IsEarlier d q q.machine) mine.1 less)
+              (λ (last : (j ≡ length calls) × (a ≡ d)).
+              let less : a.next ≤ done.index = omega arith in
+              subst (λ (q : PartyState × AnsweredCall). IsEarlier q.1 q.0 q.0.machine) (λ t. (mine.1 t, last.1 t)) less)
+              (at_end calls a d j at))
+              (λ (other : (p ≢ i) × (get_elem? s.states p ≡ some state)). ⊎_elim
+              (λ (old : get_elem? calls j ≡ some d). k.rest.earlier j d p state old other.1 caller)
+              (λ (last : (j ≡ length calls) × (a ≡ d)). absurd (other.0 (sym caller ∙ ap (λ (q : AnsweredCall). q.call.caller) (sym last.1) ∙ caller_is)))
+              (at_end calls a d j at))
+              (at_set s.states i p done state at_p);
+          writes = λ place write stands. inl (⊎_elim
+              (λ (before : slice_get s.history place ≡ Some write). ⊎_elim
+              (λ (w : IsAnsweredWrite calls place write). answered_longer calls (a ∷ []) w)
+              (λ (w : IsWriteInFlight s.states place write). absurd (none_flies w.party w.state w.machine w.there w.flies))
+              (k.rest.writes place write before))
+              (λ last. answered_last calls a last.0 last.1 last.2 last.3 last.4 last.5)
+              (last_write result is place write stands));
+          states_count = states_set first (calls ++ a ∷ []) s.states i done
+              (λ p state other at_p. next_other first calls a p state.index (λ same. other (sym same ∙ caller_is)) (k.rest.states_count p state at_p))
+              (next_own first calls a i e.index done.index caller_is (next_alone result) (k.rest.states_count i e there));
+          each_call = each_alone begun calls s.states k.rest.each_call i e done there a (ap (flying_in e) idle) refl;
+          counts = counts_more done (let up = went_up in omega arith);
+        };
       }
         where
           none_flies : (p : ℕ) (state : PartyState) (machine : Running) → get_elem? s.states p ≡ some state → state.machine ≡ Some machine → ⊥

@@ -84,19 +84,19 @@ module _ (first : Index) (begun : List BegunCall) (calls : List AnsweredCall) (s
   answered_below place write w =
       let a = w.answered in
       let holds : AnswerHolds first.layout.slots (map_of first.base) s.history a.call a.until (once.Done w.placed) =
-      subst (AnswerHolds first.layout.slots (map_of first.base) s.history a.call a.until) w.answer (k.holds w.number a w.there).0 in
+      subst (AnswerHolds first.layout.slots (map_of first.base) s.history a.call a.until) w.answer (k.rest.told.holds w.number a w.there).0 in
       let end = write_end a.call.op w.placed.place write.change w.change in
       let ended = holds.1 in
       let began = holds.0.later in
       let same = w.place in
-      let below : a.call.since < limit = subst (λ (o : Option ℕ). IfSome o (λ most. a.call.since < most)) (own_limit a.call write.change (answered_begun begun calls s.states k.each_call w.number a w.there) w.change) holds.0.below in
+      let below : a.call.since < limit = subst (λ (o : Option ℕ). IfSome o (λ most. a.call.since < most)) (own_limit a.call write.change (answered_begun begun calls s.states k.rest.each_call w.number a w.there) w.change) holds.0.below in
       (below, omega arith, omega arith)
 
   -- and so did one in flight that has its place
   flown_below : (place : ℕ) (write : Write) (w : IsWriteInFlight s.states place write) → (w.state.since < limit) × (w.state.since ≤ place)
   flown_below place write w =
       let c = flying_call w.state w.machine in (
-        subst (λ (o : Option ℕ). IfSome o (λ most. w.state.since < most)) (own_limit c write.change (flying_begun begun calls s.states k.each_call w.party w.state w.machine w.there w.flies) w.change)
+        subst (λ (o : Option ℕ). IfSome o (λ most. w.state.since < most)) (own_limit c write.change (flying_begun begun calls s.states k.rest.each_call w.party w.state w.machine w.there w.flies) w.change)
             (began_below s k.index w.party place w.state w.machine w.there w.flies w.place),
         placed_later s k.index w.party place w.state w.machine w.there w.flies w.place,
       )
@@ -107,11 +107,11 @@ module _ (first : Index) (begun : List BegunCall) (calls : List AnsweredCall) (s
       ⊎_elim
       (λ (w : IsAnsweredWrite calls place write).
       let below = (answered_below place write w).0 in
-      (subst (Contains (callers_of begun)) (sym w.caller) (caller_there begun w.answered.call (answered_begun begun calls s.states k.each_call w.number w.answered w.there)), omega arith))
+      (subst (Contains (callers_of begun)) (sym w.caller) (caller_there begun w.answered.call (answered_begun begun calls s.states k.rest.each_call w.number w.answered w.there)), omega arith))
       (λ (w : IsWriteInFlight s.states place write).
       let below = (flown_below place write w).0 in
-      (subst (Contains (callers_of begun)) (sym w.caller) (caller_there begun (flying_call w.state w.machine) (flying_begun begun calls s.states k.each_call w.party w.state w.machine w.there w.flies)), omega arith))
-      (k.writes place write stands)
+      (subst (Contains (callers_of begun)) (sym w.caller) (caller_there begun (flying_call w.state w.machine) (flying_begun begun calls s.states k.rest.each_call w.party w.state w.machine w.there w.flies)), omega arith))
+      (k.rest.writes place write stands)
 
   -- where the limit was all but reached, a caller writes once
   alone : (p q : ℕ) (v w : Write) → slice_get s.history p ≡ Some v → slice_get s.history q ≡ Some w → p < q → limit ≤ p + 1 → v.caller ≢ w.caller
@@ -133,23 +133,23 @@ module _ (first : Index) (begun : List BegunCall) (calls : List AnsweredCall) (s
       let place : p ≡ q = sym one.place ∙ done_place one.placed two.placed answers ∙ two.place in
       omega arith)
       (λ (apart : (one.number < two.number) ⊎ (two.number < one.number)). ⊎_elim
-      (λ (before : one.number < two.number). let ended = (k.order one.number two.number one.answered two.answered one.there two.there before (sym one.caller ∙ same ∙ two.caller)).1 in omega arith)
-      (λ (after : two.number < one.number). let ended = (k.order two.number one.number two.answered one.answered two.there one.there after (sym two.caller ∙ sym same ∙ one.caller)).1 in omega arith)
+      (λ (before : one.number < two.number). let ended = (k.rest.told.order one.number two.number one.answered two.answered one.there two.there before (sym one.caller ∙ same ∙ two.caller)).1 in omega arith)
+      (λ (after : two.number < one.number). let ended = (k.rest.told.order two.number one.number two.answered one.answered two.there one.there after (sym two.caller ∙ sym same ∙ one.caller)).1 in omega arith)
       apart)
       (cases_order one.number two.number))
       (λ (two : IsWriteInFlight s.states q w).
       let below = (flown_below q w two).0 in
       let party : one.answered.call.caller ≡ two.party = sym one.caller ∙ same ∙ two.caller ∙ (k.index.states two.party two.state two.there).caller in
-      let ended = (subst (IsEarlier one.answered two.state) two.flies (k.earlier one.number one.answered two.party two.state one.there two.there party)).1 in
+      let ended = (subst (IsEarlier one.answered two.state) two.flies (k.rest.earlier one.number one.answered two.party two.state one.there two.there party)).1 in
       omega arith)
-      (k.writes q w at_q))
+      (k.rest.writes q w at_q))
       (λ (one : IsWriteInFlight s.states p v).
       let later = (flown_below p v one).1 in
       ⊎_elim
       (λ (two : IsAnsweredWrite calls q w).
       let further = (answered_below q w two).2 in
       let party : two.answered.call.caller ≡ one.party = sym two.caller ∙ sym same ∙ one.caller ∙ (k.index.states one.party one.state one.there).caller in
-      let ended = (subst (IsEarlier two.answered one.state) one.flies (k.earlier two.number two.answered one.party one.state two.there one.there party)).1 in
+      let ended = (subst (IsEarlier two.answered one.state) one.flies (k.rest.earlier two.number two.answered one.party one.state two.there one.there party)).1 in
       omega arith)
       (λ (two : IsWriteInFlight s.states q w).
       let party : one.party ≡ two.party =
@@ -158,8 +158,8 @@ module _ (first : Index) (begun : List BegunCall) (calls : List AnsweredCall) (s
       let machine : one.machine ≡ two.machine = some_same (sym one.flies ∙ ap (λ (e : PartyState). e.machine) state ∙ two.flies) in
       let place : p ≡ q = some_same (sym one.place ∙ ap (λ (m : Running). placed_in (stage_of m)) machine ∙ two.place) in
       omega arith)
-      (k.writes q w at_q))
-      (k.writes p v at_p)
+      (k.rest.writes q w at_q))
+      (k.rest.writes p v at_p)
     where
       done_place : (a b : Placed) → once.Done a ≡ once.Done b → a.place ≡ b.place
       done_place a b e = cc

@@ -58,16 +58,7 @@ kept_as : (first : Index) (begun : List BegunCall) (calls : List AnsweredCall) (
 kept_as first begun calls s words spare k index = record {
   index = index;
   layout_is = k.layout_is;
-  base_is = k.base_is;
-  holds = k.holds;
-  order = k.order;
-  earlier = k.earlier;
-  writes = k.writes;
-  next = k.next;
-  indexes = k.indexes;
-  states_count = k.states_count;
-  each_call = k.each_call;
-  counts = k.counts;
+  rest = k.rest;
 }
 
 -- a turn or a recheck leaves its party's calls as they are
@@ -85,40 +76,38 @@ kept_turned : (first : Index) (begun : List BegunCall) (calls : List AnsweredCal
 kept_turned first begun calls s words i e t r k there index = record {
   index = index;
   layout_is = k.layout_is;
-  base_is = k.base_is;
-  holds = k.holds;
-  order = k.order;
-  earlier = λ j c p state at at_p caller. ⊎_elim
-      (λ (mine : (p ≡ i) × (now ≡ state)). subst (λ (d : PartyState). IsEarlier c d d.machine) mine.1 (still_earlier c e t r e.machine (k.earlier j c i e at there (caller ∙ mine.0))))
-      (λ (other : (p ≢ i) × (get_elem? s.states p ≡ some state)). k.earlier j c p state at other.1 caller)
-      (at_set s.states i p now state at_p);
-  writes = λ place write stands. ⊎_elim
-      (λ (w : IsAnsweredWrite calls place write). inl w)
-      (λ (w : IsWriteInFlight s.states place write). inr (⊎_elim
-      (λ (party : w.party ≡ i).
-      let same : w.state ≡ e = some-injective _ _ (sym (subst (λ (j : ℕ). get_elem? s.states j ≡ some w.state) party w.there) ∙ there) in
-      record {
-        party = i;
-        state = now;
-        machine = w.machine;
-        there = set_here s.states i now e there;
-        flies = ap (λ (d : PartyState). d.machine) (sym same) ∙ w.flies;
-        place = w.place;
-        caller = w.caller ∙ ap (λ (d : PartyState). d.caller) same;
-        index = w.index ∙ ap (λ (d : PartyState). d.index) same;
-        change = w.change;
-      })
-      (λ (other : w.party ≢ i). flies_elsewhere s.states i now w other)
-      (cases_eq w.party i)))
-      (k.writes place write stands);
-  next = k.next;
-  indexes = k.indexes;
-  states_count = states_set first calls s.states i now (λ p state other at_p. k.states_count p state at_p) (k.states_count i e there);
-  each_call = each_goes_on begun calls s.states k.each_call i e now there (still_flying e t r e.machine);
-  counts = λ p state at_p. ⊎_elim
-      (λ (mine : (p ≡ i) × (now ≡ state)). subst (CountsUpTo first begun p) mine.1 (counts_as first begun i p e now mine.0 (omega arith) (k.counts i e there)))
-      (λ (other : (p ≢ i) × (get_elem? s.states p ≡ some state)). k.counts p state other.1)
-      (at_set s.states i p now state at_p);
+  rest = record {
+    told = k.rest.told;
+    earlier = λ j c p state at at_p caller. ⊎_elim
+        (λ (mine : (p ≡ i) × (now ≡ state)). subst (λ (d : PartyState). IsEarlier c d d.machine) mine.1 (still_earlier c e t r e.machine (k.rest.earlier j c i e at there (caller ∙ mine.0))))
+        (λ (other : (p ≢ i) × (get_elem? s.states p ≡ some state)). k.rest.earlier j c p state at other.1 caller)
+        (at_set s.states i p now state at_p);
+    writes = λ place write stands. ⊎_elim
+        (λ (w : IsAnsweredWrite calls place write). inl w)
+        (λ (w : IsWriteInFlight s.states place write). inr (⊎_elim
+        (λ (party : w.party ≡ i).
+        let same : w.state ≡ e = some-injective _ _ (sym (subst (λ (j : ℕ). get_elem? s.states j ≡ some w.state) party w.there) ∙ there) in
+        record {
+          party = i;
+          state = now;
+          machine = w.machine;
+          there = set_here s.states i now e there;
+          flies = ap (λ (d : PartyState). d.machine) (sym same) ∙ w.flies;
+          place = w.place;
+          caller = w.caller ∙ ap (λ (d : PartyState). d.caller) same;
+          index = w.index ∙ ap (λ (d : PartyState). d.index) same;
+          change = w.change;
+        })
+        (λ (other : w.party ≢ i). flies_elsewhere s.states i now w other)
+        (cases_eq w.party i)))
+        (k.rest.writes place write stands);
+    states_count = states_set first calls s.states i now (λ p state other at_p. k.rest.states_count p state at_p) (k.rest.states_count i e there);
+    each_call = each_goes_on begun calls s.states k.rest.each_call i e now there (still_flying e t r e.machine);
+    counts = λ p state at_p. ⊎_elim
+        (λ (mine : (p ≡ i) × (now ≡ state)). subst (CountsUpTo first begun p) mine.1 (counts_as first begun i p e now mine.0 (omega arith) (k.rest.counts i e there)))
+        (λ (other : (p ≢ i) × (get_elem? s.states p ≡ some state)). k.rest.counts p state other.1)
+        (at_set s.states i p now state at_p);
+  };
 }
   where
     now : PartyState
@@ -133,16 +122,20 @@ kept_first : (s : Index) → IsIndex s → IsQuiet s → s.history ≡ [] → Ke
 kept_first s index quiet fresh = record {
   index = index;
   layout_is = refl;
-  base_is = refl;
-  holds = λ j c at. absurd (some-ne-none c (sym at));
-  order = λ p q a b at_p at_q less caller. absurd (some-ne-none a (sym at_p));
-  earlier = λ j c p state at at_p caller. absurd (some-ne-none c (sym at));
-  writes = λ place write stands. absurd (let both : None ≡ Some write = subst (λ (h : List Write). slice_get h place ≡ Some write) fresh stands in cc);
-  next = λ j c at. absurd (some-ne-none c (sym at));
-  indexes = λ j c at. absurd (some-ne-none c (sym at));
-  states_count = λ p state at_p. record { state = state; there = at_p; is = omega arith };
-  each_call = subst (IsPermutation []) (sym (no_flights s.states quiet.calls)) (IsPermutation-refl []);
-  counts = λ p state at_p. record { was = state; there = at_p; most = let idle = ap in_flight (quiet.calls p state at_p) in omega arith };
+  rest = record {
+    told = record {
+      base_is = refl;
+      holds = λ j c at. absurd (some-ne-none c (sym at));
+      order = λ p q a b at_p at_q less caller. absurd (some-ne-none a (sym at_p));
+      next = λ j c at. absurd (some-ne-none c (sym at));
+      indexes = λ j c at. absurd (some-ne-none c (sym at));
+    };
+    earlier = λ j c p state at at_p caller. absurd (some-ne-none c (sym at));
+    writes = λ place write stands. absurd (let both : None ≡ Some write = subst (λ (h : List Write). slice_get h place ≡ Some write) fresh stands in cc);
+    states_count = λ p state at_p. record { state = state; there = at_p; is = omega arith };
+    each_call = subst (IsPermutation []) (sym (no_flights s.states quiet.calls)) (IsPermutation-refl []);
+    counts = λ p state at_p. record { was = state; there = at_p; most = let idle = ap in_flight (quiet.calls p state at_p) in omega arith };
+  };
 }
 
 -- fewer calls are counted too
@@ -236,8 +229,8 @@ module _ (first : Index) (begun : List BegunCall) (calls : List AnsweredCall) (s
       ⊎_elim
       (λ (same : p ≡ q). some-injective _ _ (sym at_p ∙ ap (get_elem? calls) same ∙ at_q))
       (λ (apart : (p < q) ⊎ (q < p)). absurd (⊎_elim
-      (λ (less : p < q). let before = (k.order p q a b at_p at_q less caller).0 in omega arith)
-      (λ (more : q < p). let before = (k.order q p b a at_q at_p more (sym caller)).0 in omega arith)
+      (λ (less : p < q). let before = (k.rest.told.order p q a b at_p at_q less caller).0 in omega arith)
+      (λ (more : q < p). let before = (k.rest.told.order q p b a at_q at_p more (sym caller)).0 in omega arith)
       apart))
       (cases_order p q)
 
@@ -247,16 +240,16 @@ module _ (first : Index) (begun : List BegunCall) (calls : List AnsweredCall) (s
   of_answered n c at up place write stands caller index =
       ⊎_elim
       (λ (w : IsAnsweredWrite calls place write).
-      let one = took_one w.answered w.placed (k.next w.number w.answered w.there) w.answer in
+      let one = took_one w.answered w.placed (k.rest.told.next w.number w.answered w.there) w.answer in
       let same : w.answered ≡ c = one_call w.number n w.answered c w.there at one up (sym w.caller ∙ caller) (sym w.index ∙ index) in
       (w.placed, ap (λ (d : AnsweredCall). d.answer) (sym same) ∙ w.answer, w.place, ap (λ (d : AnsweredCall). change_of d.call.op) (sym same) ∙ w.change))
       (λ (w : IsWriteInFlight s.states place write).
       let party : c.call.caller ≡ w.party = sym caller ∙ w.caller ∙ (k.index.states w.party w.state w.there).caller in
-      let before : (c.next ≤ w.state.index) × (c.until ≤ w.state.since) = subst (IsEarlier c w.state) w.flies (k.earlier n c w.party w.state at w.there party) in
+      let before : (c.next ≤ w.state.index) × (c.until ≤ w.state.since) = subst (IsEarlier c w.state) w.flies (k.rest.earlier n c w.party w.state at w.there party) in
       let less = before.0 in
       let same = w.index in
       absurd (omega arith))
-      (k.writes place write stands)
+      (k.rest.writes place write stands)
 
   nowhere : (n : ℕ) (c : AnsweredCall) → get_elem? calls n ≡ some c → c.call.index < c.next → ((placed : Placed) → c.answer ≡ once.Done placed → ⊥) → StandsNowhere s.history c.call.caller c.call.index
   nowhere n c at up unplaced place write stands caller index = let is = of_answered n c at up place write stands caller index in unplaced is.0 is.1
@@ -267,7 +260,7 @@ module _ (first : Index) (begun : List BegunCall) (calls : List AnsweredCall) (s
       ⊎_elim
       (λ (w : IsAnsweredWrite calls place write).
       let d = w.answered in
-      let holds : AnswerHolds slots base s.history d.call d.until (once.Done w.placed) = subst (AnswerHolds slots base s.history d.call d.until) w.answer (k.holds w.number d w.there).0 in
+      let holds : AnswerHolds slots base s.history d.call d.until (once.Done w.placed) = subst (AnswerHolds slots base s.history d.call d.until) w.answer (k.rest.told.holds w.number d w.there).0 in
       let end = write_end d.call.op w.placed.place write.change w.change in
       let ended = holds.1 in
       let began = holds.0.later in
@@ -277,17 +270,17 @@ module _ (first : Index) (begun : List BegunCall) (calls : List AnsweredCall) (s
       let is : d ≡ c = some-injective _ _ (sym w.there ∙ ap (get_elem? calls) one ∙ at) in
       unplaced w.placed (ap (λ (a : AnsweredCall). a.answer) (sym is) ∙ w.answer))
       (λ (apart : (w.number < n) ⊎ (n < w.number)). ⊎_elim
-      (λ (less : w.number < n). let before = (k.order w.number n d c w.there at less (sym w.caller ∙ caller)).1 in absurd (omega arith))
-      (λ (more : n < w.number). let before = (k.order n w.number c d at w.there more (sym caller ∙ w.caller)).1 in absurd (omega arith))
+      (λ (less : w.number < n). let before = (k.rest.told.order w.number n d c w.there at less (sym w.caller ∙ caller)).1 in absurd (omega arith))
+      (λ (more : n < w.number). let before = (k.rest.told.order n w.number c d at w.there more (sym caller ∙ w.caller)).1 in absurd (omega arith))
       apart)
       (cases_order w.number n))
       (λ (w : IsWriteInFlight s.states place write).
       let party : c.call.caller ≡ w.party = sym caller ∙ w.caller ∙ (k.index.states w.party w.state w.there).caller in
-      let before : (c.next ≤ w.state.index) × (c.until ≤ w.state.since) = subst (IsEarlier c w.state) w.flies (k.earlier n c w.party w.state at w.there party) in
+      let before : (c.next ≤ w.state.index) × (c.until ≤ w.state.since) = subst (IsEarlier c w.state) w.flies (k.rest.earlier n c w.party w.state at w.there party) in
       let began = placed_later s k.index w.party place w.state w.machine w.there w.flies w.place in
       let ended = before.1 in
       omega arith)
-      (k.writes place write stands)
+      (k.rest.writes place write stands)
 
   stands_at : (n : ℕ) (c : AnsweredCall) (place : ℕ) (o : Option Change) → get_elem? calls n ≡ some c → c.call.index < c.next → change_of c.call.op ≡ o
       → IfSome o (λ change. slice_get s.history place ≡ Some (record { caller = c.call.caller; index = c.call.index; change = change })) → StandsAt s.history c.call.caller c.call.index place o
@@ -299,7 +292,7 @@ module _ (first : Index) (begun : List BegunCall) (calls : List AnsweredCall) (s
 
   -- it counts unless it was turned back
   raised : (n : ℕ) (c : AnsweredCall) (r : Once Placed) → get_elem? calls n ≡ some c → c.answer ≡ r → (IsNext c.call.index c.next c.whole r → c.next ≡ c.call.index + 1) → c.call.index < c.next
-  raised n c r at is counts = let up = counts (subst (IsNext c.call.index c.next c.whole) is (k.next n c at)) in omega arith
+  raised n c r at is counts = let up = counts (subst (IsNext c.call.index c.next c.whole) is (k.rest.told.next n c at)) in omega arith
 
   legal_answer : (n : ℕ) (c : AnsweredCall) (r : Once Placed) → get_elem? calls n ≡ some c → c.answer ≡ r → AnswerHolds slots base s.history c.call c.until r → IsLegalAnswer slots base s.history c.call c.until c.next r
   legal_answer n c (once.Done placed) at is holds = record { took = holds.0; ended = holds.1; stands = stands_at n c placed.place (change_of c.call.op) at (raised n c (once.Done placed) at is (λ up. up)) refl holds.0.write }
@@ -328,19 +321,19 @@ module _ (first : Index) (begun : List BegunCall) (calls : List AnsweredCall) (s
 
   in_order : AnswersKeepOrder calls
   in_order p q a b at_p at_q less caller =
-      let is = k.order p q a b at_p at_q less caller in
-      record { index = is.0; ended = is.1; in_order = apart a b a.answer b.answer (k.holds p a at_p).0 (k.holds q b at_q).0 is.1 }
+      let is = k.rest.told.order p q a b at_p at_q less caller in
+      record { index = is.0; ended = is.1; in_order = apart a b a.answer b.answer (k.rest.told.holds p a at_p).0 (k.rest.told.holds q b at_q).0 is.1 }
 
   once_each : EachWritesOnce s.history
   once_each i j v w at_i at_j caller index =
       ⊎_elim
       (λ (one : IsAnsweredWrite calls i v).
-      let is = of_answered one.number one.answered one.there (took_one one.answered one.placed (k.next one.number one.answered one.there) one.answer) j w at_j (sym caller ∙ one.caller) (sym index ∙ one.index) in
+      let is = of_answered one.number one.answered one.there (took_one one.answered one.placed (k.rest.told.next one.number one.answered one.there) one.answer) j w at_j (sym caller ∙ one.caller) (sym index ∙ one.index) in
       let same : one.placed ≡ is.0 = (let both : once.Done one.placed ≡ once.Done is.0 = sym one.answer ∙ is.1 in done_same both) in
       sym one.place ∙ ap (λ (p : Placed). p.place) same ∙ is.2)
       (λ (one : IsWriteInFlight s.states i v). ⊎_elim
       (λ (two : IsAnsweredWrite calls j w).
-      let is = of_answered two.number two.answered two.there (took_one two.answered two.placed (k.next two.number two.answered two.there) two.answer) i v at_i (caller ∙ two.caller) (index ∙ two.index) in
+      let is = of_answered two.number two.answered two.there (took_one two.answered two.placed (k.rest.told.next two.number two.answered two.there) two.answer) i v at_i (caller ∙ two.caller) (index ∙ two.index) in
       let same : two.placed ≡ is.0 = (let both : once.Done two.placed ≡ once.Done is.0 = sym two.answer ∙ is.1 in done_same both) in
       sym (sym two.place ∙ ap (λ (p : Placed). p.place) same ∙ is.2))
       (λ (two : IsWriteInFlight s.states j w).
@@ -349,32 +342,32 @@ module _ (first : Index) (begun : List BegunCall) (calls : List AnsweredCall) (s
       let state : one.state ≡ two.state = some-injective _ _ (sym one.there ∙ ap (get_elem? s.states) party ∙ two.there) in
       let machine : one.machine ≡ two.machine = some_same (sym one.flies ∙ ap (λ (d : PartyState). d.machine) state ∙ two.flies) in
       some_same (sym one.place ∙ ap (λ (q : Running). placed_in (stage_of q)) machine ∙ two.place))
-      (k.writes j w at_j))
-      (k.writes i v at_i)
+      (k.rest.writes j w at_j))
+      (k.rest.writes i v at_i)
     where
       done_same : {a b : Placed} → once.Done a ≡ once.Done b → a ≡ b
       done_same e = cc
 
   legal_history : IsLegalHistory first begun calls s
   legal_history = record {
-    base_is = k.base_is;
-    each_call = k.each_call;
+    base_is = k.rest.told.base_is;
+    each_call = k.rest.each_call;
     answers = λ n c at.
-        let holds = k.holds n c at in
+        let holds = k.rest.told.holds n c at in
         record {
           answer = subst (λ (l : Layout). IsLegalAnswer l.slots base s.history c.call c.until c.next c.answer) (sym k.layout_is) (legal_answer n c c.answer at refl holds.0);
           lists = holds.2;
           within = holds.1;
-          next = k.next n c at;
+          next = k.rest.told.next n c at;
         };
-    in_time = λ i j a b at_i at_j ended. apart a b a.answer b.answer (k.holds i a at_i).0 (k.holds j b at_j).0 ended;
+    in_time = λ i j a b at_i at_j ended. apart a b a.answer b.answer (k.rest.told.holds i a at_i).0 (k.rest.told.holds j b at_j).0 ended;
     in_order = in_order;
     in_flight = λ i state machine there flies n a at caller.
-        subst (IsEarlier a state) flies (k.earlier n a i state at there (caller ∙ (k.index.states i state there).caller));
-    indexes = k.indexes;
-    next_indexes = k.states_count;
+        subst (IsEarlier a state) flies (k.rest.earlier n a i state at there (caller ∙ (k.index.states i state there).caller));
+    indexes = k.rest.told.indexes;
+    next_indexes = k.rest.states_count;
     once = once_each;
-    writes = k.writes;
+    writes = k.rest.writes;
     places = λ limit carry. places_keep_limit first begun calls s k limit carry;
   }
 

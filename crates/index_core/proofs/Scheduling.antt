@@ -13,6 +13,7 @@ use Rattle.pm_words.specs.declared.again.Again.TheVariants.{NoFree}
 use Rattle.pm_words.specs.declared.action.Action.TheVariants.{Add}
 use Rattle.pm_words.specs.declared.machine.Turn.TheVariants.{Go, Done}
 use Rattle.pm_words.specs.Rows.{acted, got}
+use Rattle.cat_key.specs.declared.Pair.{Pair}
 use Rattle.cat_history.specs.Maps.{Map, at, map_of}
 use Rattle.cat_history.specs.Writes.{after}
 use Rattle.cat_history.specs.Records.{interval_at, change_of}
@@ -100,19 +101,27 @@ in_order_more calls c order behind i j a b at_i at_j less caller =
     omega arith))
     (at_end calls c a i at_i)
 
+-- What holds of the answered calls by the base and the history alone.
+pub record CallsHold (first : Index) (calls : List AnsweredCall) (base : List Pair) (history : List Write) : Type 0 where
+  pub base_is : map_of base ≡ map_of first.base
+  pub holds : (n : ℕ) (c : AnsweredCall) → get_elem? calls n ≡ some c → CallHolds first.layout.slots (map_of first.base) history c
+  pub order : ComeInOrder calls
+  pub next : (n : ℕ) (c : AnsweredCall) → get_elem? calls n ≡ some c → IsNext c.call.index c.next c.whole c.answer
+  pub indexes : IndexesCount first calls
+
+-- What a schedule keeps beside the index, whatever its words are.
+pub record Keeps (first : Index) (begun : List BegunCall) (calls : List AnsweredCall) (base : List Pair) (states : List PartyState) (history : List Write) : Type 0 where
+  pub told : CallsHold first calls base history
+  pub earlier : (n : ℕ) (c : AnsweredCall) (i : ℕ) (state : PartyState) → get_elem? calls n ≡ some c → get_elem? states i ≡ some state → c.call.caller ≡ i → IsEarlier c state state.machine
+  pub writes : EachWriteIsOfACall calls states history
+  pub states_count : StatesCount first calls states
+  pub each_call : EachIsAnsweredOrFlies begun calls states
+  pub counts : (i : ℕ) (state : PartyState) → get_elem? states i ≡ some state → CountsUpTo first begun i state
+
 pub record Kept (first : Index) (begun : List BegunCall) (calls : List AnsweredCall) (s : Index) : Type 0 where
   pub index : IsIndex s
   pub layout_is : s.layout ≡ first.layout
-  pub base_is : map_of s.base ≡ map_of first.base
-  pub holds : (n : ℕ) (c : AnsweredCall) → get_elem? calls n ≡ some c → CallHolds first.layout.slots (map_of first.base) s.history c
-  pub order : ComeInOrder calls
-  pub earlier : (n : ℕ) (c : AnsweredCall) (i : ℕ) (state : PartyState) → get_elem? calls n ≡ some c → get_elem? s.states i ≡ some state → c.call.caller ≡ i → IsEarlier c state state.machine
-  pub writes : EachWriteIsOfACall calls s.states s.history
-  pub next : (n : ℕ) (c : AnsweredCall) → get_elem? calls n ≡ some c → IsNext c.call.index c.next c.whole c.answer
-  pub indexes : IndexesCount first calls
-  pub states_count : StatesCount first calls s.states
-  pub each_call : EachIsAnsweredOrFlies begun calls s.states
-  pub counts : (i : ℕ) (state : PartyState) → get_elem? s.states i ≡ some state → CountsUpTo first begun i state
+  pub rest : Keeps first begun calls s.base s.states s.history
 
 pub place_le_end : (o : NameOp) (place : ℕ) → place ≤ (interval_at o place).end
 place_le_end (op.Put _ _) place = omega arith
@@ -302,7 +311,7 @@ module _ (first : Index) (begun : List BegunCall) (calls : List AnsweredCall) (s
         })
         (λ (other : w.party ≢ i). flies_elsewhere s.states i e' w other)
         (cases_eq w.party i)))
-        (k.writes place write stands)
+        (k.rest.writes place write stands)
 
     -- a call that has no place yet leaves the others' writes as they are
     others : {place : ℕ} {write : Write} → placed_in (stage_of m) ≡ None → slice_get s.history place ≡ Some write → IsAnsweredWrite calls place write ⊎ IsWriteInFlight (set s.states i e') place write
@@ -316,7 +325,7 @@ module _ (first : Index) (begun : List BegunCall) (calls : List AnsweredCall) (s
         let both : None ≡ Some place = sym none ∙ ap (λ (q : Running). placed_in (stage_of q)) (sym machine) ∙ w.place in
         cc) in
         flies_elsewhere s.states i e' w other))
-        (k.writes place write stands)
+        (k.rest.writes place write stands)
 
     writes_on : (o : Option Change) → GoesOn (running_call m).view.layout (stage_of m) (running_asks m) x (stage_of next) o → IfSome o (λ change. change_of (op_in m) ≡ Some change)
         → EachWriteIsOfACall calls (set s.states i e') (s.history ++ written e.caller e.index o)
@@ -348,26 +357,30 @@ module _ (first : Index) (begun : List BegunCall) (calls : List AnsweredCall) (s
     going : IsIndex going_index → Kept first begun calls going_index
     going index = record {
       index = index;
-      base_is = k.base_is;
       layout_is = k.layout_is;
-      holds = λ j c at. longer_call first.layout.slots base s.history (written e.caller e.index (counted (stage_of m))) c (k.holds j c at);
-      order = k.order;
-      earlier = λ j c p state at at_p caller. ⊎_elim
-          (λ (mine : (p ≡ i) × (e' ≡ state)).
-          let before : (c.next ≤ e.index) × (c.until ≤ e.since) = subst (IsEarlier c e) flies (k.earlier j c i e at there (caller ∙ mine.0)) in
-          subst (λ (d : PartyState). IsEarlier c d d.machine) mine.1 before)
-          (λ (other : (p ≢ i) × (get_elem? s.states p ≡ some state)). k.earlier j c p state at other.1 caller)
-          (at_set s.states i p e' state at_p);
-      writes = writes_on (counted (stage_of m)) on (counts_own_change (op_in m) m of);
-      next = k.next;
-      indexes = k.indexes;
-      states_count = states_set first calls s.states i e' (λ p state other at_p. k.states_count p state at_p) (k.states_count i e there);
-      each_call = each_goes_on begun calls s.states k.each_call i e e' there (ap (λ (c : BegunCall). c ∷ []) same_call ∙ sym (ap (flying_in e) flies));
-      counts = λ p state at_p. ⊎_elim
-          (λ (mine : (p ≡ i) × (e' ≡ state)).
-          subst (CountsUpTo first begun p) mine.1 (counts_as first begun i p e e' mine.0 (let one = one_flies in omega arith) (k.counts i e there)))
-          (λ (other : (p ≢ i) × (get_elem? s.states p ≡ some state)). k.counts p state other.1)
-          (at_set s.states i p e' state at_p);
+      rest = record {
+        told = record {
+          base_is = k.rest.told.base_is;
+          holds = λ j c at. longer_call first.layout.slots base s.history (written e.caller e.index (counted (stage_of m))) c (k.rest.told.holds j c at);
+          order = k.rest.told.order;
+          next = k.rest.told.next;
+          indexes = k.rest.told.indexes;
+        };
+        earlier = λ j c p state at at_p caller. ⊎_elim
+            (λ (mine : (p ≡ i) × (e' ≡ state)).
+            let before : (c.next ≤ e.index) × (c.until ≤ e.since) = subst (IsEarlier c e) flies (k.rest.earlier j c i e at there (caller ∙ mine.0)) in
+            subst (λ (d : PartyState). IsEarlier c d d.machine) mine.1 before)
+            (λ (other : (p ≢ i) × (get_elem? s.states p ≡ some state)). k.rest.earlier j c p state at other.1 caller)
+            (at_set s.states i p e' state at_p);
+        writes = writes_on (counted (stage_of m)) on (counts_own_change (op_in m) m of);
+        states_count = states_set first calls s.states i e' (λ p state other at_p. k.rest.states_count p state at_p) (k.rest.states_count i e there);
+        each_call = each_goes_on begun calls s.states k.rest.each_call i e e' there (ap (λ (c : BegunCall). c ∷ []) same_call ∙ sym (ap (flying_in e) flies));
+        counts = λ p state at_p. ⊎_elim
+            (λ (mine : (p ≡ i) × (e' ≡ state)).
+            subst (CountsUpTo first begun p) mine.1 (counts_as first begun i p e e' mine.0 (let one = one_flies in omega arith) (k.rest.counts i e there)))
+            (λ (other : (p ≢ i) × (get_elem? s.states p ≡ some state)). k.rest.counts p state other.1)
+            (at_set s.states i p e' state at_p);
+      };
     }
 
     pub goes_on : IsIndex (stepped_index s i e m n) → Kept first begun calls (stepped_index s i e m n)
@@ -391,7 +404,7 @@ module _ (first : Index) (begun : List BegunCall) (calls : List AnsweredCall) (s
     -- its index isn't at the end
     next_here : IsNext e.index (index_after e.index answer) false answer
     next_here =
-        let counts = k.counts i e there in
+        let counts = k.rest.counts i e there in
         let most = counts.most in
         let one = one_flies in
         let below = few i counts.was counts.there in
@@ -405,7 +418,7 @@ module _ (first : Index) (begun : List BegunCall) (calls : List AnsweredCall) (s
     unwritten = ap (λ (o : Option Change). s.history ++ written e.caller e.index o) (last_counts_nothing m x answer sound.here is) ∙ append-nil s.history
 
     before_it : (j : ℕ) (c : AnsweredCall) → get_elem? calls j ≡ some c → c.call.caller ≡ e.caller → (c.next ≤ e.index) × (c.until ≤ e.since)
-    before_it j c at caller = subst (IsEarlier c e) flies (k.earlier j c i e at there (caller ∙ own.caller))
+    before_it j c at caller = subst (IsEarlier c e) flies (k.rest.earlier j c i e at there (caller ∙ own.caller))
 
     tells_it : (r : Once Placed) → IsAnswerOf first.layout.slots base s.history e (op_in m) (running_call m).limit r → AnswerHolds first.layout.slots base s.history (flying_call e m) (length s.history) r
     tells_it (once.Done placed) took = (took, took.within)
@@ -437,7 +450,7 @@ module _ (first : Index) (begun : List BegunCall) (calls : List AnsweredCall) (s
         inl (answered_last calls call by.0 by.1 by.2 (w.caller ∙ ap (λ (d : PartyState). d.caller) state) (w.index ∙ ap (λ (d : PartyState). d.index) state) asks))
         (λ (other : w.party ≢ i). inr (flies_elsewhere s.states i done w other))
         (cases_eq w.party i))
-        (k.writes place write stands)
+        (k.rest.writes place write stands)
 
     abbrev done_index : Index
     done_index = record s { words = acted s.layout s.words (running_asks m); states = slice_set s.states i done; spare = n }
@@ -447,44 +460,48 @@ module _ (first : Index) (begun : List BegunCall) (calls : List AnsweredCall) (s
     answered says lists index = record {
       index = index;
       layout_is = k.layout_is;
-      base_is = k.base_is;
-      holds = λ j c at. ⊎_elim
-          (λ (old : get_elem? calls j ≡ some c). k.holds j c old)
-          (λ (last : (j ≡ length calls) × (call ≡ c)).
-          subst (CallHolds first.layout.slots base s.history) last.1 (tells_it answer says, omega arith, lists))
-          (at_end calls call c j at);
-      order = in_order_more calls call k.order before_it;
-      earlier = λ j c p state at at_p caller. ⊎_elim
-          (λ (mine : (p ≡ i) × (done ≡ state)). ⊎_elim
-          (λ (old : get_elem? calls j ≡ some c).
-          let before = (before_it j c old (caller ∙ mine.0 ∙ sym own.caller)).0 in
-          let more = (next_near e.index done.index false answer next_here).0 in
-          let less : c.next ≤ done.index = omega arith in
-          subst (λ (d : PartyState). IsEarlier c d d.machine) mine.1 less)
-          (λ (last : (j ≡ length calls) × (call ≡ c)). subst (λ (q : PartyState × AnsweredCall). IsEarlier q.1 q.0 q.0.machine) (λ t. (mine.1 t, last.1 t)) (let here : call.next ≤ done.index = omega arith in here))
-          (at_end calls call c j at))
-          (λ (other : (p ≢ i) × (get_elem? s.states p ≡ some state)). ⊎_elim
-          (λ (old : get_elem? calls j ≡ some c). k.earlier j c p state old other.1 caller)
-          (λ (last : (j ≡ length calls) × (call ≡ c)). absurd (other.0 (sym caller ∙ ap (λ (d : AnsweredCall). d.call.caller) (sym last.1) ∙ own.caller)))
-          (at_end calls call c j at))
-          (at_set s.states i p done state at_p);
-      writes = writes_done;
-      next = λ j c at. ⊎_elim
-          (λ (old : get_elem? calls j ≡ some c). k.next j c old)
-          (λ (last : (j ≡ length calls) × (call ≡ c)). subst (λ (d : AnsweredCall). IsNext d.call.index d.next d.whole d.answer) last.1 next_here)
-          (at_end calls call c j at);
-      indexes = indexes_push first calls call k.indexes (subst (λ (q : ℕ). IsNextIndex first calls q e.index) (sym own.caller) (k.states_count i e there));
-      states_count = states_set first (calls ++ call ∷ []) s.states i done
-          (λ p state other at_p. next_other first calls call p state.index (λ same. other (sym same ∙ own.caller)) (k.states_count p state at_p))
-          (next_own first calls call i e.index done.index own.caller next_here (k.states_count i e there));
-      each_call = each_ends begun calls s.states k.each_call i e done there call (ap (flying_in e) flies) refl;
-      counts = λ p state at_p. ⊎_elim
-          (λ (mine : (p ≡ i) × (done ≡ state)).
-          let near = (next_near e.index done.index false answer next_here).1 in
-          let one = one_flies in
-          subst (CountsUpTo first begun p) mine.1 (counts_as first begun i p e done mine.0 (omega arith) (k.counts i e there)))
-          (λ (other : (p ≢ i) × (get_elem? s.states p ≡ some state)). k.counts p state other.1)
-          (at_set s.states i p done state at_p);
+      rest = record {
+        told = record {
+          base_is = k.rest.told.base_is;
+          holds = λ j c at. ⊎_elim
+              (λ (old : get_elem? calls j ≡ some c). k.rest.told.holds j c old)
+              (λ (last : (j ≡ length calls) × (call ≡ c)).
+              subst (CallHolds first.layout.slots base s.history) last.1 (tells_it answer says, omega arith, lists))
+              (at_end calls call c j at);
+          order = in_order_more calls call k.rest.told.order before_it;
+          next = λ j c at. ⊎_elim
+              (λ (old : get_elem? calls j ≡ some c). k.rest.told.next j c old)
+              (λ (last : (j ≡ length calls) × (call ≡ c)). subst (λ (d : AnsweredCall). IsNext d.call.index d.next d.whole d.answer) last.1 next_here)
+              (at_end calls call c j at);
+          indexes = indexes_push first calls call k.rest.told.indexes (subst (λ (q : ℕ). IsNextIndex first calls q e.index) (sym own.caller) (k.rest.states_count i e there));
+        };
+        earlier = λ j c p state at at_p caller. ⊎_elim
+            (λ (mine : (p ≡ i) × (done ≡ state)). ⊎_elim
+            (λ (old : get_elem? calls j ≡ some c).
+            let before = (before_it j c old (caller ∙ mine.0 ∙ sym own.caller)).0 in
+            let more = (next_near e.index done.index false answer next_here).0 in
+            let less : c.next ≤ done.index = omega arith in
+            subst (λ (d : PartyState). IsEarlier c d d.machine) mine.1 less)
+            (λ (last : (j ≡ length calls) × (call ≡ c)). subst (λ (q : PartyState × AnsweredCall). IsEarlier q.1 q.0 q.0.machine) (λ t. (mine.1 t, last.1 t)) (let here : call.next ≤ done.index = omega arith in here))
+            (at_end calls call c j at))
+            (λ (other : (p ≢ i) × (get_elem? s.states p ≡ some state)). ⊎_elim
+            (λ (old : get_elem? calls j ≡ some c). k.rest.earlier j c p state old other.1 caller)
+            (λ (last : (j ≡ length calls) × (call ≡ c)). absurd (other.0 (sym caller ∙ ap (λ (d : AnsweredCall). d.call.caller) (sym last.1) ∙ own.caller)))
+            (at_end calls call c j at))
+            (at_set s.states i p done state at_p);
+        writes = writes_done;
+        states_count = states_set first (calls ++ call ∷ []) s.states i done
+            (λ p state other at_p. next_other first calls call p state.index (λ same. other (sym same ∙ own.caller)) (k.rest.states_count p state at_p))
+            (next_own first calls call i e.index done.index own.caller next_here (k.rest.states_count i e there));
+        each_call = each_ends begun calls s.states k.rest.each_call i e done there call (ap (flying_in e) flies) refl;
+        counts = λ p state at_p. ⊎_elim
+            (λ (mine : (p ≡ i) × (done ≡ state)).
+            let near = (next_near e.index done.index false answer next_here).1 in
+            let one = one_flies in
+            subst (CountsUpTo first begun p) mine.1 (counts_as first begun i p e done mine.0 (omega arith) (k.rest.counts i e there)))
+            (λ (other : (p ≢ i) × (get_elem? s.states p ≡ some state)). k.rest.counts p state other.1)
+            (at_set s.states i p done state at_p);
+      };
     }
 
     pub is_answered : IsAnswerOf s.layout.slots (map_of (stepped_index s i e m n).base) (stepped_index s i e m n).history e (op_in m) (running_call m).limit answer
@@ -498,6 +515,6 @@ module _ (first : Index) (begun : List BegunCall) (calls : List AnsweredCall) (s
           spare = n;
         }) in
         let says_now : IsAnswerOf first.layout.slots base s.history e (op_in m) (running_call m).limit answer =
-        subst (λ (q : ℕ × (Map × List Write)). IsAnswerOf q.0 q.1.0 q.1.1 e (op_in m) (running_call m).limit answer) (λ t. ((k.layout_is t).slots, (k.base_is t, unwritten t))) says in
-        let lists_now : CallLists base s.history (op_in m) (count_in m) answer part = subst (λ (q : Map × List Write). CallLists q.0 q.1 (op_in m) (count_in m) answer part) (λ t. (k.base_is t, unwritten t)) lists in
+        subst (λ (q : ℕ × (Map × List Write)). IsAnswerOf q.0 q.1.0 q.1.1 e (op_in m) (running_call m).limit answer) (λ t. ((k.layout_is t).slots, (k.rest.told.base_is t, unwritten t))) says in
+        let lists_now : CallLists base s.history (op_in m) (count_in m) answer part = subst (λ (q : Map × List Write). CallLists q.0 q.1 (op_in m) (count_in m) answer part) (λ t. (k.rest.told.base_is t, unwritten t)) lists in
         subst (λ (v : Index). Kept first begun (calls ++ record { call = flying_call e m; until = length v.history; answer = answer; part = part; whole = false; next = index_after e.index answer } ∷ []) v) same (answered says_now lists_now (subst IsIndex (sym same) index))

@@ -25,11 +25,8 @@ use Rattle.node_ops.proofs.PartListing.{done_is_listed}
 use Rattle.index_law.specs.Facts.{Facts}
 use Rattle.index_law.specs.Lawful.{HasNames}
 use Rattle.index_law.proofs.Maps.{after-longer}
-use Rattle.cat_history.specs.Maps.{map_of}
-use Rattle.node_ops.specs.RunningSteps.{running_call}
 use Rattle.index_core.specs.declared.party.CoreReply.{CoreReply}
 use Rattle.index_core.specs.declared.party.Stepped.TheVariants.{Going, Answered}
-use Rattle.index_core.specs.Answers.{SaysOf}
 use Rattle.index_core.specs.Indexes.{Index, TurnsTo, StepsTo, told}
 use Rattle.index_core.specs.PartyStates.{reply_with, stepped_of, answer_in, answered_by, listed_by}
 use Rattle.index_core.specs.Listings.{IsPartAt, ListsRange, ListsAt}
@@ -149,18 +146,8 @@ steps_off old new party m answer t same =
     let done = done_of (running_turned t.machine (told old t.machine)) answer (sym t.answers) in
     let replies : reply_with (count_in m) (listed_in m) answer ≡ reply_with (count_in t.machine) (listed_in t.machine) answer = ap (λ (q : Running). reply_with (count_in q) (listed_in q) answer) same in
     let is : Some (answer_in (reply_with (count_in m) (listed_in m) answer)) ≡ Some answer = ap (λ (r : CoreReply). Some (answer_in r)) replies ∙ ap Some (answer_told t.machine (told old t.machine) answer done) in
+    let turned = subst (λ (o : Option (Once Placed)). (u : TurnsTo old party new o) × (u.machine ≡ t.machine)) (sym is) (t, refl) in
     record {
-      turned = record {
-        state = t.state;
-        machine = t.machine;
-        there = t.there;
-        flies = t.flies;
-        is = t.is;
-        answers = is ∙ t.answers;
-        says = subst (SaysOf new.layout.slots (map_of new.base) new.history t.state (op_in t.machine) (running_call t.machine).limit) (sym is) t.says;
-        lists = t.lists;
-        fewer = t.fewer;
-        turn = t.turn;
-      };
-      comes_to = ap Answered replies ∙ ap (stepped_of t.machine) (sym done);
+      turned = turned.0;
+      comes_to = ap Answered replies ∙ ap (stepped_of t.machine) (sym done) ∙ (λ k. stepped_of (sym turned.1 k) (running_turned (sym turned.1 k) (told old (sym turned.1 k))));
     }
