@@ -23,17 +23,16 @@ act-got-requires-clause-allowed g c =
     let seat = c.args.seat.now in
     let s = c.args.self.now in
     let t = s.table.shared in
-    let v = party seat.me in
-    let call = g.C.BeginsCall.call in
-    let here : IsRunning (machine_in v call) = subst IsRunning c.requires.machine c.requires.sound in
-    let action : c.action.result ≡ running_asks (machine_in v call) = c.action.ensures ∙ ap running_asks c.requires.machine in
-    let ready = first_ready (view_in v) call here in
-    let within = place_inside v.about.layout (running_asks (machine_in v call)) ready.names in
-    let inside : action_address t.key.layout (running_asks (machine_in v call)) < t.table_id.words =
-    inside_table s.about t.key t.table_id.words (running_asks (machine_in v call)) s.key s.words
-    (subst (λ (b : About). action_address b.layout (running_asks (machine_in v call)) < row_words b.layout) c.requires.about within) in
-    subst (λ (x : Action). May t.key t.table_id.words t.table_id.slots seat.id seat.me x (Starts call g.C.BeginsCall.index)) (sym action)
-    (allows_first t.key t.table_id.words t.table_id.slots seat.id seat.me call g.C.BeginsCall.index c.requires.lone c.requires.idle here inside)
+    let m = machine_in (party seat.me) g.C.BeginsCall.call in
+    let here : IsRunning m = subst IsRunning c.requires.machine c.requires.sound in
+    let action : c.action.result ≡ running_asks m = c.action.ensures ∙ ap running_asks c.requires.machine in
+    let ready = first_ready (view_in (party seat.me)) g.C.BeginsCall.call here in
+    let within = place_inside (party seat.me).about.layout (running_asks m) ready.names in
+    let inside : action_address t.key.layout (running_asks m) < t.table_id.words =
+    inside_table s.about t.key t.table_id.words (running_asks m) s.key s.words
+    (subst (λ (b : About). action_address b.layout (running_asks m) < row_words b.layout) c.requires.about within) in
+    subst (λ (x : Action). May t.key t.table_id.words t.table_id.slots seat.id seat.me x (Starts g.C.BeginsCall.call g.C.BeginsCall.index)) (sym action)
+    (allows_first t.key t.table_id.words t.table_id.slots seat.id seat.me g.C.BeginsCall.call g.C.BeginsCall.index c.requires.lone c.requires.idle here inside)
 
 pub returns : goal.returns
 returns g c =
