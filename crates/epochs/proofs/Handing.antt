@@ -1,12 +1,11 @@
 -- Seats as they are made, and as they come back.
 use Rattle.std.proofs.Common.{◌≡◌, ℕ, suc, ◌+◌, ◌-◌, ◌<◌, List, [], ◌∷◌, ◌++◌, sym, ap, ◌∙◌, subst, arith}
-use Rattle.std.proofs.lemmas.List.{length-append}
 use Rattle.epochs.specs.declared.rule.PinMember.{PinMember}
 use Rattle.epochs.specs.declared.seat.EpochSeat.{EpochSeat}
 use Rattle.epochs.specs.declared.shared.Epochs.{Epochs}
 use Rattle.epochs.specs.Kept.{party, new_member, new_members, first_of}
 use Rattle.epochs.specs.Seats.{IsSettled, IsSeatOf, HasSeats, AreNew, known_by}
-use Rattle.epochs.proofs.Lists.{each_end}
+use Rattle.epochs.proofs.Lists.{each_end, numbered_more}
 
 -- the next of the parties that are left
 pub next_new : (from parties : ℕ) → from < parties → new_members from (parties - from) ≡ new_member from ∷ new_members (from + 1) (parties - (from + 1))
@@ -28,12 +27,4 @@ handed epochs n seats seat less has fresh table me number =
       };
       settled = subst (λ (x : PinMember). IsSettled x.pin) (sym who) tt;
     } in
-    let long = length-append seats (seat ∷ []) in
-    let count = has.count in (
-      record {
-        count = omega arith;
-        each = each_end (λ _. IsSeatOf epochs) seats seat has.each one;
-        numbers = each_end (λ j d. d.party ≡ j) seats seat has.numbers (number ∙ sym count);
-      },
-      each_end (λ j d. known_by d ≡ new_member j) seats seat fresh (who ∙ ap new_member (sym count)),
-    )
+    (numbered_more (IsSeatOf epochs) (λ (d : EpochSeat). d.party) n seats seat has one number, each_end (λ j d. known_by d ≡ new_member j) seats seat fresh (who ∙ ap new_member (sym has.count)))

@@ -1,6 +1,5 @@
 -- Callers as they are made.
 use Rattle.std.proofs.Common.{◌≡◌, ℕ, zero, suc, ◌+◌, ◌<◌, inl, false, List, [], ◌∷◌, ◌++◌, drop, take, get_or, length, refl, sym, ap, ◌∙◌, subst, arith}
-use Rattle.std.proofs.lemmas.List.{length-append}
 use Rattle.std.specs.Prelude.{None}
 use mathlib.Core.Option.{some}
 use lib.ListN.{get_elem?}
@@ -15,7 +14,7 @@ use Rattle.pac_index.proofs.Remaining.{rests_tells}
 use Rattle.pac_index.specs.Callers.{IsAtRest, IsCallerOf, HasCallers, AreNew, seen_by, pairs}
 use Rattle.epochs.specs.declared.seat.EpochSeat.{EpochSeat}
 use Rattle.epochs.specs.Seats.{IsSeatOf, IsUnpinned}
-use Rattle.epochs.proofs.Lists.{each_end, at_longer, at_last}
+use Rattle.epochs.proofs.Lists.{each_end, at_longer, at_last, numbered_more}
 use Rattle.pac_index.proofs.Seats.{next_first}
 
 -- a seat of one party
@@ -68,13 +67,8 @@ handed s i callers c less has fresh table me number index left cut kept pins unp
       unpinned = unpinned;
       pinning = pinning ∙ sym number;
     } in
-    let long = length-append callers (c ∷ []) in
-    let count = has.count in (
-      record {
-        count = omega arith;
-        each = each_end (λ _. IsCallerOf s) callers c has.each one;
-        numbers = each_end (λ j d. d.number ≡ j) callers c has.numbers (number ∙ sym count);
-      },
+    (
+      numbered_more (IsCallerOf s) (λ (d : Caller). d.number) i callers c has one number,
       each_end
           (λ _ d. ((seen_by d).seen ≡ []) × (d.index ≡ 0) × ((seen_by d).taken ≡ 0) × ((seen_by d).added ≡ 0) × ((seen_by d).none_free ≡ false) × (d.left ≡ None)) callers c fresh (
             ap (λ (x : Member). x.seen) who,

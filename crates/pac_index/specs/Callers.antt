@@ -25,7 +25,7 @@ use Rattle.pac_index.specs.Stamps.{stamp_in}
 use Rattle.pac_index.specs.Kept.{IsLone, party, placed_by, Begins, opening_weight}
 use Rattle.index_core.specs.Weights.{weight_of}
 use Rattle.epochs.specs.declared.rule.PinMember.{PinMember}
-use Rattle.epochs.specs.Seats.{IsSeatOf, IsUnpinned, known_by}
+use Rattle.epochs.specs.Seats.{AreNumbered, IsSeatOf, IsUnpinned, known_by}
 
 -- What it knows.
 abbrev pub seen_by : Caller → Member
@@ -92,10 +92,8 @@ abbrev pub HasMadeNone : Caller → Caller → Type 0
 HasMadeNone old new = (new.index ≡ old.index) × (new.kept ≡ old.kept) × (new.cut ≡ old.cut)
 
 -- The callers of this index from number 0 on, each at the place of its number.
-pub record HasCallers (s : Shared) (n : ℕ) (callers : List Caller) : Type 0 where
-  pub count : length callers ≡ n
-  pub each : (i : ℕ) (c : Caller) → get_elem? callers i ≡ some c → IsCallerOf s c
-  pub numbers : (i : ℕ) (c : Caller) → get_elem? callers i ≡ some c → c.number ≡ i
+abbrev pub HasCallers : Shared → ℕ → List Caller → Type 0
+HasCallers s n callers = AreNumbered (IsCallerOf s) (λ (c : Caller). c.number) n callers
 
 -- None of them has a call or a turn in flight.
 abbrev pub AreAtRest : List Caller → Type 0
