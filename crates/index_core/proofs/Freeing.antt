@@ -22,6 +22,7 @@ use Rattle.node_ops.specs.search_layer.specs.ChangeStages.{Changing, Changed, Ch
 use Rattle.index_law.specs.Facts.{Facts, status_in}
 use Rattle.index_law.proofs.Listing.{merge_gone}
 use Rattle.index_law.proofs.Moves.{fact_after, split_after, merge_after}
+use Rattle.index_law.proofs.Places.{node_at, offset_at}
 use Rattle.index_law.proofs.Rows.{status_in-alike}
 use Rattle.updater.specs.updater_row_law.specs.Columns.{RowTerms, Ghosts, line_count, line_word}
 use Rattle.updater.specs.updater_row_law.specs.RowStages.{RowLine, aim_of, RowStage, Resting, Between, Sweeps, Stamps}
@@ -73,14 +74,6 @@ module _ {l : Layout} {g : ℕ} (f : Facts) (caller index : ℕ) where
 
 -- ---- of turns
 
-abbrev volatile_node : Location → ℕ
-volatile_node (Volatile n offset) = n
-volatile_node _ = 0
-
-abbrev volatile_offset : Location → ℕ
-volatile_offset (Volatile n offset) = offset
-volatile_offset _ = 0
-
 abbrev freed_node : RowStage → ℕ
 freed_node (Frees n) = n
 freed_node _ = 0
@@ -103,7 +96,7 @@ module _ (r : RowTerms) (ghosts : Ghosts) (words : List ℕ) (row : IsRow r.layo
   apart p y has other = status_in-alike l words (slice_set words (address_of l p) y) m (λ there. at-set_other l words p (Volatile m status_offset) y has (there, omega arith) other)
 
   stamped : (n y : ℕ) → n < l.nodes → status_in l (slice_set words (volatile_at l n stamp_offset) y) m ≡ status_in l words m
-  stamped n y here = apart (Volatile n stamp_offset) y (here, omega arith) (λ e. let no : 0 ≡ 2 = ap volatile_offset e in omega arith)
+  stamped n y here = apart (Volatile n stamp_offset) y (here, omega arith) (λ e. let no : 0 ≡ 2 = ap offset_at e in omega arith)
 
   leaves_statuses : (e : RowLine) (word : ℕ) (s t : Changing) (a : Action) → RowLawful r ghosts words (Changes e word s) → ChangeStep l (aim_of e word) s a (got l words a) t → status_in l (acted l words a) m ≡ status_in l words m
   leaves_statuses e word s t a is step =
@@ -137,7 +130,7 @@ module _ (r : RowTerms) (ghosts : Ghosts) (words : List ℕ) (row : IsRow r.layo
   only_frees (unstamps {n = n} here) told is = inl (stamped n 0 here)
   only_frees (frees {n = n} here) told is = ⊎_elim
       (λ (e : m ≡ n). inr (ap Frees (sym e), subst (λ k. k < l.nodes) (sym e) here))
-      (λ (other : m ≢ n). inl (apart (Volatile n status_offset) free_status (here, omega arith) (λ e. other (ap volatile_node e))))
+      (λ (other : m ≢ n). inl (apart (Volatile n status_offset) free_status (here, omega arith) (λ e. other (ap node_at e))))
       (cases_eq m n)
   only_frees {s = s} (counts {n = n} here) told is = loads (volatile_at l n status_offset) s
   only_frees (leaves_lock done) told is = inl (apart Updater untaken_lock tt (λ e. cc))

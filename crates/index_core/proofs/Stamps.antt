@@ -6,7 +6,7 @@ use mathlib.Core.Option.{some}
 use lib.ListN.{get_elem?}
 use Rattle.pm_words.specs.declared.layout.Layout.{Layout}
 use Rattle.pm_words.specs.declared.action.Action.{Action}
-use Rattle.pm_words.specs.Locations.{Location, Line, Volatile, Cached, Durable, at, address_of}
+use Rattle.pm_words.specs.Locations.{Line, Volatile, Cached, Durable, at, address_of}
 use Rattle.pm_words.specs.Rows.{acted}
 use Rattle.pm_words.proofs.Apart.{at-set_other}
 use Rattle.pm_words.proofs.Kept.{action_address-drain}
@@ -26,16 +26,13 @@ use Rattle.index_law.proofs.Beside.{nodes_leave_others}
 use Rattle.index_law.proofs.Own.{sure_within}
 use Rattle.updater.specs.updater_row_law.specs.Columns.{volatile_field}
 use Rattle.updater.specs.updater_row_law.proofs.RowColumns.{column-same}
+use Rattle.index_law.proofs.Places.{offset_at}
 use Rattle.lone_hops_law.specs.lone_updater_law.specs.LoneTurns.{stamp_in}
 use Rattle.index_core.specs.declared.party.PartyState.{PartyState}
 use Rattle.index_core.specs.PartyStates.{machine_stage, party_of}
 use Rattle.index_core.specs.Indexes.{Index, IsIndex, stepped_index, world}
 use Rattle.index_core.proofs.Lists.{map_there}
 use Rattle.index_core.proofs.Stepping.{may_do}
-
-abbrev offset_of : Location → ℕ
-offset_of (Volatile n offset) = offset
-offset_of _ = 0
 
 -- what a call does on log lines, prevs and permutations leaves a stamp
 beside_leaves_stamp : (l : Layout) (words : List ℕ) (n : ℕ) → n < l.nodes → {a : Action} → IsBeside l a → at l (acted l words a) (Volatile n stamp_offset) ≡ at l words (Volatile n stamp_offset)
@@ -45,19 +42,19 @@ beside_leaves_stamp l words n here (drains_line {c = c} {j = j} {offset = o} {y 
     subst (λ (place : ℕ). at l (slice_set words place y) (Volatile n stamp_offset) ≡ at l words (Volatile n stamp_offset)) (sym (action_address-drain l (Line c j o) y))
     (at-set_other l words (Durable (Line c j o)) (Volatile n stamp_offset) y has (here, omega arith) (λ e. cc))
 beside_leaves_stamp l words n here (stores_prev {n = m} {y = y} within small) =
-    at-set_other l words (Volatile m prev_offset) (Volatile n stamp_offset) y (within, omega arith) (here, omega arith) (λ e. let no : 2 ≡ 1 = ap offset_of e in omega arith)
+    at-set_other l words (Volatile m prev_offset) (Volatile n stamp_offset) y (within, omega arith) (here, omega arith) (λ e. let no : 2 ≡ 1 = ap offset_at e in omega arith)
 beside_leaves_stamp l words n here (loads_layer {w = v} place) = ap (λ (ws : List ℕ). at l ws (Volatile n stamp_offset)) (set-get_or words (address_of l (Cached v)) 0)
 beside_leaves_stamp l words n here {a = a} (on_permutation on) =
     let at_word = stored_word l words a on in
     let least = at_word.least in
     ap (λ (v : List ℕ). at l v (Volatile n stamp_offset)) at_word.is
-    ∙ at-set_other l words (Volatile at_word.node at_word.offset) (Volatile n stamp_offset) at_word.word (at_word.here, at_word.most) (here, omega arith) (λ e. let no : 2 ≡ at_word.offset = ap offset_of e in omega arith)
+    ∙ at-set_other l words (Volatile at_word.node at_word.offset) (Volatile n stamp_offset) at_word.word (at_word.here, at_word.most) (here, omega arith) (λ e. let no : 2 ≡ at_word.offset = ap offset_at e in omega arith)
 
 -- so whatever a call may do leaves all of them
 may_leaves_stamps : (l : Layout) (words : List ℕ) (s : Stage) (a : Action) → MayDo l s a → volatile_field l (acted l words a) stamp_offset ≡ volatile_field l words stamp_offset
 may_leaves_stamps l words s a may = column-same l words (acted l words a) l.nodes (λ n. Volatile n stamp_offset) (λ n here. elim may [
   | inl allowed ↦
-      nodes_leave_others l words s a (Volatile n stamp_offset) (here, omega arith) (record { clock = λ e. cc; status = λ m e. let no : 2 ≡ 0 = ap offset_of e in omega arith; cached = λ m o e. cc; durable = λ m o e. cc }) allowed
+      nodes_leave_others l words s a (Volatile n stamp_offset) (here, omega arith) (record { clock = λ e. cc; status = λ m e. let no : 2 ≡ 0 = ap offset_at e in omega arith; cached = λ m o e. cc; durable = λ m o e. cc }) allowed
   | inr beside ↦ beside_leaves_stamp l words n here beside
 ])
 
