@@ -174,7 +174,7 @@ module _ (s0 s s' : Index) (i : ℕ) (c : CoreCall) (result : Option (Once Place
           (walks_end_so o.machine (told s o.machine) answer o.call.sound.here walking done))
       at true landed done tries =
           let walks = landed_walks s0.layout s0.words s.words o.machine o.call.stands landed in
-          let few = walk_is_short s0 o.before o.still.calls (name_in (running_call o.machine)) (running_call o.machine).hops short walks in
+          let few = walk_is_short s0 o.start.before o.start.still.calls (name_in (running_call o.machine)) (running_call o.machine).hops short walks in
           let nodes : (running_call o.machine).view.layout.nodes ≡ s0.layout.nodes = ap (λ (l : Layout). l.nodes) (o.call.sound.layout ∙ o.call.trying.start.layout) in
           let is : spared o.machine ≡ hops_spared (running_call o.machine) + split_spared o.machine = ap (λ (b : Bool). cond b (hops_spared (running_call o.machine)) 0 + split_spared o.machine) landed in
           let spares : hops_spared (running_call o.machine) ≡ 10 * (2 * s0.layout.nodes - ((running_call o.machine).hops + 1)) = ap (λ n. 10 * (2 * n - ((running_call o.machine).hops + 1))) nodes in

@@ -145,7 +145,7 @@ module _ (s0 s : Index) (i : ℕ) (c : CoreCall) (o : Lone s0 s i c) (before now
       let was = lone_cost s0 s i c o in
       let nodes : (running_call o.machine).view.layout.nodes ≡ s0.layout.nodes = ap (λ (l : Layout). l.nodes) (o.call.sound.layout ∙ o.call.trying.start.layout) in
       let of_call = call_left s0.layout s0.words s.words (ready_lines (world s0)) o.machine o.call.sound.here o.call.stands nodes
-      (λ hops walks. walk_is_short s0 o.before o.still.calls (name_in (running_call o.machine)) hops short walks) in
+      (λ hops walks. walk_is_short s0 o.start.before o.start.still.calls (name_in (running_call o.machine)) hops short walks) in
       omega (arith, was, of_call)
 
   next_in_time : now + 1 ≤ before + (look_actions s0.layout (ready_lines (world s0)) + behind_actions s0.layout c)

@@ -94,7 +94,7 @@ module _ (s0 s s' : Index) (i : ℕ) (low : List ℕ) (count : ℕ) (result : Op
   -- how many names it sorted
   sorts : (words : PartWords) → HasListed s i words → (names : ℕ) → HasCompared (reading_of m) names words → SortsIfStale s0 s' words.node names words
   sorts words h names compared =
-      let so = sorts_so (world s0) (world s) i low (party_of (state_with o.state (length s0.history) m)) m (told s m) names words o.call (its_own words h) (its_word words h) compared in
+      let so = sorts_so (world s0) (world s) i low (party_of (state_with o.start.state (length s0.history) m)) m (told s m) names words o.call (its_own words h) (its_word words h) compared in
       let words_are : s'.words ≡ acted s.layout s.words (running_asks m) =
       ap (λ (v : Index). v.words) t.is ∙ (λ k. acted s.layout s.words (running_asks (turn_machine s0 s s' i c result o on k))) in
       record {
@@ -131,7 +131,7 @@ module _ (s0 s s' : Index) (i : ℕ) (low : List ℕ) (count : ℕ) (result : Op
       subst (λ (asked : NameOp). IsPartAt s'.layout (facts (world s')) (reading_of m) (name_asked asked) count words) op_is
       (subst (λ (found : Option ℕ). IfSome found (λ (n : ℕ). Confirms m (told s m) words → IsPartAt s'.layout (facts (world s')) (reading_of m) (name_asked (op_in m)) n words)) o.count of_words (its_word words h)) in
       ends_alone (once.Done (words_placed words)) answered (whole.Part words)
-      (part_done s0 s' i low count o.before o.still words (lone_tries s0 s s' i c result o on (once.Done (words_placed words)) answered) node (reading_of m) is (sorts words h))
+      (part_done s0 s' i low count o.start.before o.start.still words (lone_tries s0 s s' i c result o on (once.Done (words_placed words)) answered) node (reading_of m) is (sorts words h))
 
   -- one that is answered before is told early
   pub part_is_early : (answer : Once Placed) (found : Bool) → (HasListing s i → found ≡ true) → found ≡ false → result ≡ Some answer → IsEarly answer
@@ -142,12 +142,12 @@ module _ (s0 s s' : Index) (i : ℕ) (low : List ℕ) (count : ℕ) (result : Op
       unlisted : (found : Option PartWords) → listed_in m ≡ found → found ≡ None
       unlisted None is = refl
       unlisted (Some words) is = absurd (
-          let yes = tells (words, record { state = state_with o.state (length s0.history) m; machine = m; there = lone_there s0 s i c o; flies = refl; listed = is }) in
+          let yes = tells (words, record { state = state_with o.start.state (length s0.history) m; machine = m; there = lone_there s0 s i c o; flies = refl; listed = is }) in
           let fails = no in
           cc)
 
   pub part_stops : (answer : Once Placed) (found : Bool) → (HasListing s i → found ≡ true) → found ≡ false → result ≡ Some answer → EndsAlone s0 s' i low count (part_whole (early_of answer))
   part_stops answer found tells no answered =
       ends_alone answer answered (part_whole (early_of answer))
-      (part_early s0 s' i low count o.before o.still answer (part_is_early answer found tells no answered) (lone_tries s0 s s' i c result o on answer answered)
+      (part_early s0 s' i low count o.start.before o.start.still answer (part_is_early answer found tells no answered) (lone_tries s0 s s' i c result o on answer answered)
       (lone_each s0 s s' i c result o on answer answered) (lone_locks s0 s s' i c result o on answer answered))

@@ -77,19 +77,23 @@ use Rattle.lone_hops_law.proofs.NodesGo.{nodes_go, nodes_end}
 use Rattle.cat_history.specs.Records.{change_of}
 use Rattle.node_ops.proofs.CallLaw.{footing_stage}
 
--- One call is in flight, as the index was s0 before it.
-pub record Lone (s0 s : Index) (i : ℕ) (c : CoreCall) : Type 0 where
+-- What the call has found, before which the index was s0: nothing that is in its way.
+pub record LoneStart (s0 : Index) (i : ℕ) (c : CoreCall) : Type 0 where
   pub state : PartyState
-  pub machine : Running
   pub still : IsStill i s0
   pub before : IsIndex s0
   pub named : IsName (name_asked (op_of c))
   pub there : get_elem? s0.states i ≡ some state
-  pub states : s.states ≡ slice_set s0.states i (state_with state (length s0.history) machine)
+
+-- One call is in flight, as the index was s0 before it.
+pub record Lone (s0 s : Index) (i : ℕ) (c : CoreCall) : Type 0 where
+  pub start : LoneStart s0 i c
+  pub machine : Running
+  pub states : s.states ≡ slice_set s0.states i (state_with start.state (length s0.history) machine)
   pub index : IsIndex s
-  pub call : LoneCall (world s0) i (op_of c) (limit_of c) (world s) (party_of (state_with state (length s0.history) machine)) machine
+  pub call : LoneCall (world s0) i (op_of c) (limit_of c) (world s) (party_of (state_with start.state (length s0.history) machine)) machine
   pub count : count_in machine ≡ count_of c
-  pub log : LogStands state.caller (world s0) (world s) (footing_of machine)
+  pub log : LogStands start.state.caller (world s0) (world s) (footing_of machine)
   pub nodes : NodesStand (world s0) (world s) (stage_of machine)
   pub same_base : s.base ≡ s0.base
   pub stamps : stamp_in (world s) ≡ stamp_in (world s0)
@@ -207,12 +211,8 @@ lone_start s0 s i c is0 still t spare is =
     let weight = begins.weighs ∙ none_weigh s0 still.calls in
     let shown = begins.shows_none in
     subst (λ (v : Index). Lone s0 v i c) (sym t.is) (record {
-      state = t.state;
+      start = record { state = t.state; still = still; before = is0; named = (asks (view_of s0 i) c here t.of).named; there = t.there };
       machine = m;
-      still = still;
-      before = is0;
-      named = (asks (view_of s0 i) c here t.of).named;
-      there = t.there;
       states = refl;
       index = is';
       call = begun_call s0 i t.state c s.spare is0 still.calls t.there here t.of;
@@ -225,12 +225,12 @@ lone_start s0 s i c is0 still t spare is =
       room = room;
     })
 
-pub lone_there : (s0 s : Index) (i : ℕ) (c : CoreCall) (o : Lone s0 s i c) → get_elem? s.states i ≡ some (state_with o.state (length s0.history) o.machine)
+pub lone_there : (s0 s : Index) (i : ℕ) (c : CoreCall) (o : Lone s0 s i c) → get_elem? s.states i ≡ some (state_with o.start.state (length s0.history) o.machine)
 lone_there s0 s i c o =
-    ap (λ (l : List PartyState). get_elem? l i) o.states ∙ set_here s0.states i (state_with o.state (length s0.history) o.machine) o.state o.there
+    ap (λ (l : List PartyState). get_elem? l i) o.states ∙ set_here s0.states i (state_with o.start.state (length s0.history) o.machine) o.start.state o.start.there
 
 pub lone_flies : (s0 s : Index) (i : ℕ) (c : CoreCall) → Lone s0 s i c → IsInFlight s i
-lone_flies s0 s i c o = record { state = state_with o.state (length s0.history) o.machine; machine = o.machine; there = lone_there s0 s i c o; flies = refl }
+lone_flies s0 s i c o = record { state = state_with o.start.state (length s0.history) o.machine; machine = o.machine; there = lone_there s0 s i c o; flies = refl }
 
 some_same : {a b : Running} → Some a ≡ Some b → a ≡ b
 some_same e = cc
@@ -252,16 +252,16 @@ loses_fewest s0 s layout generation loses =
 
 -- so it is wherever a call in flight has come
 pub flight_each : (s0 s : Index) (i : ℕ) (c : CoreCall) → Lone s0 s i c → LoseAtMost 1 s0 s
-flight_each s0 s i c o = loses_each s0 s o.call.trying.start.generation (lone_calls_lose (world s0) i (op_of c) (limit_of c) (world s) (party_of (state_with o.state (length s0.history) o.machine)) o.machine o.call)
+flight_each s0 s i c o = loses_each s0 s o.call.trying.start.generation (lone_calls_lose (world s0) i (op_of c) (limit_of c) (world s) (party_of (state_with o.start.state (length s0.history) o.machine)) o.machine o.call)
 
 pub flight_locks : (s0 s : Index) (i : ℕ) (c : CoreCall) → Lone s0 s i c → locks_left s0 ≤ locks_left s + 1
 flight_locks s0 s i c o =
     loses_fewest s0 s o.call.trying.start.layout o.call.trying.start.generation
-    (lone_calls_lose (world s0) i (op_of c) (limit_of c) (world s) (party_of (state_with o.state (length s0.history) o.machine)) o.machine o.call)
+    (lone_calls_lose (world s0) i (op_of c) (limit_of c) (world s) (party_of (state_with o.start.state (length s0.history) o.machine)) o.machine o.call)
 
 module _ (s0 s s' : Index) (i : ℕ) (c : CoreCall) (result : Option (Once Placed)) (o : Lone s0 s i c) (t : TurnsOn s i s' result) where
   abbrev e : PartyState
-  e = state_with o.state (length s0.history) o.machine
+  e = state_with o.start.state (length s0.history) o.machine
 
   at_i : get_elem? s.states i ≡ some e
   at_i = lone_there s0 s i c o
@@ -292,7 +292,7 @@ module _ (s0 s s' : Index) (i : ℕ) (c : CoreCall) (result : Option (Once Place
   fewer = subst (λ (m : Running). GoesBelow running_left (running_left m) (running_turned m (told s m))) turn_machine t.fewer
 
   goes : AfterCall (world s0) i (op_of c) (limit_of c) (world s) p o.machine (running_turned o.machine x)
-  goes = lone_calls_go (world s0) i (op_of c) (limit_of c) (world s) p o.machine x o.call (rests s0 o.before o.still.calls) refl (bounded_small s o.index)
+  goes = lone_calls_go (world s0) i (op_of c) (limit_of c) (world s) p o.machine x o.call (rests s0 o.start.before o.start.still.calls) refl (bounded_small s o.index)
 
   -- the history after the step
   history_is : s'.history ≡ s.history ++ written e.caller e.index (counted (stage_of o.machine))
@@ -340,14 +340,14 @@ module _ (s0 s s' : Index) (i : ℕ) (c : CoreCall) (result : Option (Once Place
   debt_at = map_there (λ (d : PartyState). (machine_footing d.machine).debt) s.states i e at_i
 
   log_on : (next : Running) → running_turned o.machine x ≡ Go next → LoneCall (world s0) i (op_of c) (limit_of c) (stepped (world s) i p (running_asks o.machine) (stage_of next)) (moved_on p (stage_of next)) next
-      → LogStands o.state.caller (world s0) (world s') (footing_of next)
+      → LogStands o.start.state.caller (world s0) (world s') (footing_of next)
   log_on next turned call_on =
       let stage = footing_stage next in
       let step = subst (λ (t : Turn Running (Once Placed)). FootStep s.layout s.generation e.caller (footing_of o.machine) (running_asks o.machine) x (footing_after t) (reply_of t)) turned foot in
       let trying : Trying (name_asked (op_of c)) (change_of (op_of c)) (world s0) i (stepped (world s) i p (running_asks o.machine) (footing_of next).stage) (moved_on p (footing_of next).stage) =
       subst (λ (u : Stage). Trying (name_asked (op_of c)) (change_of (op_of c)) (world s0) i (stepped (world s) i p (running_asks o.machine) u) (moved_on p u)) (sym stage) call_on.trying in
-      subst (λ (w : World). LogStands o.state.caller (world s0) w (footing_of next)) (sym (world_is next turned))
-      (subst (λ (u : Stage). LogStands o.state.caller (world s0) (stepped (world s) i p (running_asks o.machine) u) (footing_of next)) stage
+      subst (λ (w : World). LogStands o.start.state.caller (world s0) w (footing_of next)) (sym (world_is next turned))
+      (subst (λ (u : Stage). LogStands o.start.state.caller (world s0) (stepped (world s) i p (running_asks o.machine) u) (footing_of next)) stage
       (log_goes (name_asked (op_of c)) (change_of (op_of c)) (world s0) (layered s) i p (footing_of o.machine) (footing_of next) (running_asks o.machine) x o.index.layered o.call.trying trying line_at debt_at
       (o.call.stage ∙ sym (footing_stage o.machine)) o.log step refl (calls_are_in_step next)))
 
@@ -368,7 +368,7 @@ module _ (s0 s s' : Index) (i : ℕ) (c : CoreCall) (result : Option (Once Place
       let go = go_of (running_turned o.machine x) (sym turn_told ∙ going) in
       let next = go.0 in
       let states = entries_are (Go next) go.1 in
-      let there = ap (λ (l : List PartyState). get_elem? l i) states ∙ set_here s0.states i (state_with o.state (length s0.history) next) o.state o.there in
+      let there = ap (λ (l : List PartyState). get_elem? l i) states ∙ set_here s0.states i (state_with o.start.state (length s0.history) next) o.start.state o.start.there in
       let less : running_left next < running_left o.machine = subst (GoesBelow running_left (running_left o.machine)) go.1 fewer in
       let was : left_at s i ≡ suc (running_left o.machine) = ap left_in at_i in
       let now : left_at s' i ≡ suc (running_left next) = ap left_in there in
@@ -380,12 +380,8 @@ module _ (s0 s s' : Index) (i : ℕ) (c : CoreCall) (result : Option (Once Place
       subst (λ (turn : Turn Running (Once Placed)). weight_sum (world (stepped_index s i e o.machine s.spare)) + showing (Some o.machine) ≤ weight_sum (world s) + showing_after (op_in o.machine) turn) go.1 law.weighs in
       let weight = o.weighs in (
         record {
-          state = o.state;
+          start = o.start;
           machine = next;
-          still = o.still;
-          before = o.before;
-          named = o.named;
-          there = o.there;
           states = states;
           index = t.index;
           call = subst (λ (w : World). LoneCall (world s0) i (op_of c) (limit_of c) w (moved_on p (stage_of next)) next) (sym (world_is next go.1)) call_on;
@@ -408,7 +404,7 @@ module _ (s0 s s' : Index) (i : ℕ) (c : CoreCall) (result : Option (Once Place
   lone_costs going =
       let go = go_of (running_turned o.machine x) (sym turn_told ∙ going) in
       let next = go.0 in
-      let there = ap (λ (l : List PartyState). get_elem? l i) (entries_are (Go next) go.1) ∙ set_here s0.states i (state_with o.state (length s0.history) next) o.state o.there in
+      let there = ap (λ (l : List PartyState). get_elem? l i) (entries_are (Go next) go.1) ∙ set_here s0.states i (state_with o.start.state (length s0.history) next) o.start.state o.start.there in
       let less : running_left next < running_left o.machine = subst (GoesBelow running_left (running_left o.machine)) go.1 fewer in
       let was : cost_at s i ≡ running_left o.machine + spared o.machine = ap cost_in at_i in
       let now : cost_at s' i ≡ running_left next + spared next = ap cost_in there in
@@ -420,13 +416,13 @@ module _ (s0 s s' : Index) (i : ℕ) (c : CoreCall) (result : Option (Once Place
 
   -- no call is in flight then, and the turns of the updater are as they were
   pub lone_none : (answer : Once Placed) → result ≡ Some answer → HasNoCalls s'
-  lone_none answer answered = none_then s0 s' i o.state (state_after e (Done answer)) o.there (entries_are (Done answer) (lone_done answer answered)) refl refl refl o.still.calls
+  lone_none answer answered = none_then s0 s' i o.start.state (state_after e (Done answer)) o.start.there (entries_are (Done answer) (lone_done answer answered)) refl refl refl o.start.still.calls
 
   pub lone_quiet : (answer : Once Placed) → result ≡ Some answer → IsQuiet s0 → IsQuiet s'
-  lone_quiet answer answered = quiet_then s0 s' i o.state (state_after e (Done answer)) o.there (entries_are (Done answer) (lone_done answer answered)) refl refl refl
+  lone_quiet answer answered = quiet_then s0 s' i o.start.state (state_after e (Done answer)) o.start.there (entries_are (Done answer) (lone_done answer answered)) refl refl refl
 
   pub lone_still : (answer : Once Placed) → result ≡ Some answer → (party : ℕ) → IsStill party s0 → IsStill party s'
-  lone_still answer answered = still_then s0 s' i o.state (state_after e (Done answer)) o.there (entries_are (Done answer) (lone_done answer answered)) refl refl refl
+  lone_still answer answered = still_then s0 s' i o.start.state (state_after e (Done answer)) o.start.there (entries_are (Done answer) (lone_done answer answered)) refl refl refl
 
   -- how it ends
   module _ (answer : Once Placed) (answered : result ≡ Some answer) where
@@ -443,7 +439,7 @@ module _ (s0 s s' : Index) (i : ℕ) (c : CoreCall) (result : Option (Once Place
         (λ (merge : FindsMerge (world s0) (op_of c) × IsMergedSince (name_asked (op_of c)) (world s0) (stepped (world s) i p (running_asks o.machine) Idle)). inr (merge.0, merge_with_parties merge.1))
 
     of_party : (r : Once Placed) → IsAnswered (world s0) (op_of c) (limit_of c) (stepped (world s) i p (running_asks o.machine) Idle) p r
-        → IsAnswered (world s0) (op_of c) (limit_of c) (world (stepped_index s i e o.machine s'.spare)) (party_of o.state) r
+        → IsAnswered (world s0) (op_of c) (limit_of c) (world (stepped_index s i e o.machine s'.spare)) (party_of o.start.state) r
     of_party (once.Worn node word) end = end
     of_party (once.Spent clock) end = end
     of_party (once.Done placed) (causes, old, place, hops, same, shape) = (causes, old, place, hops, same, shape_of_party shape)
@@ -457,20 +453,20 @@ module _ (s0 s s' : Index) (i : ℕ) (c : CoreCall) (result : Option (Once Place
     of_party (once.Again (again.Epoch first second)) end = absurd end
 
     -- what it leaves of the log
-    ended_log : KeepsLayer (world s0) (stepped (world s) i p (running_asks o.machine) Idle) × LeavesLines (name_asked (op_of c)) o.state.caller (world s0) (stepped (world s) i p (running_asks o.machine) Idle) answer
+    ended_log : KeepsLayer (world s0) (stepped (world s) i p (running_asks o.machine) Idle) × LeavesLines (name_asked (op_of c)) o.start.state.caller (world s0) (stepped (world s) i p (running_asks o.machine) Idle) answer
     ended_log =
         log_ends (name_asked (op_of c)) (change_of (op_of c)) (world s0) (layered s) i p (footing_of o.machine) no_debt (running_asks o.machine) x answer o.index.layered o.call.trying line_at
         (o.call.stage ∙ sym (footing_stage o.machine)) o.log
         (subst (λ (t : Turn Running (Once Placed)). FootStep s.layout s.generation e.caller (footing_of o.machine) (running_asks o.machine) x (footing_after t) (reply_of t)) done foot)
         (subst (AfterCall (world s0) i (op_of c) (limit_of c) (world s) p o.machine) done goes).3
 
-    lines_of_party : (r : Once Placed) → LeavesLines (name_asked (op_of c)) o.state.caller (world s0) (stepped (world s) i p (running_asks o.machine) Idle) r
-        → LeavesLines (name_asked (op_of c)) o.state.caller (world s0) (world (stepped_index s i e o.machine s'.spare)) r
+    lines_of_party : (r : Once Placed) → LeavesLines (name_asked (op_of c)) o.start.state.caller (world s0) (stepped (world s) i p (running_asks o.machine) Idle) r
+        → LeavesLines (name_asked (op_of c)) o.start.state.caller (world s0) (world (stepped_index s i e o.machine s'.spare)) r
     lines_of_party (once.Worn node word) lines = lines
     lines_of_party (once.Spent clock) lines = lines
     lines_of_party (once.Done placed) lines = ⊎_elim
         (λ (kept : HasKeptList (world s0) (stepped (world s) i p (running_asks o.machine) Idle) × KeepsLines (world s0) (stepped (world s) i p (running_asks o.machine) Idle)). inl kept)
-        (λ (made : IsMergedSince (name_asked (op_of c)) (world s0) (stepped (world s) i p (running_asks o.machine) Idle) × MakesReady o.state.caller (world s0) (stepped (world s) i p (running_asks o.machine) Idle)).
+        (λ (made : IsMergedSince (name_asked (op_of c)) (world s0) (stepped (world s) i p (running_asks o.machine) Idle) × MakesReady o.start.state.caller (world s0) (stepped (world s) i p (running_asks o.machine) Idle)).
         inr (merge_with_parties made.0, ready_with_parties made.1))
         lines
     lines_of_party (once.Again (again.NeedsSplit n)) made = ready_with_parties made
@@ -493,8 +489,8 @@ module _ (s0 s s' : Index) (i : ℕ) (c : CoreCall) (result : Option (Once Place
 
     ended_ways : LengthenWithin (world s0) (stepped (world s) i p (running_asks o.machine) Idle)
     ended_ways =
-        tries_lengthen (name_asked (op_of c)) (change_of (op_of c)) (world s0) (stepped (world s) i p (running_asks o.machine) Idle) p.stage o.state.caller answer
-        o.call.trying.start.layout o.call.trying.start.generation (walks_come s0 o.before o.still.calls).quiet
+        tries_lengthen (name_asked (op_of c)) (change_of (op_of c)) (world s0) (stepped (world s) i p (running_asks o.machine) Idle) p.stage o.start.state.caller answer
+        o.call.trying.start.layout o.call.trying.start.generation (walks_come s0 o.start.before o.start.still.calls).quiet
         (subst (λ (v : Index). AreQuiet v.layout v.generation (nodes_of (world v))) is (walks_come s' t.index (lone_none answer answered)).quiet)
         ended_nodes.0 ended_nodes.1 (subst (AfterCall (world s0) i (op_of c) (limit_of c) (world s) p o.machine) done goes).3 ended_log.1
 
@@ -511,17 +507,17 @@ module _ (s0 s s' : Index) (i : ℕ) (c : CoreCall) (result : Option (Once Place
 
     pub lone_tries : TriesAlone s0 i c s' answer
     lone_tries = record {
-      state = o.state;
-      there = o.there;
-      named = o.named;
-      answered = subst (λ (w : World). IsAnswered (world s0) (op_of c) (limit_of c) w (party_of o.state) answer) (sym (ap world is)) (of_party answer ended);
+      state = o.start.state;
+      there = o.start.there;
+      named = o.start.named;
+      answered = subst (λ (w : World). IsAnswered (world s0) (op_of c) (limit_of c) w (party_of o.start.state) answer) (sym (ap world is)) (of_party answer ended);
       states = entries_are (Done answer) done;
       layout = same_layout;
       generation = same_generation;
       base = ap (λ (v : Index). v.base) is ∙ o.same_base;
       stamps = same_stamps;
       layer = subst (KeepsLayer (world s0)) (sym (ap world is)) ended_log.0;
-      lines = subst (λ (w : World). LeavesLines (name_asked (op_of c)) o.state.caller (world s0) w answer) (sym (ap world is)) (lines_of_party answer ended_log.1);
+      lines = subst (λ (w : World). LeavesLines (name_asked (op_of c)) o.start.state.caller (world s0) w answer) (sym (ap world is)) (lines_of_party answer ended_log.1);
       ways = subst (LengthenWithin (world s0)) (sym (ap world is)) ended_ways;
       weighs = weighs;
     }

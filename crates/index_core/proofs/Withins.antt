@@ -49,15 +49,15 @@ use Rattle.index_core.proofs.Quiet.{quiet_is_still}
 use Rattle.index_core.proofs.Tries.{Lone, flight_each, flight_locks, lone_flies, lone_there}
 
 -- what a call in flight has written
-has_written : (s0 s : Index) (i : ℕ) (c : CoreCall) (o : Lone s0 s i c) → HasWritten s0 o.state.caller o.state.index c (Some o.machine) s
+has_written : (s0 s : Index) (i : ℕ) (c : CoreCall) (o : Lone s0 s i c) → HasWritten s0 o.start.state.caller o.start.state.index c (Some o.machine) s
 has_written s0 s i c o = ⊎_elim
     (λ (none : (placed_in (stage_of o.machine) ≡ None) × (s.history ≡ s0.history)). inl none)
-    (λ (one : (change : Change) × (s.history ≡ s0.history ++ record { caller = o.state.caller; index = o.state.index; change = change } ∷ []) × (placed_in (stage_of o.machine) ≢ None) × (change_of (op_of c) ≡ Some change)).
-    inr (one.0, one.3, place (placed_in (stage_of o.machine)) refl one.2 (ap length one.1 ∙ length-append s0.history (record { caller = o.state.caller; index = o.state.index; change = one.0 } ∷ [])), one.1))
+    (λ (one : (change : Change) × (s.history ≡ s0.history ++ record { caller = o.start.state.caller; index = o.start.state.index; change = change } ∷ []) × (placed_in (stage_of o.machine) ≢ None) × (change_of (op_of c) ≡ Some change)).
+    inr (one.0, one.3, place (placed_in (stage_of o.machine)) refl one.2 (ap length one.1 ∙ length-append s0.history (record { caller = o.start.state.caller; index = o.start.state.index; change = one.0 } ∷ [])), one.1))
     o.call.trying.written
   where
     cut : PartyState
-    cut = state_with o.state (length s0.history) o.machine
+    cut = state_with o.start.state (length s0.history) o.machine
 
     place : (p : Option ℕ) → placed_in (stage_of o.machine) ≡ p → p ≢ None → length s.history ≡ length s0.history + 1 → p ≡ Some (length s0.history)
     place None told placed long = absurd (placed refl)
@@ -76,9 +76,9 @@ shows_at_most (asked.Del name) stage = omega arith
 
 flight_cut : (s0 s : Index) (i : ℕ) (c : CoreCall) → Lone s0 s i c → CutsOff s0 i c s
 flight_cut s0 s i c o = record {
-  state = o.state;
-  there = o.there;
-  cut = state_with o.state (length s0.history) o.machine;
+  state = o.start.state;
+  there = o.start.there;
+  cut = state_with o.start.state (length s0.history) o.machine;
   states = o.states;
   own = refl;
   index = refl;

@@ -49,7 +49,7 @@ returns-in-Some g c =
     c.args.steps.now c.steps.invariant.2 in
     record {
       tries = e.tries;
-      before = c.steps.invariant.0.before;
+      before = c.steps.invariant.0.start.before;
       quiet = e.quiet c.requires.quiet;
       spare = e.spare;
       each_lock = e.each_lock;
