@@ -83,17 +83,21 @@ abbrev pub TurnStands : Index → Index → ℕ → ℕ → ℕ → MakeTurn →
 TurnStands s0 s i stamp release (Taking terms) = (s.words ≡ s0.words) × (Taking terms ≡ making_from s0.layout s0.generation stamp release)
 TurnStands s0 s i stamp release (Working work) = LoneTurning (layered s0) stamp release i work (layered s)
 
--- A turn of the party i is in flight, and nothing else, as it was s0 when the turn began.
-pub record LoneTurn (s0 s : Index) (i stamp release : ℕ) : Type 0 where
+-- What the turn has found, before which the index was s0: nothing in flight.
+pub record TurnStart (s0 : Index) (i stamp : ℕ) : Type 0 where
   pub before : IsIndex s0
   pub quiet : IsQuiet s0
-  pub index : IsIndex s
   pub some_stamp : 1 ≤ stamp
   pub small : stamp < 2 ^ 64
   pub state : PartyState
-  pub making : MakeTurn
   pub there : get_elem? s0.states i ≡ some state
-  pub is : s ≡ record s0 { words = s.words; states = set s0.states i (record state { turn = Some making }) }
+
+-- A turn of the party i is in flight, and nothing else, as it was s0 when the turn began.
+pub record LoneTurn (s0 s : Index) (i stamp release : ℕ) : Type 0 where
+  pub start : TurnStart s0 i stamp
+  pub index : IsIndex s
+  pub making : MakeTurn
+  pub is : s ≡ record s0 { words = s.words; states = set s0.states i (record (start.state) { turn = Some making }) }
   pub stands : TurnStands s0 s i stamp release making
   pub keeps : KeepsNodes s0 s
   pub weighs : weight_sum (world s) ≤ weight_of s0
@@ -124,25 +128,20 @@ begun_weighs s0 s i stamp release calls starts =
 
 pub lone_turn_begins : (s0 s : Index) (i stamp release : ℕ) → IsIndex s0 → IsQuiet s0 → 1 ≤ stamp → stamp < 2 ^ 64 → StartsTurn s0 i stamp release s → IsIndex s → LoneTurn s0 s i stamp release
 lone_turn_begins s0 s i stamp release is0 quiet some_stamp small starts is = record {
-  before = is0;
-  quiet = quiet;
+  start = record { before = is0; quiet = quiet; some_stamp = some_stamp; small = small; state = starts.state; there = starts.there };
   index = is;
-  some_stamp = some_stamp;
-  small = small;
-  state = starts.state;
   making = making_from s0.layout s0.generation stamp release;
-  there = starts.there;
   is = starts.is ∙ ap (λ (w : List ℕ). record s0 { words = w; states = set s0.states i (record (starts.state) { turn = Some (making_from s0.layout s0.generation stamp release) }) }) (sym (ap (λ (v : Index). v.words) starts.is));
   stands = (ap (λ (v : Index). v.words) starts.is, refl);
   keeps = begun_keeps s0 s i stamp release starts;
   weighs = let same = begun_weighs s0 s i stamp release quiet.calls starts in omega (arith, same);
 }
 
-pub lone_turn_there : (s0 s : Index) (i stamp release : ℕ) (o : LoneTurn s0 s i stamp release) → get_elem? s.states i ≡ some (record (o.state) { turn = Some o.making })
-lone_turn_there s0 s i stamp release o = ap (λ (v : Index). get_elem? v.states i) o.is ∙ set_here s0.states i (record (o.state) { turn = Some o.making }) o.state o.there
+pub lone_turn_there : (s0 s : Index) (i stamp release : ℕ) (o : LoneTurn s0 s i stamp release) → get_elem? s.states i ≡ some (record (o.start.state) { turn = Some o.making })
+lone_turn_there s0 s i stamp release o = ap (λ (v : Index). get_elem? v.states i) o.is ∙ set_here s0.states i (record (o.start.state) { turn = Some o.making }) o.start.state o.start.there
 
 pub lone_turn_flies : (s0 s : Index) (i stamp release : ℕ) → LoneTurn s0 s i stamp release → IsTurning s i
-lone_turn_flies s0 s i stamp release o = record { state = record (o.state) { turn = Some o.making }; machine = o.making; there = lone_turn_there s0 s i stamp release o; flies = refl }
+lone_turn_flies s0 s i stamp release o = record { state = record (o.start.state) { turn = Some o.making }; machine = o.making; there = lone_turn_there s0 s i stamp release o; flies = refl }
 
 abbrev pub left_of_turn : Option MakeTurn → ℕ
 left_of_turn None = 0
@@ -197,7 +196,7 @@ takes_lock word took = ⊎_elim
 
 module _ (s0 s s' : Index) (i stamp release : ℕ) (o : LoneTurn s0 s i stamp release) (result : Option TurnReply) (t : TurnSteps s i s' result) (is' : IsIndex s') where
   abbrev st : PartyState
-  st = record (o.state) { turn = Some o.making }
+  st = record (o.start.state) { turn = Some o.making }
 
   at_i : get_elem? s.states i ≡ some st
   at_i = lone_turn_there s0 s i stamp release o
@@ -225,12 +224,12 @@ module _ (s0 s s' : Index) (i stamp release : ℕ) (o : LoneTurn s0 s i stamp re
 
   -- beside words and this turn all is as before
   abbrev with_words : List ℕ → Option MakeTurn → Index
-  with_words w next = record s0 { words = w; states = set s0.states i (record (o.state) { turn = next }) }
+  with_words w next = record s0 { words = w; states = set s0.states i (record (o.start.state) { turn = next }) }
 
   left_is : s' ≡ with_words s'.words (turn_after turn)
   left_is =
-      let states : set s.states i (record st { turn = turn_after turn }) ≡ set s0.states i (record (o.state) { turn = turn_after turn }) =
-      ap (λ (v : Index). set v.states i (record st { turn = turn_after turn })) o.is ∙ set_twice s0.states i st (record (o.state) { turn = turn_after turn }) in
+      let states : set s.states i (record st { turn = turn_after turn }) ≡ set s0.states i (record (o.start.state) { turn = turn_after turn }) =
+      ap (λ (v : Index). set v.states i (record st { turn = turn_after turn })) o.is ∙ set_twice s0.states i st (record (o.start.state) { turn = turn_after turn }) in
       stepped ∙ (λ k. record (o.is k) { words = words'; states = states k }) ∙ ap (λ (w : List ℕ). with_words w (turn_after turn)) (sym (ap (λ (v : Index). v.words) stepped))
 
   -- what the layer and the turns are then
@@ -249,7 +248,7 @@ module _ (s0 s s' : Index) (i stamp release : ℕ) (o : LoneTurn s0 s i stamp re
   Ran (Done answer) z = IsLoneTurn (layered s0) stamp release answer z
 
   idle0 : IsIdle (layered s0)
-  idle0 = quiet_is_idle_for_turns s0 o.before o.quiet
+  idle0 = quiet_is_idle_for_turns s0 o.start.before o.start.quiet
 
   -- a lone turn that is done leaves what it leaves whatever rests afterwards
   rests_as : (answer : Turned) (z z' : Layered) → z'.whole ≡ z.whole → IsLayered z' → ((j : ℕ) (u : Turning) → get_elem? z'.turns j ≡ some u → IsAtRest u) → IsLoneTurn (layered s0) stamp release answer z → IsLoneTurn (layered s0) stamp release answer z'
@@ -271,18 +270,18 @@ module _ (s0 s s' : Index) (i stamp release : ℕ) (o : LoneTurn s0 s i stamp re
 
   layered_end : (words : List ℕ) (next : Option MakeTurn) → s'.words ≡ words → turn_after turn ≡ next
       → Path Layered (record { whole = record (footed s0) { world = record (world s0) { words = words } }; turns = set (layered s0).turns i (turning_of next) }) (layered s')
-  layered_end words next at_words at_next = layered_is s0 i o.state next o.there words ∙ (λ k. layered (with_words (sym at_words k) (sym at_next k))) ∙ ap layered (sym left_is)
+  layered_end words next at_words at_next = layered_is s0 i o.start.state next o.start.there words ∙ (λ k. layered (with_words (sym at_words k) (sym at_next k))) ∙ ap layered (sym left_is)
 
   -- nothing is in flight once its turn is done
   quiet_then : turn_after turn ≡ None → IsQuiet s'
   quiet_then done = record {
-    calls = none_now s0 s' i now states (λ (d : PartyState). d.machine) (o.quiet.calls i o.state o.there) o.quiet.calls;
-    turns = none_now s0 s' i now states (λ (d : PartyState). d.turn) done o.quiet.turns;
-    rechecks = none_now s0 s' i now states (λ (d : PartyState). d.recheck) (o.quiet.rechecks i o.state o.there) o.quiet.rechecks;
+    calls = none_now s0 s' i now states (λ (d : PartyState). d.machine) (o.start.quiet.calls i o.start.state o.start.there) o.start.quiet.calls;
+    turns = none_now s0 s' i now states (λ (d : PartyState). d.turn) done o.start.quiet.turns;
+    rechecks = none_now s0 s' i now states (λ (d : PartyState). d.recheck) (o.start.quiet.rechecks i o.start.state o.start.there) o.start.quiet.rechecks;
   }
     where
       now : PartyState
-      now = record (o.state) { turn = turn_after turn }
+      now = record (o.start.state) { turn = turn_after turn }
 
       states : s'.states ≡ set s0.states i now
       states = ap (λ (v : Index). v.states) left_is
@@ -298,8 +297,8 @@ module _ (s0 s s' : Index) (i stamp release : ℕ) (o : LoneTurn s0 s i stamp re
   takes : (terms : Terms) → o.making ≡ Taking terms → s.words ≡ s0.words → Taking terms ≡ making_from s0.layout s0.generation stamp release → StandsAfter (making_turned (Taking terms) (turn_told s (Taking terms)))
   takes terms same words from =
       let z : Layered = layered s0 in
-      let at0 : get_elem? z.turns i ≡ some resting = map_there turn_of s0.states i o.state o.there ∙ ap (λ (t : Option MakeTurn). some (turning_of t)) (o.quiet.turns i o.state o.there) in
-      let begins = turns_begin z i resting stamp release idle0 at0 o.some_stamp o.small in
+      let at0 : get_elem? z.turns i ≡ some resting = map_there turn_of s0.states i o.start.state o.start.there ∙ ap (λ (t : Option MakeTurn). some (turning_of t)) (o.start.quiet.turns i o.start.state o.start.there) in
+      let begins = turns_begin z i resting stamp release idle0 at0 o.start.some_stamp o.start.small in
       let layout : s.layout ≡ s0.layout = ap (λ (v : Index). v.layout) o.is in
       let zero : turn_told s (Taking terms) ≡ 0 = (λ k. got (layout k) (words k) (making_asks (from k))) ∙ takes_lock (got s0.layout s0.words (making_asks (making_from s0.layout s0.generation stamp release))) begins.taken in
       let terms_is : terms ≡ record { layout = s0.layout; generation = s0.generation; stamp = stamp; release = release } = ap making_terms from in
@@ -346,18 +345,13 @@ module _ (s0 s s' : Index) (i stamp release : ℕ) (o : LoneTurn s0 s i stamp re
 
       by_turn : (u : Turn MakeTurn TurnReply) → turn ≡ u → StandsAfter u → GoesBelow making_left (making_left o.making) u → (next : LoneTurn s0 s' i stamp release) × (turn_left_at s' i < turn_left_at s i) × HoldsLock (Some next.making)
       by_turn (Go (Working work)) same stands less =
-          let now : PartyState = record (o.state) { turn = Some (Working work) } in
+          let now : PartyState = record (o.start.state) { turn = Some (Working work) } in
           let is : s' ≡ with_words s'.words (Some (Working work)) = left_is ∙ ap (λ (u : Turn MakeTurn TurnReply). with_words s'.words (turn_after u)) same in
-          let there : get_elem? s'.states i ≡ some now = ap (λ (v : Index). get_elem? v.states i) is ∙ set_here s0.states i now o.state o.there in (
+          let there : get_elem? s'.states i ≡ some now = ap (λ (v : Index). get_elem? v.states i) is ∙ set_here s0.states i now o.start.state o.start.there in (
             record {
-              before = o.before;
-              quiet = o.quiet;
+              start = o.start;
               index = is';
-              some_stamp = o.some_stamp;
-              small = o.small;
-              state = o.state;
               making = Working work;
-              there = o.there;
               is = is;
               stands = stands;
               keeps = leaves_both (facts (world s0)) (facts (world s)) (facts (world s')) o.keeps t.keeps;
@@ -385,9 +379,9 @@ module _ (s0 s s' : Index) (i stamp release : ℕ) (o : LoneTurn s0 s i stamp re
       by_turn (Done (reply.Turned answer)) same stands =
           let replied : Some r ≡ Some (reply.Turned answer) = sym ended ∙ answered ∙ ap turn_reply same in
           let after : turn_after turn ≡ None = ap turn_after same in
-          let none_before : record (o.state) { turn = None } ≡ o.state = λ k. record (o.state) { turn = sym (o.quiet.turns i o.state o.there) k } in
-          let states : set s0.states i (record (o.state) { turn = turn_after turn }) ≡ s0.states =
-          ap (λ (t : Option MakeTurn). set s0.states i (record (o.state) { turn = t })) after ∙ ap (set s0.states i) none_before ∙ set_own s0.states i o.state o.there in (
+          let none_before : record (o.start.state) { turn = None } ≡ o.start.state = λ k. record (o.start.state) { turn = sym (o.start.quiet.turns i o.start.state o.start.there) k } in
+          let states : set s0.states i (record (o.start.state) { turn = turn_after turn }) ≡ s0.states =
+          ap (λ (t : Option MakeTurn). set s0.states i (record (o.start.state) { turn = t })) after ∙ ap (set s0.states i) none_before ∙ set_own s0.states i o.start.state o.start.there in (
             answer,
             (let one : r ≡ reply.Turned answer = cc in one),
             (let same = left_is ∙ (λ k. record s0 { words = s'.words; states = states k }) in

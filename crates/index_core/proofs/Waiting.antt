@@ -229,16 +229,16 @@ turns_begin_so s0 s i stamp release before is0 still some_stamp small starts is 
 -- a turn that has the lock leaves the index still for others, where nothing else is in flight
 turn_is_still : (s0 s : Index) (i stamp release : ℕ) (o : LoneTurn s0 s i stamp release) → HoldsLock (Some o.making) → (party : ℕ) → party ≢ i → IsStill party s
 turn_is_still s0 s i stamp release o holds party other = record {
-  calls = none_now s0 s i now states (λ (d : PartyState). d.machine) (o.quiet.calls i o.state o.there) o.quiet.calls;
+  calls = none_now s0 s i now states (λ (d : PartyState). d.machine) (o.start.quiet.calls i o.start.state o.start.there) o.start.quiet.calls;
   turns = λ j e at_j. ⊎_elim
       (λ (mine : (j ≡ i) × (now ≡ e)). inr ((λ same. other (sym same ∙ mine.0)), subst (λ (d : PartyState). HoldsLock d.turn) mine.1 holds))
-      (λ (else : (j ≢ i) × (get_elem? s0.states j ≡ some e)). inl (o.quiet.turns j e else.1))
+      (λ (else : (j ≢ i) × (get_elem? s0.states j ≡ some e)). inl (o.start.quiet.turns j e else.1))
       (stood_before s0 s i now states j e at_j);
-  rechecks = none_now s0 s i now states (λ (d : PartyState). d.recheck) (o.quiet.rechecks i o.state o.there) o.quiet.rechecks;
+  rechecks = none_now s0 s i now states (λ (d : PartyState). d.recheck) (o.start.quiet.rechecks i o.start.state o.start.there) o.start.quiet.rechecks;
 }
   where
     now : PartyState
-    now = record (o.state) { turn = Some o.making }
+    now = record (o.start.state) { turn = Some o.making }
 
     states : s.states ≡ set s0.states i now
     states = ap (λ (v : Index). v.states) o.is
@@ -296,7 +296,7 @@ module _ (s0 s : Index) (i stamp release before now : ℕ) (o : Turns s0 s i sta
     turns_end_so answer ended = ⊎_elim
         (λ (alone : IsAlone s0 s i stamp release before now).
         let end = lone_turn_ends s0 s s' i stamp release alone.turn result t is' (reply.Turned answer) ended in
-        (subst (λ (a : Turned). TurnsAlone s0 stamp release a s') (turned_same (sym end.1)) end.2, alone.turn.quiet, end.3))
+        (subst (λ (a : Turned). TurnsAlone s0 stamp release a s') (turned_same (sym end.1)) end.2, alone.turn.start.quiet, end.3))
         (λ (waits : Waits s0 s i stamp release).
         absurd (let no : Some (reply.Turned answer) ≡ Some (reply.Held (at s0.layout s0.words Updater)) = sym ended ∙ waits_held s0 s s' i stamp release waits result t in cc))
         o

@@ -102,8 +102,8 @@ lone_cut s0 s i c o = record { off = flight_cut s0 s i c o; each_lock = flight_e
 
 pub turn_cut : (s0 s : Index) (i stamp release : ℕ) → LoneTurn s0 s i stamp release → CutsTurnOff s0 i s
 turn_cut s0 s i stamp release o = record {
-  state = o.state;
-  there = o.there;
+  state = o.start.state;
+  there = o.start.there;
   making = o.making;
   states = ap (λ (v : Index). v.states) o.is;
   history = ap (λ (v : Index). v.history) o.is;
