@@ -106,10 +106,7 @@ was first quiet (steps_turn {begun = begun} {calls = calls} {old = old} {party =
       calls = calls;
       earlier = old;
       run = run;
-      state = step.state;
-      before = step.making;
-      there = ap (λ k. get_elem? old.states k) mine.0 ∙ step.there;
-      turns = step.turns;
+      turning = record { state = step.state; machine = step.making; there = ap (λ k. get_elem? old.states k) mine.0 ∙ step.there; flies = step.turns };
       step = went;
       may = step.freed.comes making n went frees;
     })

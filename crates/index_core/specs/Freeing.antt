@@ -10,7 +10,7 @@ use Rattle.updater.specs.declared.making.MakeTurn.{MakeTurn}
 use Rattle.updater.specs.declared.making.TurnReply.{TurnReply}
 use Rattle.updater.specs.Makings.{making_turned}
 use Rattle.index_core.specs.declared.party.PartyState.{PartyState}
-use Rattle.index_core.specs.Indexes.{Index, world}
+use Rattle.index_core.specs.Indexes.{Index, IsTurning, world}
 use Rattle.index_core.specs.Lone.{IsQuiet}
 use Rattle.index_core.specs.Schedules.{BegunCall, AnsweredCall, Runs}
 use Rattle.index_core.specs.Turns.{IsToFree, MayFree, TurnSteps, turn_told}
@@ -22,12 +22,9 @@ pub record WasReleased (first : Index) (party : ℕ) (making : MakeTurn) (n : �
   pub calls : List AnsweredCall
   pub earlier : Index
   pub run : Runs first begun calls earlier
-  pub state : PartyState
-  pub before : MakeTurn
-  pub there : get_elem? earlier.states party ≡ some state
-  pub turns : state.turn ≡ Some before
-  pub step : making_turned before (turn_told earlier before) ≡ Go making
-  pub may : MayFree earlier before n
+  pub turning : IsTurning earlier party
+  pub step : making_turned turning.machine (turn_told earlier turning.machine) ≡ Go making
+  pub may : MayFree earlier turning.machine n
 
 -- Wherever a schedule stands, a turn that is to make a node FREE took a stamp of its release from that node.
 abbrev pub FreedWereReleased : Type 0
