@@ -135,7 +135,7 @@ module _ (s0 s s' : Index) (i : ℕ) (low : List ℕ) (count : ℕ) (result : Op
 
   -- one that is answered before is told early
   pub part_is_early : (answer : Once Placed) (found : Bool) → (HasListing s i → found ≡ true) → found ≡ false → result ≡ Some answer → IsEarly answer
-  part_is_early answer found tells no answered =
+  part_is_early answer found tells lacks answered =
       let done = done_of _ answer (sym (turn_told s0 s s' i c result o on) ∙ answered) in
       is_early m (told s m) answer done (subst IsSome (sym o.count) refl) (unlisted (listed_in m) refl)
     where
@@ -143,11 +143,11 @@ module _ (s0 s s' : Index) (i : ℕ) (low : List ℕ) (count : ℕ) (result : Op
       unlisted None is = refl
       unlisted (Some words) is = absurd (
           let yes = tells (words, record { state = state_with o.start.state (length s0.history) m; machine = m; there = lone_there s0 s i c o; flies = refl; listed = is }) in
-          let fails = no in
+          let fails = lacks in
           cc)
 
   pub part_stops : (answer : Once Placed) (found : Bool) → (HasListing s i → found ≡ true) → found ≡ false → result ≡ Some answer → EndsAlone s0 s' i low count (part_whole (early_of answer))
-  part_stops answer found tells no answered =
+  part_stops answer found tells lacks answered =
       ends_alone answer answered (part_whole (early_of answer))
-      (part_early s0 s' i low count o.start.before o.start.still answer (part_is_early answer found tells no answered) (lone_tries s0 s s' i c result o on answer answered)
+      (part_early s0 s' i low count o.start.before o.start.still answer (part_is_early answer found tells lacks answered) (lone_tries s0 s s' i c result o on answer answered)
       (lone_each s0 s s' i c result o on answer answered) (lone_locks s0 s s' i c result o on answer answered))
