@@ -66,8 +66,7 @@ handed s i callers c less has fresh table me number index left cut kept pins unp
       pins = pins;
       unpinned = unpinned;
       pinning = pinning ∙ sym number;
-    } in
-    (
+    } in (
       numbered_more (IsCallerOf s) (λ (d : Caller). d.number) i callers c has one number,
       each_end
           (λ _ d. ((seen_by d).seen ≡ []) × (d.index ≡ 0) × ((seen_by d).taken ≡ 0) × ((seen_by d).added ≡ 0) × ((seen_by d).none_free ≡ false) × (d.left ≡ None)) callers c fresh (
