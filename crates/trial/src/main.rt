@@ -37,11 +37,12 @@ fn main(rt: HostRuntime) -> Result<()> {
     }
 }
 
-/// What one word says: times, or a report that is read once.
+/// What one word says: times, of the image or the report on standard input where it is about one; or a report that is
+/// read once.
 fn one_word(rt: HostRuntime, verb: &str) -> Result<()> {
     match verb {
         "bytes" => time_bytes(&rt),
-        "sound" => time_sound(&rt),
+        "sound" => time_sound(&rt, &input(rt)?),
         "read" => read_once(&rt, &input(rt)?),
         "reading" => time_reading(&rt, &input(rt)?),
         _ => bail!("{USAGE}"),
