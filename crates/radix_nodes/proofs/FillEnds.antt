@@ -5,10 +5,13 @@ use Rattle.pm_words.specs.declared.action.Action.{Action}
 use Rattle.pm_words.specs.declared.fence.Fence.{Fence}
 use Rattle.pm_words.specs.Fences.{IsFence, fence_start, fence_next, FenceTurn}
 use Rattle.pm_words.specs.Fences as turn
+use Rattle.pm_words.specs.Turns.{GoesBelow}
 use Rattle.pm_words.proofs.Fencing.{fence_turns}
 use Rattle.radix_nodes.specs.declared.filling.Filling.{Filling}
 use Rattle.radix_nodes.specs.declared.filling.Filling.TheVariants.{Store, Drain}
-use Rattle.radix_nodes.specs.Fills.{filling_next, next_line, IsFilling, filling_left}
+use Rattle.radix_nodes.specs.declared.fill_leaf.FillLeaf.{FillLeaf}
+use Rattle.radix_nodes.specs.declared.fill_cell.FillCell.{FillCell}
+use Rattle.radix_nodes.specs.Fills.{filling_next, next_line, IsFilling, filling_left, lines_of, fill_leaf_goes, fill_leaf_turned, fill_leaf_takes, fill_leaf_left, fill_cell_goes, fill_cell_turned, fill_cell_takes, fill_cell_left}
 
 -- what is left of a filling is in range, and less
 abbrev pub Fewer : ℕ → ℕ → Option Filling → Type 0
@@ -40,3 +43,18 @@ drain_fewer lines line fence got lt is fits = falls fence _ _ (fence_turns 0 fen
 pub filling_fewer : (lines : ℕ) (filling : Filling) (got : ℕ) → IsFilling lines filling → got < 2 ^ 64 → Fewer lines (filling_left lines filling) (filling_next lines filling got)
 filling_fewer lines (Store offset) got is fits = store_fewer lines offset is
 filling_fewer lines (Drain line fence) got is fits = drain_fewer lines line fence got is.0 is.1 fits
+
+-- so do the machines
+pub leaf_fewer : (m : FillLeaf) (got : ℕ) → fill_leaf_takes m got → GoesBelow {A = Unit {0}} fill_leaf_left (fill_leaf_left m) (fill_leaf_turned m got)
+leaf_fewer m got takes = of (filling_next 1 m.at got) (filling_fewer 1 m.at got takes.0.here takes.1)
+  where
+    of : (next : Option Filling) → Fewer 1 (filling_left 1 m.at) next → GoesBelow {A = Unit {0}} fill_leaf_left (fill_leaf_left m) (fill_leaf_goes m next)
+    of (Some at) fewer = fewer.1
+    of None fewer = tt
+
+pub cell_fewer : (m : FillCell) (got : ℕ) → fill_cell_takes m got → GoesBelow {A = Unit {0}} fill_cell_left (fill_cell_left m) (fill_cell_turned m got)
+cell_fewer m got takes = of (filling_next (lines_of m.cell.kind) m.at got) (filling_fewer (lines_of m.cell.kind) m.at got takes.0.here takes.1)
+  where
+    of : (next : Option Filling) → Fewer (lines_of m.cell.kind) (filling_left (lines_of m.cell.kind) m.at) next → GoesBelow {A = Unit {0}} fill_cell_left (fill_cell_left m) (fill_cell_goes m next)
+    of (Some at) fewer = fewer.1
+    of None fewer = tt

@@ -6,7 +6,7 @@ ghost use Rattle.radix_nodes.specs.Fills.{lines_of};
 use crate::cell::Cell;
 use crate::filling::Filling;
 use pm_words::codes::reference::{FORM_4, FORM_16, FORM_48};
-use pm_words::{Action, Layout};
+use pm_words::{Action, Layout, Machine, Turn};
 
 /// Stores the words of a cell that nothing leads to, and makes them durable.
 #[derive(Clone, Copy)]
@@ -17,13 +17,45 @@ pub struct FillCell {
     pub at: Filling,
 }
 
+impl Machine for FillCell {
+    ghost use Rattle.radix_nodes.specs.Fills.{IsFillCell, fill_cell_asks, fill_cell_turned, fill_cell_takes};
+    ghost use Rattle.radix_nodes.specs.Fills.{fill_cell_left};
+
+    type Answer = ();
+
+    ghost fits = { IsFillCell };
+
+    ghost asks = { fill_cell_asks };
+
+    ghost turned = { fill_cell_turned };
+
+    ghost takes = { fill_cell_takes };
+
+    ghost left = { fill_cell_left };
+
+    fn action(&self) -> Action {
+        let kind = self.cell.kind;
+        let offset = self.at.offset(lines_of(kind));
+        let word = self.layout.cell_word(kind, self.number, offset);
+        self.at
+            .action(self.layout.cached(word), self.cell.word(offset))
+    }
+
+    fn resume(self, got: u64) -> Turn<FillCell, ()> {
+        let mut next = self;
+        match next.advance(got) {
+            None => Turn::Go(next),
+            Some(()) => Turn::Done(()),
+        }
+    }
+}
+
 impl FillCell {
     ghost use Rattle.std.specs.Prelude.{◌≡◌, ◌≤◌, ◌<◌};
     ghost use Rattle.pm_words.specs.Layouts.{IsLayout};
     ghost use Rattle.pm_words.specs.Turns.{AdvancesTo};
     ghost use Rattle.pm_words.specs.Locations.{leaf_count};
-    ghost use Rattle.radix_nodes.specs.Fills.{IsFillCell, fill_cell_start, fill_cell_asks, fill_cell_takes};
-    ghost use Rattle.radix_nodes.specs.Fills.{fill_cell_turned};
+    ghost use Rattle.radix_nodes.specs.Fills.{IsFillCell, fill_cell_start, fill_cell_takes, fill_cell_turned};
 
     /// It fills the cell of this number and of this cell's kind with these words.
     pub fn new(layout: Layout, number: u64, cell: Cell) -> FillCell
@@ -39,18 +71,6 @@ impl FillCell {
             cell,
             at: Filling::new(),
         }
-    }
-
-    /// The action that it asks for next.
-    pub fn action(&self) -> Action
-        requires { IsFillCell self.now }
-        ensures { result ≡ fill_cell_asks self.now }
-    {
-        let kind = self.cell.kind;
-        let offset = self.at.offset(lines_of(kind));
-        let word = self.layout.cell_word(kind, self.number, offset);
-        self.at
-            .action(self.layout.cached(word), self.cell.word(offset))
     }
 
     /// Tells it in place the number that its action gave. It goes on, or is done where there is an answer.

@@ -6,7 +6,7 @@ use crate::filling::Filling;
 use crate::key::Key;
 use cat_key::WORDS;
 use pm_words::codes::reference::LEAF;
-use pm_words::{Action, Layout};
+use pm_words::{Action, Layout, Machine, Turn};
 
 /// Stores the words of a leaf that nothing leads to, and makes them durable.
 #[derive(Clone, Copy)]
@@ -18,13 +18,44 @@ pub struct FillLeaf {
     pub at: Filling,
 }
 
+impl Machine for FillLeaf {
+    ghost use Rattle.radix_nodes.specs.Fills.{IsFillLeaf, fill_leaf_asks, fill_leaf_turned, fill_leaf_takes};
+    ghost use Rattle.radix_nodes.specs.Fills.{fill_leaf_left};
+
+    type Answer = ();
+
+    ghost fits = { IsFillLeaf };
+
+    ghost asks = { fill_leaf_asks };
+
+    ghost turned = { fill_leaf_turned };
+
+    ghost takes = { fill_leaf_takes };
+
+    ghost left = { fill_leaf_left };
+
+    fn action(&self) -> Action {
+        let offset = self.at.offset(LEAF);
+        let word = self.layout.leaf_word(self.number, offset);
+        self.at.action(self.layout.cached(word), self.word(offset))
+    }
+
+    fn resume(self, got: u64) -> Turn<FillLeaf, ()> {
+        let mut next = self;
+        match next.advance(got) {
+            None => Turn::Go(next),
+            Some(()) => Turn::Done(()),
+        }
+    }
+}
+
 impl FillLeaf {
     ghost use Rattle.std.specs.Prelude.{◌≡◌, ◌<◌, slice_index};
     ghost use Rattle.pm_words.specs.Layouts.{IsLayout};
     ghost use Rattle.pm_words.specs.Turns.{AdvancesTo};
     ghost use Rattle.pm_words.specs.Locations.{leaf_count};
-    ghost use Rattle.radix_nodes.specs.Fills.{IsFillLeaf, fill_leaf_start, fill_leaf_asks, fill_leaf_takes};
-    ghost use Rattle.radix_nodes.specs.Fills.{fill_leaf_turned, leaf_value};
+    ghost use Rattle.radix_nodes.specs.Fills.{IsFillLeaf, fill_leaf_start, fill_leaf_takes, fill_leaf_turned};
+    ghost use Rattle.radix_nodes.specs.Fills.{leaf_value};
 
     /// It fills the leaf of this number with a key and its node.
     pub fn new(layout: Layout, number: u64, key: Key, node: u64) -> FillLeaf
@@ -41,16 +72,6 @@ impl FillLeaf {
             node,
             at: Filling::new(),
         }
-    }
-
-    /// The action that it asks for next.
-    pub fn action(&self) -> Action
-        requires { IsFillLeaf self.now }
-        ensures { result ≡ fill_leaf_asks self.now }
-    {
-        let offset = self.at.offset(LEAF);
-        let word = self.layout.leaf_word(self.number, offset);
-        self.at.action(self.layout.cached(word), self.word(offset))
     }
 
     /// Tells it in place the number that its action gave. It goes on, or is done where there is an answer.
