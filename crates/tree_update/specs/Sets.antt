@@ -18,11 +18,19 @@ abbrev pub set_of : Turn Change Ended → Turn Set Ended
 set_of (Go change) = Go (record { change = change })
 set_of (Done ended) = Done ended
 
+-- how it has ended isn't told
+abbrev pub untold : {M : Type 0} → Turn M Ended → Turn M (Unit {0})
+untold (Go machine) = Go machine
+untold (Done ended) = Done tt
+
 abbrev pub set_asks : Set → Action
 set_asks set = change_asks set.change
 
 abbrev pub set_turned : Set → ℕ → Turn Set Ended
 set_turned set got = set_of (change_turned set.change got)
+
+abbrev pub set_resumed : Set → ℕ → Turn Set (Unit {0})
+set_resumed set got = untold (set_turned set got)
 
 pub record IsSet (set : Set) : Type 0 where
   pub change : IsChange set.change
@@ -46,6 +54,9 @@ unset_asks unset = change_asks unset.change
 
 abbrev pub unset_turned : Unset → ℕ → Turn Unset Ended
 unset_turned unset got = unset_of (change_turned unset.change got)
+
+abbrev pub unset_resumed : Unset → ℕ → Turn Unset (Unit {0})
+unset_resumed unset got = untold (unset_turned unset got)
 
 -- the zero key isn't taken out
 pub record IsUnset (unset : Unset) : Type 0 where
