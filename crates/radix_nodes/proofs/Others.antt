@@ -19,9 +19,6 @@ pub record OneTo (m : Children) (byte upto found : ℕ) : Type 0 where
 abbrev pub FoundSo : Children → ℕ → ℕ → ℕ → Type 0
 FoundSo m byte upto found = ((found ≡ 0) × NoneTo m byte upto) ⊎ OneTo m byte upto found
 
-pub found_start : (m : Children) (byte : ℕ) → FoundSo m byte 0 0
-found_start m byte = inl (refl, λ b lt apart. absurd (omega arith))
-
 -- no other child is under this byte
 pub found_none : (m : Children) (byte upto found : ℕ) → ((upto ≢ byte → m upto ≢ 0 → ⊥)) → FoundSo m byte upto found → FoundSo m byte (upto + 1) found
 found_none m byte upto found absent so = elim so [

@@ -1,6 +1,6 @@
 -- Powers of 256, and the bytes of a word.
-use Rattle.std.proofs.Common.{◌≡◌, ℕ, zero, suc, ◌+◌, ◌-◌, ◌*◌, ◌/◌, ◌%◌, ◌^◌, ◌<◌, ◌≤◌, refl, sym, ap, ◌∙◌, arith, pow-suc, mul-le-mul_right}
-use Rattle.std.proofs.lemmas.Nat.{pow-add, div-add-mod', div_below}
+use Rattle.std.proofs.Common.{◌≡◌, ℕ, zero, suc, ◌+◌, ◌-◌, ◌*◌, ◌/◌, ◌%◌, ◌^◌, ◌<◌, refl, sym, ap, ◌∙◌, arith, pow-suc}
+use Rattle.std.proofs.lemmas.Nat.{pow-add, div_below}
 
 pub power_pos : (k : ℕ) → 0 < 256 ^ k
 power_pos zero = omega arith
@@ -23,16 +23,7 @@ below_eight P a b c d e f g h (suc (suc (suc (suc (suc (suc zero)))))) lt = g
 below_eight P a b c d e f g h (suc (suc (suc (suc (suc (suc (suc zero))))))) lt = h
 below_eight P a b c d e f g h (suc (suc (suc (suc (suc (suc (suc (suc n)))))))) lt = absurd (omega arith)
 
--- what stands for a byte of a word is no more than the word
-pub byte_below_word : (word p : ℕ) → (word / p % 256) * p ≤ word
-byte_below_word word p =
-    let whole = div-add-mod' word p in
-    let q = word / p in
-    let least : q % 256 ≤ q = omega arith in
-    let times : q % 256 * p ≤ q * p = mul-le-mul_right p least in
-    omega arith
-
--- and with another byte it is a word again
+-- with another byte a word is a word again
 pub record SetFits (word at byte : ℕ) : Type 0 where
   pub new : byte * 2 ^ (8 * at) < 2 ^ 64
   pub all : word - (word / 2 ^ (8 * at) % 256) * 2 ^ (8 * at) + byte * 2 ^ (8 * at) < 2 ^ 64

@@ -12,7 +12,7 @@ use Rattle.tree_row.specs.RowMarks.{IsNoMark, has_mark}
 use Rattle.tree_row.proofs.RowLaw.{has_from, outside_leaves, eviction_mixes}
 use Rattle.tree_row.proofs.MarkLaw.{store_leaves_marks, eviction_leaves_marks}
 use Rattle.layer_map.specs.Places.{is_layer_word, is_of_layer}
-use Rattle.search_layer.specs.Rows.{LayerWords, AreEven, IsLayerMix, root_words, LayerAlike, LayerWordsStay, RowsAlike, ImagesAlike, EvenAreSame, MixesAreEven, EvictionMixes}
+use Rattle.search_layer.specs.Rows.{LayerWords, IsLayerMix, root_words, LayerAlike, LayerWordsStay, RowsAlike, ImagesAlike, EvenAreSame, MixesAreEven, EvictionMixes}
 use Rattle.search_layer.specs.Kept.{KeptLeadsBelow}
 
 -- what holds of each word beside the layer; and of each location
@@ -103,12 +103,6 @@ even_are_same w s even = same_words w s even
 
 pub mixes_are_even : MixesAreEven
 mixes_are_even w s mix even is p = elim (is p) [ inl cached ↦ cached | inr durable ↦ durable ∙ even p ]
-
-pub even_with_itself : (w : LayerWords) → AreEven w w
-even_with_itself w p = refl
-
-pub mix_of_cached : (w s : LayerWords) → IsLayerMix w s w
-mix_of_cached w s p = inl refl
 
 pub mix_of_durable : (w s : LayerWords) → IsLayerMix w s s
 mix_of_durable w s p = inr refl

@@ -1,7 +1,6 @@
 -- What a cell says of the tree in which a grown cell stands with a leaf added to it.
 use Rattle.std.proofs.Common.{◌≡◌, ℕ, ◌+◌, ◌<◌, ◌≤◌, ◌&&◌, sym, subst, ap, ap₂, ◌∙◌, arith, lt-ltb, le-leb}
 use Rattle.pm_words.specs.Offsets.{prefix_offset}
-use Rattle.cat_key.specs.declared.TheConstants.{WORDS}
 use Rattle.radix_nodes.specs.declared.cell.Cell as cells
 use Rattle.radix_nodes.specs.Cells.{children, IsForm, IsCell, words_of, children_of}
 use Rattle.tree_law.specs.Words.{LayerWords, kind_of, number_of, reference_of, cell_in}

@@ -1,7 +1,6 @@
 -- A cell that the tree reaches, as it was read whole, is one in order.
 use Rattle.std.proofs.Common.{◌≡◌, ◌≢◌, ℕ, ◌+◌, ◌^◌, ◌<◌, ◌≤◌, ◌&&◌, leb, ltb, inl, inr, sym, subst, ap, ◌∙◌, arith}
 use Rattle.std.proofs.lemmas.Bool.{cases_lt, leb-true, and_parts}
-use Rattle.cat_key.specs.declared.TheConstants.{WORDS}
 use Rattle.pm_words.specs.Locations.{kind_words}
 use Rattle.pm_words.specs.Offsets.{depth_offset, prefix_offset}
 use Rattle.radix_nodes.specs.declared.cell.Cell as cells

@@ -8,9 +8,6 @@ use Rattle.tree_law.proofs.TreeLaw.{led, has_key, some_or_none}
 use Rattle.tree_law.proofs.SwitchKinds.{leaf_end}
 use Rattle.radix_nodes.specs.Keys.{key_bytes}
 
-root_is : (tree_of fresh_words).root ≡ Leaf 0
-root_is = refl
-
 only : (q : Reference) → IsReached (tree_of fresh_words) q → q ≡ Leaf 0
 only q reach = leaf_end (tree_of fresh_words) 0 q reach
 

@@ -14,7 +14,7 @@ use Rattle.radix_nodes.specs.declared.fill_leaf.FillLeaf.{FillLeaf}
 use Rattle.radix_nodes.specs.declared.fill_cell.FillCell.{FillCell}
 use Rattle.radix_nodes.specs.Keys.{key_bytes}
 use Rattle.radix_nodes.specs.Bytes.{byte_set}
-use Rattle.radix_nodes.specs.Cells.{IsReference, words_of, entry_of}
+use Rattle.radix_nodes.specs.Cells.{words_of, entry_of}
 use Rattle.radix_nodes.specs.Making.{Fits, prefix_word, pair_of, larger_of}
 use Rattle.radix_nodes.specs.Fills.{filling_start, filling_next, IsFilling, IsFillLeaf, filling_left, lines_of}
 use Rattle.radix_nodes.specs.Fills as fills
@@ -242,9 +242,6 @@ module _ (c : Change) (is : IsChange c) where
   wants_after new left is_new less =
       let low = is_new.low in
       goes (at.TakingCell (take_starts l new.cell.kind) new) left (record { layout = is.layout; low = (let le : 1 ≤ new.cell.kind = omega arith in le); high = is_new.high; here = (let lt : 0 < leaf_count l = omega arith in lt) }, refl, refl, is_new) (omega arith)
-
-  leaf_is : (leaf : ℕ) → leaf < leaf_count l → IsReference (leaf_reference leaf)
-  leaf_is leaf lt = let small = few in (omega arith, omega arith)
 
   filled_after : (leaf : ℕ) (place : Site) (left : ℕ) → leaf < leaf_count l → IsSite l c.key place → find_room_most l < left → ChangeAfter c left (leaf_filled c leaf place)
   filled_after leaf (site.Under spot cell byte) left lt is_place less = elim (kind_of cell == 5) as (λ a. (kind_of cell == 5) ≡ a → ChangeAfter c left (cond a (change_finishes c (target.Cell cell (8 + byte)) (leaf_reference leaf) 0 0) (change_to c (at.FindingRoom (find_room_starts l cell byte) spot leaf)))) [
