@@ -110,7 +110,7 @@ impl Finish {
         }
     }
 
-    /// Tells it in place the number that it asked for. It goes on, or is done where there is an answer.
+    /// Tells it in place the number that its action gave. It goes on, or is done where there is an answer.
     pub fn advance(&mut self, got: u64) -> Option<()>
         requires { finish_takes self.old got }
         ensures { AdvancesTo (finish_turned self.old got) self.new result }

@@ -65,7 +65,7 @@ impl Take {
         }
     }
 
-    /// Tells it in place the number that it asked for. It goes on, or is done where there is an answer.
+    /// Tells it in place the number that its action gave. It goes on, or is done where there is an answer.
     pub fn advance(&mut self, got: u64) -> Option<Taken>
         requires { take_takes self.old got }
         ensures { AdvancesTo (take_turned self.old got) self.new result }

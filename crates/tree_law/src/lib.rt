@@ -1,5 +1,5 @@
 //! The search layer as a radix tree of leaves and cells: its law, on plain data and on words. The forms of cells are
-//! those of `radix_nodes`; no machine walks on this tree yet.
+//! those of `radix_nodes`; the machines that walk on this tree and change it are those of the crates above.
 //!
 //! A *leaf* leads its key to a node. A *cell*, the inner node of the tree, has at least two children, leaves or cells,
 //! each under a branch byte; all keys below it begin with its *prefix*, as many bytes as its *depth* says. The tree is

@@ -22,6 +22,7 @@ impl Change {
     ghost use Rattle.tree_update.specs.declared.change.ChangeAt.TheVariants as ChangeAt;
     ghost use Rattle.tree_update.specs.Changes.{change_takes, reads_depth, counts, counted, reads_index};
 
+    /// The depth of the leaf's cell.
     pub(crate) fn reads_depth(
         &mut self,
         leaf: u64,
@@ -107,6 +108,7 @@ impl Change {
         }
     }
 
+    /// The byte's word of the cell's index.
     pub(crate) fn reads_index(&mut self, cell: u64, byte: u64, leaf: u64, got: u64) -> Option<Ended>
         requires layout { IsLayout self.old.layout }
         requires cell { IsCellOf self.old.layout cell }
