@@ -6,7 +6,7 @@ ghost use Rattle.tree_change.specs.Others.{others_starts, others_offset, others_
 
 use pm_words::Turn;
 use pm_words::codes::reference::{FORM_4, FORM_16, FORM_48};
-use pm_words::offsets::cell::FIRST;
+use pm_words::offsets::cell::{FIRST, PLACES};
 use radix_nodes::{ENTRY, PLACE_COUNT, byte_in};
 use tree_floor::{BYTES, entry_count, first_entry};
 
@@ -45,7 +45,7 @@ impl Others {
     {
         match self {
             Others::Slot { slot, .. } => slot_offset(kind, slot),
-            Others::Reference { place } => 39 + place,
+            Others::Reference { place } => PLACES - 1 + place,
         }
     }
 

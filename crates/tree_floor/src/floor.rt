@@ -88,7 +88,7 @@ impl Machine for Floor {
             FloorAt::Key { leaf, word, .. } => layout.leaf_word(leaf, word),
             FloorAt::Node { leaf } => layout.leaf_word(leaf, leaf::NODE),
             FloorAt::Depth { cell } => word_of(layout, cell, DEPTH),
-            FloorAt::Prefix { cell, word, .. } => word_of(layout, cell, 1 + word),
+            FloorAt::Prefix { cell, word, .. } => word_of(layout, cell, PREFIX + word),
             FloorAt::Scanning {
                 cell,
                 byte,

@@ -6,7 +6,7 @@ ghost use Rattle.tree_floor.specs.Scans.{child_entry, better_entry, first_entry,
 ghost use Rattle.tree_floor.specs.Scans.{down_told};
 
 use pm_words::codes::reference::{FORM_4, FORM_16, FORM_48};
-use pm_words::offsets::cell::{FIRST, FIRST_OF_4};
+use pm_words::offsets::cell::{FIRST, FIRST_OF_4, PLACES};
 use radix_nodes::{ENTRY, PLACE_COUNT, byte_in};
 
 /// Reads of a cell the child under a byte, and the one under the greatest byte below that, a word at a time.
@@ -75,7 +75,7 @@ impl Scan {
         match self {
             Scan::Entry { entry, .. } => first_entry(kind) + entry,
             Scan::Index { word, .. } => FIRST + word,
-            Scan::Child { place, .. } | Scan::Below { place, .. } => 39 + place,
+            Scan::Child { place, .. } | Scan::Below { place, .. } => PLACES - 1 + place,
             Scan::Direct => FIRST + byte,
             Scan::Down { next, .. } => 7 + next,
         }

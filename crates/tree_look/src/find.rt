@@ -5,7 +5,7 @@ ghost use Rattle.tree_floor.specs.Scans.{entry_count};
 ghost use Rattle.tree_look.specs.Finds.{find_starts, find_offset, find_told, entry_told, IsFind, has_place};
 
 use pm_words::codes::reference::{FORM_4, FORM_16, FORM_48};
-use pm_words::offsets::cell::FIRST;
+use pm_words::offsets::cell::{FIRST, PLACES};
 use radix_nodes::{ENTRY, PLACE_COUNT, byte_in};
 use tree_floor::{entry_count, first_entry};
 
@@ -58,7 +58,7 @@ impl Find {
         match self {
             Find::Entry { entry } => first_entry(kind) + entry,
             Find::Index => FIRST + byte / 8,
-            Find::Reference { place } => 39 + place,
+            Find::Reference { place } => PLACES - 1 + place,
             Find::Direct => FIRST + byte,
         }
     }
@@ -73,7 +73,7 @@ impl Find {
             Find::Entry { entry } => entry_told(kind, byte, entry, got),
             Find::Index => has_place(byte_in(got, byte % 8)),
             Find::Reference { place } => Findings::Found {
-                offset: 39 + place,
+                offset: PLACES - 1 + place,
                 high: 0,
                 reference: got,
             },

@@ -8,8 +8,8 @@ ghost use Rattle.tree_look.specs.Looks.{byte_parted};
 use crate::find::{Find, Findings};
 use cat_key::WORDS;
 use pm_words::codes::reference::{KIND, LEAF};
-use pm_words::offsets::cell::DEPTH;
-use pm_words::{Action, Layout, Machine, Turn};
+use pm_words::offsets::cell::{DEPTH, PREFIX};
+use pm_words::{Action, Layout};
 use radix_nodes::{KEY_BYTES, Key, shared_bytes};
 use tree_floor::{KEY_WORDS, ROOT, byte_of, is_prefix, is_same, key_with, word_of};
 
@@ -130,7 +130,7 @@ impl Look {
             LookAt::Root => ROOT,
             LookAt::Key { leaf, word, .. } => layout.leaf_word(leaf, word),
             LookAt::Depth { cell } => word_of(layout, cell, DEPTH),
-            LookAt::Prefix { cell, word, .. } => word_of(layout, cell, 1 + word),
+            LookAt::Prefix { cell, word, .. } => word_of(layout, cell, PREFIX + word),
             LookAt::Finding { cell, depth, find } => {
                 let byte = byte_of(self.key, depth);
                 word_of(layout, cell, find.offset(cell / KIND, byte))
