@@ -11,7 +11,7 @@ use crate::single_del::{CountedDel, SingleDel, SingleDelDone};
 use call_stages::{Once, Placed, View};
 use cat_history::{Change, NameOp};
 use cat_key::Name;
-use pm_words::{Action, Machine, Memory, Steps};
+use pm_words::{Action, Machine, Memory, Steps, Turn};
 use split_merge::Merge;
 use std::sync::ledger::Ledger;
 
@@ -144,6 +144,34 @@ impl Del {
         match self {
             Del::Single(single) => single.counts(),
             Del::Merging { .. } => None,
+        }
+    }
+}
+
+impl Machine for Del {
+    ghost use Rattle.node_ops.specs.DelSteps.{IsDel, del_asks, del_turned, del_takes, del_left};
+
+    type Answer = Once<Placed>;
+
+    ghost fits = { IsDel };
+
+    ghost asks = { del_asks };
+
+    ghost turned = { del_turned };
+
+    ghost takes = { del_takes };
+
+    ghost left = { del_left };
+
+    fn action(&self) -> Action {
+        Del::action(self)
+    }
+
+    fn resume(self, got: u64) -> Turn<Del, Once<Placed>> {
+        let mut next = self;
+        match next.advance(got) {
+            None => Turn::Go(next),
+            Some(answer) => Turn::Done(answer),
         }
     }
 }

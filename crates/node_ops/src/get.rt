@@ -8,7 +8,7 @@ use crate::lookup::{Hit, Hold, Looked, Lookup};
 use call_stages::{Once, Placed, View};
 use cat_key::Name;
 use pm_words::offsets::node;
-use pm_words::{Action, Again, Memory, Steps};
+use pm_words::{Action, Again, Machine, Memory, Steps, Turn};
 use std::sync::ledger::Ledger;
 
 /// A get: what a name has, at the clock that was loaded between two loads of its node's version word.
@@ -64,6 +64,34 @@ impl Get {
         match self {
             Get::Looking { lookup } => lookup.call,
             Get::Checking { call, .. } => *call,
+        }
+    }
+}
+
+impl Machine for Get {
+    ghost use Rattle.node_ops.specs.GetSteps.{IsGet, get_asks, get_turned, get_takes, get_left};
+
+    type Answer = Once<Placed>;
+
+    ghost fits = { IsGet };
+
+    ghost asks = { get_asks };
+
+    ghost turned = { get_turned };
+
+    ghost takes = { get_takes };
+
+    ghost left = { get_left };
+
+    fn action(&self) -> Action {
+        Get::action(self)
+    }
+
+    fn resume(self, got: u64) -> Turn<Get, Once<Placed>> {
+        let mut next = self;
+        match next.advance(got) {
+            None => Turn::Go(next),
+            Some(answer) => Turn::Done(answer),
         }
     }
 }

@@ -13,8 +13,8 @@
 //! A put that finds its node full and without its name splits it, and is to be made again. A delete that leaves few
 //! names takes a log line before its store, and once it is counted merges the next node into its own.
 //!
-//! `Running` is the machine of any of these, and `Recheck` one of its own. What stands in them, as a look-up does, is
-//! asked for its action and told its number in place, and nobody holds it by value.
+//! Each call is a machine, `Running` is the machine of any call, and `Recheck` one of its own. A look-up, the fill and
+//! the end of a write, which stand in a call alone, are asked for their action and told their number in place.
 //!
 //! Callers on threads ask a call for its action, and tell it a number, at each single event. What they go through then
 //! is marked `inline(always)`: handed from level to level through memory, an action would cost more than the event.

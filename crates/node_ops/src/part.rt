@@ -304,6 +304,34 @@ impl Part {
     }
 }
 
+impl Machine for Part {
+    ghost use Rattle.node_ops.specs.PartSteps.{IsPart, part_asks, part_turned, part_takes, part_left};
+
+    type Answer = Once<PartWords>;
+
+    ghost fits = { IsPart };
+
+    ghost asks = { part_asks };
+
+    ghost turned = { part_turned };
+
+    ghost takes = { part_takes };
+
+    ghost left = { part_left };
+
+    fn action(&self) -> Action {
+        Part::action(self)
+    }
+
+    fn resume(self, got: u64) -> Turn<Part, Once<PartWords>> {
+        let mut next = self;
+        match next.advance(got) {
+            None => Turn::Go(next),
+            Some(answer) => Turn::Done(answer),
+        }
+    }
+}
+
 impl Part {
     ghost use Rattle.std.specs.Prelude.{◌≡◌, ◌<◌};
     ghost use Rattle.pm_words.specs.Turns.{AdvancesTo, GoesBelow};

@@ -9,7 +9,7 @@ use crate::single_put::{FullNode, SinglePut, SinglePutDone};
 use call_stages::{Once, Placed, View};
 use cat_history::{Change, NameOp};
 use cat_key::Name;
-use pm_words::{Action, Again, Machine, Memory, Steps};
+use pm_words::{Action, Again, Machine, Memory, Steps, Turn};
 use split_merge::{Split, SplitDone};
 use std::sync::ledger::Ledger;
 
@@ -171,6 +171,34 @@ impl Put {
         match self {
             Put::Single(single) => single.counts(),
             Put::Splitting { .. } => None,
+        }
+    }
+}
+
+impl Machine for Put {
+    ghost use Rattle.node_ops.specs.PutSteps.{IsPut, put_asks, put_turned, put_takes, put_left};
+
+    type Answer = Once<Placed>;
+
+    ghost fits = { IsPut };
+
+    ghost asks = { put_asks };
+
+    ghost turned = { put_turned };
+
+    ghost takes = { put_takes };
+
+    ghost left = { put_left };
+
+    fn action(&self) -> Action {
+        Put::action(self)
+    }
+
+    fn resume(self, got: u64) -> Turn<Put, Once<Placed>> {
+        let mut next = self;
+        match next.advance(got) {
+            None => Turn::Go(next),
+            Some(answer) => Turn::Done(answer),
         }
     }
 }
