@@ -43,8 +43,8 @@ name_in call = bytes_of call.name
 abbrev pub IsToldOf : Call → Action → ℕ → Type 0
 IsToldOf call action got = Told call.view.layout call.view.generation action got
 
--- A machine inside a call that holds its node: it has the call's view, is of that node with that lock, and keeps its own
--- fields; beside them the call knows more.
+-- A machine inside a call that holds its node: it has the call's view, is of that node with that lock, and keeps its
+-- own fields; beside them the call knows more.
 pub record IsInside (of : Call) (lock : ℕ) (its : View) (own held : ℕ) (Here More : Type 0) : Type 0 where
   pub call : IsCall of
   pub locked : IsLockWord lock

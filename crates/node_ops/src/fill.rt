@@ -30,6 +30,7 @@ pub struct Fill {
     pub at: FillAt,
 }
 
+/// What it does next.
 #[derive(Clone, Copy)]
 pub enum FillAt {
     /// The slot's words: the name's, then the value.

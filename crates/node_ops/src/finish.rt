@@ -26,6 +26,7 @@ pub struct Finish {
     pub at: FinishAt,
 }
 
+/// What it does next.
 #[derive(Clone, Copy)]
 pub enum FinishAt {
     /// The offset of the line's first word.

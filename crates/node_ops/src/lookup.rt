@@ -88,6 +88,7 @@ pub struct Lookup {
     pub at: LookupAt,
 }
 
+/// What it does next.
 #[derive(Clone, Copy)]
 pub enum LookupAt {
     Floor {
