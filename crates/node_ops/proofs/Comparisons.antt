@@ -22,7 +22,7 @@ use Rattle.node_ops.specs.declared.lookup.Looked.{Looked}
 use Rattle.node_ops.specs.declared.lookup.Looked.TheVariants as looked
 use Rattle.node_ops.specs.declared.lookup.LookupAt.TheVariants as at
 use Rattle.node_ops.specs.Calls.{IsCall, call_address}
-use Rattle.node_ops.specs.LookupSteps.{IsLookup, candidate_turned, finds, goes_to, next_candidate, saw_directory}
+use Rattle.node_ops.specs.LookupSteps.{IsLookup, candidate_turned, goes_to, next_candidate, saw_directory}
 use Rattle.node_ops.specs.LookupSteps.{saw_prints, lookup_left}
 use Rattle.node_ops.specs.Looking.{ComparesIn, LeadsTo, LoadsPrints, LooksFrom, MayLookFrom}
 use Rattle.node_ops.specs.Looking.{has_prints, has_words, loads_prints, told_name}
@@ -212,15 +212,6 @@ module _ {old now : Row} (call : Call) (hold : Hold) (directory : Directory) (le
 
   pub candidates_fewer : without_live left slot < left
   candidates_fewer = fewer_left left slot candidate_sound.here.2.fits is
-
--- no candidate is left
-pub candidates_end : {old now : Row} (call : Call) (hold : Hold) (directory : Directory) (left : ℕ)
-    → lowest_live left ≡ None → {from : Turn Lookup Looked} {begun steps : ℕ}
-    → LeadsTo old now call from (next_candidate call hold directory left) begun steps
-    → LooksFrom old now call from call (looked.Found (record { hold = hold; directory = directory; hit = None }))
-    begun steps
-candidates_end call hold directory left is on =
-    leads_looks (leads_to (finds hold directory None) on (ap (candidate_turned call hold directory left) is))
 
 -- it loads the value of the slot that has the name
 module _ {old now : Row} (call : Call) (hold : Hold) (directory : Directory) (slot : ℕ) {from : Turn Lookup Looked}

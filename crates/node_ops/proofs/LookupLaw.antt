@@ -40,7 +40,7 @@ use Rattle.data_list.specs.declared.walk.WalkAt.{WalkAt}
 use Rattle.data_list.specs.declared.walk.WalkAt.TheVariants as walk_at
 use Rattle.data_list.specs.Walks.{sighting_of, walk_from, walk_asks, walk_turned}
 use Rattle.data_list.specs.WalkStages.{walk_at_watching, walk_watching, view_stage, walk_at_stage, walk_stage, live_sight, sight_in}
-use Rattle.data_list.specs.Laws.{IsSighting, IsTarget, EndsAt, Walks, WalkViews}
+use Rattle.data_list.specs.Laws.{IsSighting, EndsAt, Walks, WalkViews}
 use Rattle.data_list.proofs.WalkLaw.{walks_are_looks, walks_are_views}
 use Rattle.tree_floor.specs.declared.floor.Floor.{Floor}
 use Rattle.tree_floor.specs.Floors.{floor_asks, floor_turned, floor_left}
@@ -188,13 +188,6 @@ own_views call walk x here told =
     let at_layout = subst (λ (l : Layout). Told l walk.generation (walk_asks walk) x) (sym here.layout) at_generation in
     subst (λ (q : Layout × ℕ). WalkViews q.0 q.1 (view_stage (walk_watching walk)) (walk_asks walk) x (walk_turned walk x)) (λ i. (here.layout i, here.generation i))
     (walks_are_views walk x here.sound at_layout)
-
--- what it is told to be its target is one
-pub told_target : (call : Call) (walk : Walk) (x : ℕ) (target : Target) → IsWalking call walk → Told call.view.layout call.view.generation (walk_asks walk) x → walk_turned walk x ≡ Done (walked.Target target)
-    → IsTarget call.view.layout call.view.generation call.name target
-told_target call walk x target here told is =
-    let walks = subst (Walks call.view.layout call.view.generation call.name (walk_stage walk) (walk_asks walk) x) is (own_walks call walk x here told) in
-    walks.1
 
 -- the key of the walk is the name's
 pub key_is : (call : Call) → IsCall call → number_of call.name ≡ key_of (name_in call)

@@ -1,9 +1,7 @@
 -- What the definitions of a part of a range scan compute to.
-use Rattle.std.proofs.Common.{◌≡◌, ℕ, zero, suc, ◌+◌, ◌-◌, ◌*◌, ◌<◌, ◌≤◌, ◌==◌, true, false, cond, ltb, List, [], ◌∷◌, ◌++◌, length, take, get_or, refl, sym, subst, ap, ◌∙◌, arith}
+use Rattle.std.proofs.Common.{◌≡◌, ℕ, zero, suc, ◌+◌, ◌-◌, ◌*◌, ◌<◌, ◌≤◌, ◌==◌, true, false, cond, ltb, refl, sym, subst, ap, ◌∙◌, arith}
 use Rattle.std.specs.Int.{bit_at}
-use Rattle.std.proofs.Math.Seq.{take-suc}
-use Rattle.std.proofs.lemmas.Bool.{eq-eqb, ne_eqb, ltb-true}
-use Rattle.std.proofs.lemmas.List.Sums.{fold-append}
+use Rattle.std.proofs.lemmas.Bool.{ne_eqb, ltb-true}
 use Rattle.pm_words.specs.Turns.{GoesBelow}
 use Rattle.call_stages.specs.declared.once.Once.{Once}
 use Rattle.node_ops.specs.declared.call.Call.{Call}
@@ -15,32 +13,15 @@ use Rattle.node_ops.specs.declared.part.Part.TheVariants as part
 use Rattle.node_ops.specs.declared.part.PartWords.{PartWords}
 use Rattle.node_ops.specs.declared.part.Way.{Way}
 use Rattle.node_ops.specs.declared.part.Way.TheVariants as ways
-use Rattle.node_ops.specs.PartSteps.{IsPart, IsReadingAt, part_turned, reading_turned, load_from, next_at, lists, listing_in, after_at, part_left, after_bitmap, after_word, end_left, goes_on, low_value, reading_left, sorted_by, with_word}
+use Rattle.node_ops.specs.PartSteps.{IsPart, IsReadingAt, part_turned, reading_turned, load_from, next_at, after_at, part_left, after_bitmap, after_word, end_left, goes_on, low_value, reading_left, sorted_by, with_word}
 use Rattle.node_ops.proofs.PartSound.{goes_call}
 
--- the next slot is this one, if it is live
-pub next-live : (bitmap slot slots : ℕ) → slot < slots → bit_at bitmap slot ≡ 1 → next_at bitmap slot slots ≡ at.Load slot 0
-next-live bitmap slot slots within live =
-    let some : slots - slot ≡ suc (slots - (slot + 1)) = omega arith in
-    ap (load_from bitmap slot) some
-    ∙ ap (λ b. cond b (at.Load slot 0) (load_from bitmap (slot + 1) (slots - (slot + 1)))) (eq-eqb (bit_at bitmap slot) 1 live)
-
--- else one of those behind it
+-- if this slot isn't live, the next one is one of those behind it
 pub next-clear : (bitmap slot slots : ℕ) → slot < slots → (bit_at bitmap slot ≡ 1 → ⊥) → next_at bitmap slot slots ≡ next_at bitmap (slot + 1) slots
 next-clear bitmap slot slots within clear =
     let some : slots - slot ≡ suc (slots - (slot + 1)) = omega arith in
     ap (load_from bitmap slot) some
     ∙ ap (λ b. cond b (at.Load slot 0) (load_from bitmap (slot + 1) (slots - (slot + 1)))) (ne_eqb (bit_at bitmap slot) 1 clear)
-
--- one more slot in the list
-pub listing-push : (reading : Reading) (slots : List ℕ) (slot : ℕ) → listing_in reading (slots ++ slot ∷ []) ≡ lists reading (listing_in reading slots) slot
-listing-push reading slots slot = fold-append (lists reading) _ slots (slot ∷ [])
-
-pub listing-more : (reading : Reading) (slots : List ℕ) (place : ℕ) → place < length slots
-    → listing_in reading (take (place + 1) slots) ≡ lists reading (listing_in reading (take place slots)) (get_or slots place 0)
-listing-more reading slots place within =
-    let next : place + 1 ≡ suc place = omega arith in
-    ap (λ n. listing_in reading (take n slots)) next ∙ ap (listing_in reading) (take-suc slots place 0 within) ∙ listing-push reading (take place slots) (get_or slots place 0)
 
 -- what is left from one of the live slots on
 pub load_left : (reading : Reading) (slot more : ℕ) → slot + more ≡ reading.call.view.layout.slots

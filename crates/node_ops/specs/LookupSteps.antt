@@ -100,12 +100,6 @@ walked_on call (Go walk) = goes_to call (at.Walk walk)
 walked_on call (Done (walked.Again why)) = ends (once.Again why)
 walked_on call (Done (walked.Target target)) = came_to call target
 
--- where the walk ended at its target, that one's version word was free, and of no later generation
-abbrev pub IsTargetOf : Call → Turn Walk Walked → Type 0
-IsTargetOf call (Done (walked.Target target)) = (generation_of target.version ≤ call.view.generation) ×
-    IsFree target.version call.view.generation
-IsTargetOf call _ = Unit {0}
-
 abbrev pub tried_lock : Call → ℕ → ℕ → ℕ → Turn Lookup Looked
 tried_lock call version locked found =
     if found == version then goes_to call (at.Clock locked) else ends (once.Again (Moved call.node version found))
