@@ -27,7 +27,7 @@ use Rattle.data_node.proofs.ListLemmas.{chain_is}
 use Rattle.pm_words.specs.Offsets.{version_offset, bitmap_offset, next_offset, status_offset, generation_offset}
 use Rattle.index_law.proofs.Actions.{status_outside}
 use Rattle.index_law.proofs.Twins.{IsNearer, nearer, store_closer, closer_spot, closer_versions, closer_front, cached_front}
-use Rattle.index_law.specs.Laws.{marked_row, fresh_row, FreshIsAtRest, fresh_world}
+use Rattle.index_law.specs.Laws.{marked_row, FreshIsAtRest, fresh_world}
 use Rattle.index_law.proofs.MarkedRow.{marked-at, marked-at_volatile, marked_row-row}
 use Rattle.index_law.proofs.Rows.{in_spot, in_spot-true, version_in-here, status_in-here, spot_in-here, with_status, facts-status}
 
@@ -193,22 +193,6 @@ fresh_law l parties layout idle begun =
       begun = begun;
     }
 
--- no node of a fresh row was ever locked
-pub fresh_versions : (l : Layout) → IsLayout l → (n : ℕ) → n < l.nodes → version_in l (fresh_row l) n ≡ 0
-fresh_versions l layout n here = ap (λ (f : Facts). f.version n) (same l [] layout) ∙ fresh_version l n layout here
-
 -- none but the first is listed, and none is GONE
 pub fresh_list : (l : Layout) → IsLayout l → (facts (fresh_world l [])).list ≡ []
 fresh_list l layout = ap (λ (f : Facts). f.list) (same_lit l [] layout)
-
-pub fresh_statuses : (l : Layout) → IsLayout l → (n : ℕ) → n < l.nodes → (facts (fresh_world l [])).status n ≢ gone_status
-fresh_statuses l layout n here gone =
-    let is : (facts (fresh_world l [])).status n ≡ (if n == 0 then live_status else status_in l (marked_row l) n) = ap (λ (f : Facts). f.status n) (same_lit l [] layout) in
-    ⊎_elim
-    (λ (e : n ≡ 0).
-    let live : live_status ≡ gone_status = sym (ap (λ (b : Bool). cond b live_status (status_in l (marked_row l) n)) (eq-eqb n 0 e)) ∙ sym is ∙ gone in
-    omega arith)
-    (λ (other : n ≢ 0).
-    let free : 0 ≡ gone_status = sym (ap (λ (b : Bool). cond b live_status (status_in l (marked_row l) n)) (ne_eqb n 0 other) ∙ fresh_status l n layout here) ∙ sym is ∙ gone in
-    omega arith)
-    (cases_eq n 0)

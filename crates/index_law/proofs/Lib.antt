@@ -31,10 +31,8 @@ pub mod Weights
 pub mod Shapes
 pub mod Noting
 pub mod Copies
-pub mod Parts
 pub mod Ends
 pub mod Joint
-pub mod Counting
 pub mod Beside
 pub mod AnchorTexts
 pub mod Anchored
@@ -48,7 +46,6 @@ pub mod GoneCounts
 pub mod Holding
 pub mod Prevs
 pub mod Whole
-pub mod Gone
 pub mod Images
 pub mod Claims
 pub mod AnySteps

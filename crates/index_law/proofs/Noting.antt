@@ -6,7 +6,7 @@ use Rattle.std.proofs.lemmas.Bool.{cases_eq, lt-ltb, ltb-true}
 use Rattle.std.proofs.lemmas.List.{set-get_or}
 use Rattle.pm_words.specs.declared.layout.Layout.{Layout}
 use Rattle.pm_words.specs.declared.action.Action.TheVariants.{Load, Store, Drain}
-use Rattle.pm_words.specs.Locations.{Word, Header, Node, Line, Location, Volatile, Cached, Durable, Clock, HasWord, HasLocation, at, address_of, word_number}
+use Rattle.pm_words.specs.Locations.{Word, Header, Node, Line, Location, Volatile, Cached, Durable, Clock, HasWord, HasLocation, at, address_of}
 use Rattle.pm_words.specs.Rows.{IsRow, acted, evicted}
 use Rattle.pm_words.proofs.Apart.{at-set_same, at-set_other, addresses_within}
 use Rattle.pm_words.proofs.Kept.{action_address-drain, acted_row, outside_header, names_cached, keeps_header}
@@ -246,11 +246,6 @@ module _ (w : World) (lawful : Lawful w) (fit : AreFit w.layout w.words) (e : He
         (cases_eq k e.number))
         (λ (other : d ≢ e.caller). fit d k mix (λ o. ⊎_elim (λ durably. inl (durably ∙ safe_stays d k o)) (λ cached. inr (cached ∙ other_line d k o (inl other))) (is o)))
         (cases_eq d e.caller)
-
--- a drain of a word of a line that gives its cached twin copies it
-drain_copies : (l : Layout) (words : List ℕ) (c j offset y : ℕ) → y ≡ at l words (Cached (Line c j offset))
-    → acted l words (Drain (line_address l c j offset) y) ≡ evicted l words (word_number l (Line c j offset))
-drain_copies l words c j offset y is = λ k. slice_set words (action_address-drain l (Line c j offset) y k) (is k)
 
 -- the word in hand is the line's, or it is the state of a line that waits
 pub hand_word : (l : Layout) (words : List ℕ) (e : HeldLine) (offset y : ℕ) → HasWord l (Line e.caller e.number offset) → e.hand ≡ Some (offset, y) → SureLine l words e

@@ -621,19 +621,6 @@ module _ (z : Traced) (i : ℕ) (p : Party) (d d' : Debt) (m y : ℕ) (traced : 
         (cases_eq n m);
   }
 
--- what a stage leads from by what it knows it holds
-leads_holds : (s : Stage) (n y : ℕ) → Leads s n y → HoldsNode s n
-leads_holds Idle n y leads = absurd leads
-leads_holds (Saw m v w k) n y leads = absurd leads
-leads_holds (Wears m v) n y leads = absurd leads
-leads_holds (Reads m v sight told) n y leads = absurd leads
-leads_holds (Holds m w h) n y leads = absurd leads
-leads_holds (Eyes m w h k v u free) n y leads = absurd leads
-leads_holds (Leaves left) n y leads = absurd leads
-leads_holds (Meets m w h right) n y leads = absurd leads
-leads_holds (Splits left fresh phase) n y leads = inr leads.0
-leads_holds (Joins h left right pace) n y leads = inl leads.0
-
 -- a store into the prev of a node that the party holds, which isn't listed
 held_store : (z : Traced) (i : ℕ) (p : Party) (s : Stage) (d : Debt) (m y : ℕ) → IsTraced z → get_elem? z.world.parties i ≡ some p → get_elem? z.debts i ≡ some d → p.stage ≡ s
     → m < z.world.layout.nodes → IsListed (facts z.world) y → HoldsNode s m → (IsListed (facts z.world) m → ⊥)

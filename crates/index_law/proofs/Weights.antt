@@ -500,14 +500,6 @@ idle_sum l f (p ∷ parties) idle =
 pub idle_weighs : IdleWeighs
 idle_weighs w idle = let none = idle_sum w.layout (facts w) w.parties idle in omega arith
 
--- each party's part is in the sum
-sum_has : (l : Layout) (f : Facts) (parties : List Party) (i : ℕ) (p : Party) → get_elem? parties i ≡ some p → lowered_in l f p.stage ≤ lowered_sum l f parties
-sum_has l f [] i p there = absurd (some-ne-none p (sym there))
-sum_has l f (d ∷ parties) zero p there =
-    let first : lowered_in l f d.stage ≡ lowered_in l f p.stage = ap (λ (e : Party). lowered_in l f e.stage) (some-injective d p there) in
-    omega arith
-sum_has l f (d ∷ parties) (suc i) p there = let rest = sum_has l f parties i p there in omega arith
-
 -- What is told of a change that a node shows: its name belongs there, and it is known what the name had.
 record IsTold (range : List ℕ → Bool) (m : Map) (old : Option (Option ℕ)) (c : Change) : Type 0 where
   pub named : IsName (name_of c)

@@ -6,7 +6,6 @@ pub mod Laws
 pub mod Weights
 pub mod Shapes
 pub mod Lines
-pub mod Parts
 pub mod Joint
 pub mod Beside
 pub mod Prevs

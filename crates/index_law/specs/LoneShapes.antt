@@ -1,5 +1,5 @@
--- What a call that is made with no other in flight makes of the shape: what `run_alone` is to promise, said of worlds.
-use Rattle.std.specs.Prelude.{◌≡◌, ◌≢◌, ℕ, zero, suc, ◌+◌, ◌*◌, ◌==◌, if◌then◌else◌, ◌-◌, ◌%◌, ◌<◌, ◌≤◌, ◌/◌, ◌⊎◌}
+-- What a call that is made with no other in flight makes of the shape, said of worlds.
+use Rattle.std.specs.Prelude.{◌≡◌, ◌≢◌, ℕ, zero, suc, ◌+◌, ◌*◌, ◌==◌, if◌then◌else◌, ◌%◌, ◌<◌, ◌≤◌, ◌/◌, ◌⊎◌}
 use Rattle.std.specs.Prelude.{Option, Bool, true, false, List, [], ◌∷◌, ◌++◌, None, Some, IsSome, length, slice_get}
 use Rattle.std.specs.FinMap.{remove}
 use Rattle.std.specs.Int.{bit_at}
@@ -15,7 +15,7 @@ use Rattle.pm_words.specs.Codes.{free_status, gone_status}
 use Rattle.pm_words.specs.declared.layout.Layout.{Layout}
 use Rattle.shapes.specs.Anchors.{Anchors, AreAnchors, names_between, past, target_of, next_of, IsFullPut, splits}
 use Rattle.shapes.specs.Anchors.{put_anchors, merges, del_anchors}
-use Rattle.shapes.specs.Weights.{IsShape, one_if}
+use Rattle.shapes.specs.Weights.{IsShape}
 use Rattle.index_law.specs.Facts.{Facts, map_now, range_of, IsListed}
 use mathlib.Core.Option.{some}
 use lib.ListN.{get_elem?}
@@ -77,38 +77,6 @@ StepCountsGone = (w : World) (i : ℕ) (p : Party) (action : Action) (x : ℕ) (
     (gone_nodes w.layout.nodes (facts (stepped w i p action next)) ≡ gone_nodes w.layout.nodes (facts w))
     ⊎ (IsRetire p.stage next ×
     (gone_nodes w.layout.nodes (facts (stepped w i p action next)) ≡ gone_nodes w.layout.nodes (facts w) + 1))
-
--- How a whole call ends: it took effect, there was no room, or it was refused (spent, worn).
-pub data Ending : Type 0 where
-  TookEffect : Ending
-  HadNoRoom : Ending
-  WasRefused : Ending
-
--- The anchors that it leaves.
-abbrev pub anchors_left : World → NameOp → Ending → Anchors
-anchors_left w (Put name value) TookEffect = put_anchors w.layout.slots (map_now (facts w)) (anchors_in w) name
-anchors_left w (Get name) TookEffect = anchors_in w
-anchors_left w (Del name) TookEffect = del_anchors w.layout.slots (map_now (facts w)) (anchors_in w) name
-anchors_left w op HadNoRoom = anchors_in w
-anchors_left w op WasRefused = anchors_in w
-
--- How many members there can be after it.
-abbrev pub most_left : World → NameOp → Ending → ℕ
-most_left w (Put name value) ending = members_most w
-most_left w (Get name) ending = members_most w
-most_left w (Del name) TookEffect =
-    members_most w - one_if (merges w.layout.slots (map_now (facts w)) (anchors_in w) name)
-most_left w (Del name) HadNoRoom = members_most w
-most_left w (Del name) WasRefused = members_most w
-
--- What is to be said of a whole call beside its answer and its history: the anchors are what it leaves; it had no room
--- exactly where it finds none, if it wasn't refused; and each merge takes a node away for good, until there is an
--- updater.
-pub record ShapesAlone (old : World) (op : NameOp) (ending : Ending) (new : World) : Type 0 where
-  pub anchors : anchors_in new ≡ anchors_left old op ending
-  pub no_room : ending ≡ HadNoRoom → FindsNoRoomIn op old
-  pub room : ending ≡ TookEffect → FindsNoRoomIn op old → ⊥
-  pub most : members_most new ≡ most_left old op ending
 
 -- The one switch of a put, made while the map is as it was: the node that it cuts is the one for the name of the put,
 -- which the map lacks. Then the anchors are those that the put leaves, and no second cut can come.
