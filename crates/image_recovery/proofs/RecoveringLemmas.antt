@@ -35,7 +35,6 @@ use Rattle.image_recovery_law.proofs.Steps.{starts}
 use Rattle.image_recovery.specs.declared.making.Making.{Making}
 use Rattle.image_recovery.specs.declared.stepping.Recovery.{Recovery}
 use Rattle.image_recovery.specs.declared.moves.Move.{Move}
-use Rattle.image_recovery.specs.declared.moves.Move.TheVariants.{Raise}
 use Rattle.image_recovery.specs.Plans.{columns, list_of, move_of, IsPlanOf}
 use Rattle.image_recovery.specs.Makings.{IsMaking, MayMake, making_of, making_asks, making_turned}
 use Rattle.image_recovery.specs.MakingLaw.{IsClearBeside, IsAtMove, IsAfterTurn, IsBetweenMoves}
@@ -53,10 +52,6 @@ told_by l row asked done number layout same told = told ∙ ap (λ (a : Action).
 pub words_by : (l : Layout) (row after : Row) (asked done : Action) → row.layout ≡ l → done ≡ asked → after ≡ record row { words = acted row.layout row.words done } → after.words ≡ acted l row.words asked
 words_by l row after asked done layout same is =
     ap (λ (m : Row). m.words) is ∙ ap (λ (a : Action). acted row.layout row.words a) same ∙ ap (λ (m : Layout). acted m row.words asked) layout
-
--- the move at a place, and those behind it
-pub next_left : (moves : List Move) (i : ℕ) → i < length moves → map move_of (drop i moves) ≡ move_of (get_or moves i Raise) ∷ map move_of (drop (i + 1) moves)
-next_left moves i within = ap (map move_of) (drop_more moves i Raise within)
 
 pub none_left : (moves : List Move) (i : ℕ) → length moves ≤ i → map move_of (drop i moves) ≡ []
 none_left moves i past = ap (map move_of) (drop_all i moves past)

@@ -1,5 +1,5 @@
 -- A recovery on its way, and what it leaves at its end.
-use Rattle.std.specs.Prelude.{◌≡◌, ◌⊎◌, ◌↔◌, ℕ, suc, List, ◌∷◌}
+use Rattle.std.specs.Prelude.{◌≡◌, ◌⊎◌, ◌↔◌, ℕ, suc, List}
 use Rattle.pm_words.specs.Images.{Row, IsImage}
 use Rattle.pm_words.specs.Locations.{Cached, Durable}
 use Rattle.pm_words.specs.Rows.{IsRow, durable_row}
@@ -38,19 +38,6 @@ pub record IsOpenedOn (image row : Row) : Type 0 where
 pub record IsUnderWay (image row : Row) (rest : List law.Move) : Type 0 where
   pub layout : row.layout ≡ image.layout
   pub between : IsBetweenMoves image.layout (list_of image) (columns image) rest row.words
-
--- They are those of some recovery, whose next move is this,
-pub record MayGoOn (row : Row) (next : law.Move) : Type 0 where
-  pub image : Row
-  pub rest : List law.Move
-  pub recoverable : IsRecoverable image
-  pub under_way : IsUnderWay image row (next ∷ rest)
-
--- or to which all these moves are left.
-pub record MayEnd (row : Row) (rest : List law.Move) : Type 0 where
-  pub image : Row
-  pub recoverable : IsRecoverable image
-  pub under_way : IsUnderWay image row rest
 
 -- What a recovery leaves of the image, whole or broken: an image that is sound by all rules, with the same list, the
 -- same map and the same weight, in the generation that it had or in the next one.

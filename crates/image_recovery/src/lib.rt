@@ -20,6 +20,6 @@ mod trim;
 pub use making::Making;
 pub use moves::Move;
 pub use planning::plan;
-pub use recovering::{OpenFault, make, make_all, recover, recovered, refusal};
-pub use stepping::{Begun, Recovery, begin, begin_sound};
+pub use recovering::{OpenFault, refusal};
+pub use stepping::{Begun, Recovery, begin, begin_sound, recover};
 pub use storing::{Storing, StoringAt};

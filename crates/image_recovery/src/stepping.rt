@@ -1,10 +1,10 @@
-//! A recovery that may be stopped after each action.
+//! A recovery that may be stopped after each action, and one that is made to its end.
 
 ghost use Rattle.std.specs.Prelude.{suc, IfOk, MatchResult};
 ghost use Rattle.version_lock.specs.Versions.{IsGeneration};
 ghost use Rattle.image_layer_rules.specs.Sound.{IsSoundByAll};
 ghost use Rattle.image_recovery.specs.Plans.{columns};
-ghost use Rattle.image_recovery.specs.Recovered.{IsOpenFault};
+ghost use Rattle.image_recovery.specs.Recovered.{IsOpenFault, IsRecoveredTo};
 ghost use Rattle.image_recovery.specs.Recoveries.{IsBegun};
 
 use crate::making::Making;
@@ -63,7 +63,7 @@ impl Recovery {
     ghost use Rattle.std.specs.Prelude.{MatchBool, MatchOption};
     ghost use Rattle.pm_words.specs.Images.{Row};
     ghost use Rattle.image_recovery.specs.Plans.{move_of};
-    ghost use Rattle.image_recovery.specs.Recovered.{IsRecoverable, IsUnderWay, IsRecoveredTo};
+    ghost use Rattle.image_recovery.specs.Recovered.{IsRecoverable, IsUnderWay};
     ghost use Rattle.image_recovery.specs.Recoveries.{HasEnded, IsRecovering, MayStep, IsMakingOne, moves_left};
     ghost use Rattle.image_recovery.specs.Recoveries.{IsTaken};
     ghost use Rattle.image_recovery.specs.Recoveries.{IsNearer, MakesOne};
@@ -144,4 +144,24 @@ impl Recovery {
             finish(memory, making, steps);
         }
     }
+}
+
+/// Recovers an image: the memory then has the same list, the same map and the same weight, in the next generation, with
+/// an empty log, a search layer that is exactly the list's, and no live slot out of its node's range; all of it is
+/// durable, and its volatile words are 0 but for the marks of what the layer reaches. An image that isn't sound is
+/// refused, by the first of all rules that it breaks, and so is one of the last generation.
+pub fn recover<L: Ledger>(
+    alloc: Global,
+    image: Image,
+    steps: &mut Steps<L>,
+) -> Result<Memory, OpenFault>
+    ensures { MatchResult result
+        (λ memory. IsSoundByAll image.layout image.words × IsRecoveredTo image memory) (IsOpenFault image) }
+{
+    let Begun {
+        mut recovery,
+        mut memory,
+    } = begin(alloc, image)?;
+    recovery.run(&mut memory, steps);
+    Ok(memory)
 }
