@@ -11,6 +11,7 @@ use Rattle.pm_words.specs.Locations.{Location, Volatile, HasLocation, address_of
 use Rattle.pm_words.specs.Rows.{IsRow, acted}
 use Rattle.pm_words.specs.Offsets.{stamp_offset, status_offset}
 use Rattle.call_stages.specs.Kinds.{status_address}
+use Rattle.pm_alloc.specs.declared.gone.Retire.{Retire}
 use Rattle.pm_alloc.specs.declared.gone.Release.{Release}
 use Rattle.pm_alloc.specs.declared.gone.ReleaseAt.{ReleaseAt}
 use Rattle.pm_alloc.specs.declared.gone.ReleaseAt.TheVariants.{Stamp, Status}
@@ -18,6 +19,27 @@ use Rattle.pm_alloc.specs.declared.gone.ReleaseAt.TheVariants.{Stamp, Status}
 -- the store that retires a node
 abbrev pub retires : Layout → ℕ → Action
 retires l n = Store (status_address l n) gone_status
+
+-- the machine that makes that store, and no other action
+abbrev pub retire_from : Layout → ℕ → Retire
+retire_from layout node = record { layout = layout; node = node }
+
+abbrev pub retire_asks : Retire → Action
+retire_asks retire = retires retire.layout retire.node
+
+abbrev pub retire_turned : Retire → ℕ → Turn Retire (Unit {0})
+retire_turned retire got = Done tt
+
+-- what its fields keep
+pub record IsRetire (retire : Retire) : Type 0 where
+  pub layout : IsLayout retire.layout
+  pub node : retire.node < retire.layout.nodes
+
+abbrev pub retire_takes : Retire → ℕ → Type 0
+retire_takes retire got = IsRetire retire
+
+abbrev pub retire_left : Retire → ℕ
+retire_left retire = 1
 
 -- the address of a node's stamp, and the stamp of a node that has none
 abbrev pub stamp_address : Layout → ℕ → ℕ

@@ -12,12 +12,59 @@ use pm_words::{Action, Layout, Machine, Turn};
 const NO_STAMP: u64 = 0;
 
 /// The store of the status GONE of a node, which its party holds and has merged into the node before.
-pub fn retire(layout: &Layout, node: u64) -> Action
+pub fn retire_node(layout: &Layout, node: u64) -> Action
     requires layout { IsLayout layout.now }
     requires node { node < layout.now.nodes }
     ensures { result ≡ retires layout.now node }
 {
     Action::Store(layout.node_volatile(node, volatile::STATUS), GONE)
+}
+
+/// It stores the status GONE of a node, as `retire_node` has it, and is done.
+#[derive(Clone, Copy)]
+pub struct Retire {
+    pub layout: Layout,
+    pub node: u64,
+}
+
+impl Machine for Retire {
+    ghost use Rattle.pm_alloc.specs.Gone.{IsRetire, retire_asks, retire_turned, retire_takes, retire_left};
+
+    type Answer = ();
+
+    ghost fits = { IsRetire };
+
+    ghost asks = { retire_asks };
+
+    ghost turned = { retire_turned };
+
+    ghost takes = { retire_takes };
+
+    ghost left = { retire_left };
+
+    fn action(&self) -> Action {
+        retire_node(&self.layout, self.node)
+    }
+
+    fn resume(self, _got: u64) -> Turn<Retire, ()> {
+        Turn::Done(())
+    }
+}
+
+impl Retire {
+    ghost use Rattle.std.specs.Prelude.{◌≡◌, ◌<◌};
+    ghost use Rattle.pm_words.specs.Layouts.{IsLayout};
+    ghost use Rattle.pm_alloc.specs.Gone.{IsRetire, retire_from};
+
+    /// It retires this node.
+    pub fn new(layout: Layout, node: u64) -> Retire
+        requires layout { IsLayout layout }
+        requires node { node < layout.nodes }
+        ensures new { result ≡ retire_from layout node }
+        ensures sound { IsRetire result }
+    {
+        Retire { layout, node }
+    }
 }
 
 /// It makes a GONE node FREE: it stores that the node has no stamp, and then the status. Its party has seen that the

@@ -1,5 +1,5 @@
-//! Nodes that are not in use: the claim of a free one and the way back of a merged one, as machines, and the store
-//! that ends it.
+//! Nodes that are not in use: the claim of a free one, the end of a merged one, and its way back, as machines; and the
+//! one store of that end, for who ends a node among other actions.
 #![tactic(auto)]
 
 mod claim;
@@ -7,4 +7,4 @@ mod gone;
 pub mod laws;
 
 pub use claim::{Claim, ClaimAt, Claimed};
-pub use gone::{Release, ReleaseAt, retire};
+pub use gone::{Release, ReleaseAt, Retire, retire_node};

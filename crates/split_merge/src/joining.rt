@@ -3,7 +3,7 @@ ghost use Rattle.split_merge.specs.Joins.{after_copy, after_bitmap, after_join};
 
 use crate::uniting::Union;
 use data_node::without_live;
-use pm_alloc::retire;
+use pm_alloc::retire_node;
 use pm_words::offsets::{node, volatile};
 use pm_words::{Action, Fence, LINE_WORDS, Machine, SLOT_WORDS, Turn};
 use smo_log::{Open, Ready};
@@ -79,7 +79,7 @@ impl Machine for Join {
             JoinAt::Switch => {
                 Action::Store(union.address(union.node, node::NEXT), union.behind())
             }
-            JoinAt::Retire => retire(&union.layout, union.right),
+            JoinAt::Retire => retire_node(&union.layout, union.right),
             JoinAt::Prev => union.prev(union.right),
             JoinAt::NextPrev => union.prev(union.behind()),
             JoinAt::Ready { ready } => ready.action(),

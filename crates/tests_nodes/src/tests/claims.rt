@@ -5,7 +5,7 @@ ghost use Rattle.pm_words.specs.Layouts.{IsLayout};
 ghost use Rattle.call_stages.specs.Kinds.{Told};
 ghost use Rattle.pm_alloc.specs.Claims.{IsClaim};
 
-use pm_alloc::{Claim, Claimed, Release, retire};
+use pm_alloc::{Claim, Claimed, Release, Retire};
 use pm_words::offsets::{node, volatile};
 use pm_words::{Action, Again, Layout, Machine, Turn};
 use std::process::Abort;
@@ -131,7 +131,19 @@ fn claims_none_where_node_0_is_all(rt: HostRuntime) -> Result<(), Fail> {
     Ok(())
 }
 
-/// What node 2's way back asks for, one action after another.
+/// What node 2's end asks for, and nothing more.
+fn retire_asks(layout: Layout) -> Option<Action>
+    requires layout { IsLayout layout }
+    requires node { 2 < layout.nodes }
+{
+    let retire = Retire::new(layout, 2);
+    match retire.resume(0) {
+        Turn::Done(()) => Some(retire.action()),
+        Turn::Go(_) => None,
+    }
+}
+
+/// What its way back asks for, one action after another.
 fn release_asks(layout: Layout) -> Option<[Action; 2]>
     requires layout { IsLayout layout }
     requires node { 2 < layout.nodes }
@@ -152,7 +164,7 @@ fn ends_a_node_and_frees_it(rt: HostRuntime) -> Result<(), Fail> {
     let layout = Layout::new(4, 4, 1)?;
     let status = layout.node_volatile(2, volatile::STATUS);
     let stamp = layout.node_volatile(2, volatile::STAMP);
-    assert_eq!(rt; retire(&layout, 2), Action::Store(status, 2));
+    assert_eq!(rt; retire_asks(layout), Some(Action::Store(status, 2)));
     assert_eq!(rt;
         release_asks(layout),
         Some([Action::Store(stamp, 0), Action::Store(status, 0)])
