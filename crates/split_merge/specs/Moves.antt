@@ -34,6 +34,10 @@ filled_end plan = 16 + slot_count plan
 abbrev pub fills : Plan → ℕ → Action
 fills plan offset = Store (word_address plan.layout plan.share.fresh offset) (plan_word plan offset)
 
+-- the store that gives back a node which is locked by this word
+abbrev pub unlocks : Plan → ℕ → ℕ → Action
+unlocks plan node word = Store (version_address plan.layout node) (word + 1)
+
 abbrev pub after_slot : Plan → ℕ → MoveAt
 after_slot plan word = if nat_lt (word + 1) (slot_count plan) then at.Slot (word + 1) else at.Print 0
 
@@ -80,8 +84,8 @@ move_at_asks plan at.NextPrev = Store (prev_address plan.layout (next_in plan)) 
 move_at_asks plan at.Trim = Store (word_address plan.layout plan.node bitmap_offset) plan.keep
 move_at_asks plan (at.FenceTrim fence) = fence_asks (word_address plan.layout plan.node fence.word) fence
 move_at_asks plan (at.Ready ready) = ready_asks ready
-move_at_asks plan at.UnlockFresh = Store (version_address plan.layout plan.share.fresh) (plan.share.locked + 1)
-move_at_asks plan at.Unlock = Store (version_address plan.layout plan.node) (plan.locked + 1)
+move_at_asks plan at.UnlockFresh = unlocks plan plan.share.fresh plan.share.locked
+move_at_asks plan at.Unlock = unlocks plan plan.node plan.locked
 
 abbrev pub move_asks : Move → Action
 move_asks move = move_at_asks move.plan move.at

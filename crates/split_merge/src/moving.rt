@@ -38,22 +38,16 @@ pub enum MoveAt {
     Unlock,
 }
 
-impl Machine for Move {
-    ghost use Rattle.split_merge.specs.Moves.{IsMove, move_asks, move_turned, move_takes, move_left};
+impl Move {
+    ghost use Rattle.std.specs.Prelude.{◌≡◌};
+    ghost use Rattle.pm_words.specs.Turns.{GoesBelow};
+    ghost use Rattle.split_merge.specs.Moves.{IsMove, move_asks, move_left, move_takes, move_turned, moves_to};
 
-    type Answer = ();
-
-    ghost fits = { IsMove };
-
-    ghost asks = { move_asks };
-
-    ghost turned = { move_turned };
-
-    ghost takes = { move_takes };
-
-    ghost left = { move_left };
-
-    fn action(&self) -> Action {
+    /// The action that it asks for next.
+    pub(crate) fn action(&self) -> Action
+        requires { IsMove self.now }
+        ensures { result ≡ move_asks self.now }
+    {
         let plan = &self.plan;
         match self.at {
             MoveAt::Slot { word } => plan.fill(node::SLOTS + word),
@@ -86,31 +80,10 @@ impl Machine for Move {
             ),
             MoveAt::Trim => Action::Store(plan.address(plan.node, node::BITMAP), plan.keep),
             MoveAt::Ready { ready } => ready.action(),
-            MoveAt::UnlockFresh => Action::Store(
-                plan.address(plan.share.fresh, node::VERSION),
-                freed_of(plan.share.locked),
-            ),
-            MoveAt::Unlock => {
-                Action::Store(
-                    plan.address(plan.node, node::VERSION),
-                    freed_of(plan.locked),
-                )
-            }
+            MoveAt::UnlockFresh => plan.unlock(plan.share.fresh, plan.share.locked),
+            MoveAt::Unlock => plan.unlock(plan.node, plan.locked),
         }
     }
-
-    fn resume(self, got: u64) -> Turn<Move, ()> {
-        match self.next(got) {
-            Some(at) => Turn::Go(Move { at, ..self }),
-            None => Turn::Done(()),
-        }
-    }
-}
-
-impl Move {
-    ghost use Rattle.std.specs.Prelude.{◌≡◌};
-    ghost use Rattle.pm_words.specs.Turns.{GoesBelow};
-    ghost use Rattle.split_merge.specs.Moves.{move_left, move_takes, move_turned, moves_to};
 
     /// What it does next, once it is told the number that its action gave; `None` where it is done.
     pub(crate) fn next(&self, got: u64) -> Option<MoveAt>
@@ -160,12 +133,13 @@ impl Move {
 }
 
 impl Plan {
-    ghost use Rattle.std.specs.Prelude.{◌≡◌, ◌+◌, ◌*◌, ◌/◌, ◌<◌, ◌≤◌, Option};
+    ghost use Rattle.std.specs.Prelude.{◌≡◌, ◌+◌, ◌*◌, ◌/◌, ◌<◌, Option};
     ghost use Rattle.pm_words.specs.Locations.{node_words};
+    ghost use Rattle.version_lock.specs.Versions.{IsLockWord};
     ghost use Rattle.call_stages.specs.Kinds.{word_address};
     ghost use Rattle.split_merge.specs.Plans.{IsPlan};
-    ghost use Rattle.split_merge.specs.Moves.{filled_end, fills, after_slot, after_print, after_fence, after_switch};
-    ghost use Rattle.split_merge.specs.Moves.{after_trim};
+    ghost use Rattle.split_merge.specs.Moves.{filled_end, fills, unlocks, after_slot, after_print, after_fence};
+    ghost use Rattle.split_merge.specs.Moves.{after_switch, after_trim};
 
     /// The address of a node's word.
     fn address(&self, node: u64, offset: u64) -> u64
@@ -184,6 +158,16 @@ impl Plan {
         ensures { result ≡ fills self.now offset }
     {
         Action::Store(self.address(self.share.fresh, offset), self.word(offset))
+    }
+
+    /// The store that gives back this node, which is locked by this word.
+    fn unlock(&self, node: u64, word: u64) -> Action
+        requires plan { IsPlan self.now }
+        requires node { node < self.now.layout.nodes }
+        requires word { IsLockWord word }
+        ensures { result ≡ unlocks self.now node word }
+    {
+        Action::Store(self.address(node, node::VERSION), freed_of(word))
     }
 
     /// After this word of the slots.
