@@ -1,9 +1,8 @@
 -- What becomes of a row of words as a node is retired or released.
-use Rattle.std.proofs.Common.{◌≡◌, ◌≢◌, ℕ, ◌<◌, List, length, refl, sym, ap, ◌∙◌, arith}
+use Rattle.std.proofs.Common.{◌≡◌, ◌≢◌, ℕ, length, refl, sym, ap, ◌∙◌, arith}
 use Rattle.std.proofs.lemmas.List.{length-set}
 use Rattle.pm_words.specs.Codes.{free_status, gone_status}
-use Rattle.pm_words.specs.declared.layout.Layout.{Layout}
-use Rattle.pm_words.specs.Locations.{Location, Volatile, HasLocation, row_words, address_of, at}
+use Rattle.pm_words.specs.Locations.{Location, Volatile, HasLocation, row_words, address_of}
 use Rattle.pm_words.specs.Rows.{acted}
 use Rattle.pm_words.proofs.Apart.{at-set_same, at-set_other}
 use Rattle.pm_words.specs.Offsets.{stamp_offset, status_offset}

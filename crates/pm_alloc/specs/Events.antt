@@ -1,12 +1,10 @@
 -- What a claim answers, by the words that it was told.
-use Rattle.std.specs.Prelude.{◌≡◌, ◌≢◌, ℕ, ◌<◌, ◌≤◌, List}
+use Rattle.std.specs.Prelude.{◌≡◌, ◌≢◌, ℕ, ◌<◌, ◌≤◌}
 use Rattle.pm_words.specs.Codes.{free_status}
 use Rattle.pm_words.specs.declared.layout.Layout.{Layout}
 use Rattle.pm_words.specs.declared.again.Again.TheVariants as again
 use Rattle.pm_words.specs.declared.machine.Turn.{Turn}
 use Rattle.pm_words.specs.declared.machine.Turn.TheVariants.{Go, Done}
-use Rattle.pm_words.specs.Locations.{Node, Volatile, Cached, at}
-use Rattle.pm_words.specs.Offsets.{status_offset, version_offset}
 use Rattle.version_lock.specs.Versions.{IsFree, IsWorn}
 use Rattle.call_stages.specs.Kinds.{Told}
 use Rattle.pm_alloc.specs.declared.claim.Claimed.{Claimed}
@@ -78,12 +76,3 @@ ClaimsHeed = (claim : Claim) (h : Heard) → IsClaim claim →
     Told claim.layout claim.generation (claim_asks claim) (heard_at h claim.node claim.at) →
     HasHeard claim.layout claim.generation h claim.node claim.at →
     Heeds claim.layout claim.generation h (claim_turned claim (heard_at h claim.node claim.at))
-
--- A claim that runs alone is told the words of one row, and finds each version word as it loaded it. So it is answered
--- the lowest node that is FREE and isn't worn, if that is free.
-abbrev pub heard_alone : Layout → List ℕ → ℕ → Heard
-heard_alone l words n = record {
-  version = λ m. at l words (Cached (Node m version_offset));
-  status = λ m. at l words (Volatile m status_offset);
-  found = at l words (Cached (Node n version_offset));
-}

@@ -365,9 +365,6 @@ module _ (plan : Plan) (sound : IsPlan plan) (is : IsHalf plan) (words : AreWord
       beside : (offset : ℕ) → offset ≢ bitmap_offset → after offset ≡ s offset
       beside offset other = updated-other s bitmap_offset plan.keep offset other
 
-      lower_slots : List ℕ
-      lower_slots = take half order
-
       after_name : (slot : ℕ) → name_words after slot ≡ name_words s slot
       after_name slot =
           let a = beside (slot_offset slot 0) (λ e. omega arith) in

@@ -15,7 +15,6 @@ use Rattle.pm_words.specs.declared.fence.Fence.{Fence}
 use Rattle.pm_words.specs.declared.fence.FenceAt.{FenceAt}
 use Rattle.pm_words.specs.declared.fence.FenceAt.TheVariants as fence_at
 use Rattle.pm_words.specs.Fences.{IsFence, fence_start, fence_asks, fence_next, hand_of}
-use Rattle.pm_words.specs.Codes.{open_state}
 use Rattle.pm_words.specs.Offsets.{bitmap_offset, next_offset, anchor_offset, slot_offset}
 use Rattle.data_node.specs.Bits.{without_live}
 use Rattle.data_node.specs.Slots.{IsClear}

@@ -1,5 +1,5 @@
 -- Each turn of a move is a step.
-use Rattle.std.proofs.Common.{◌≡◌, ◌≢◌, ℕ, zero, suc, ◌+◌, ◌-◌, ◌*◌, ◌%◌, ◌^◌, ◌<◌, ◌≤◌, ◌==◌, true, false, cond, ltb, List, [], ◌∷◌, Option, Some, None, inl, inr, ⊎_elim, refl, sym, ◌∙◌, subst, ap, arith, ◌⊎◌}
+use Rattle.std.proofs.Common.{◌≡◌, ◌≢◌, ℕ, zero, suc, ◌+◌, ◌-◌, ◌*◌, ◌%◌, ◌^◌, ◌<◌, ◌≤◌, ◌==◌, true, false, cond, ltb, List, [], ◌∷◌, Option, Some, None, inl, inr, ⊎_elim, refl, sym, ◌∙◌, subst, ap, arith}
 use Rattle.std.specs.Prelude.{IfSome}
 use Rattle.std.specs.List.{AllByRecursion}
 use Rattle.std.proofs.lemmas.Bool.{eqb-true, eqb-false, ltb-true, ltb-false}
@@ -223,9 +223,6 @@ module _ (move : Move) (sound : IsMove move) (g : ℕ) (known : Known) (cuts : C
       (omega arith, omega arith, record { word = omega arith; value = tt })
 
   -- the fences of the fresh node
-  abbrev fencing : ℕ → Option (ℕ × ℕ) → Stage
-  fencing from hand = Splits (full_left plan known) (fresh_of plan (fresh_seen plan) ((from, filled_end plan - from) ∷ []) hand) (Filling false)
-
   deals_fencing : (dirty dirty' : List (ℕ × ℕ)) (hand hand' : Option (ℕ × ℕ))
       → Deals (Splits (full_left plan known) (fresh_of plan (fresh_seen plan) dirty hand) (Filling false)) (Splits (full_left plan known) (fresh_of plan (fresh_seen plan) dirty' hand') (Filling false)) no_debt no_debt
   deals_fencing dirty dirty' hand hand' =

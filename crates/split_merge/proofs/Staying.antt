@@ -122,10 +122,3 @@ module _ (move : Move) (sound : IsMove move) where
 -- A move goes on by the same plan, whatever word it is told, and its fields keep the same.
 pub move_goes_on : (move : Move) (x : ℕ) → IsMove move → x < 2 ^ 64 → StaysSo (λ next. IsMove next × (next.plan ≡ move.plan)) (move_turned move x)
 move_goes_on move x sound fits = stays move sound move.at x sound.here fits
-
-pub move_stays : (move : Move) (x : ℕ) → IsMove move → x < 2 ^ 64 → StaysSo IsMove (move_turned move x)
-move_stays move x sound fits = of (move_turned move x) (move_goes_on move x sound fits)
-  where
-    of : (turn : Turn Move (Unit {0})) → StaysSo (λ next. IsMove next × (next.plan ≡ move.plan)) turn → StaysSo IsMove turn
-    of (Go next) is = is.0
-    of (Done answer) is = tt

@@ -177,7 +177,7 @@ fn after_switch(fence: Option<Fence>) -> JoinAt
 }
 
 impl Union {
-    ghost use Rattle.std.specs.Prelude.{◌≡◌, ◌+◌, ◌*◌, ◌/◌, ◌<◌, ◌≤◌, Option};
+    ghost use Rattle.std.specs.Prelude.{◌≡◌, ◌+◌, ◌*◌, ◌/◌, ◌<◌, Option};
     ghost use Rattle.pm_words.specs.Locations.{node_words};
     ghost use Rattle.call_stages.specs.Kinds.{word_address};
     ghost use Rattle.version_lock.specs.Versions.{IsLockWord};

@@ -183,7 +183,7 @@ fn found(near: Near, version: u64, locked: u64, word: u64) -> MergeAt
 }
 
 impl Merge {
-    ghost use Rattle.std.specs.Prelude.{◌≡◌, ◌+◌, ◌*◌, ◌/◌, ◌<◌, ◌≤◌, ◌^◌, length, slice_index};
+    ghost use Rattle.std.specs.Prelude.{◌≡◌, ◌+◌, ◌*◌, ◌/◌, ◌<◌, ◌≤◌, ◌^◌};
     ghost use Rattle.pm_words.specs.declared.machine.Turn.{Turn};
     ghost use Rattle.pm_words.specs.Locations.{node_words};
     ghost use Rattle.pm_words.specs.Layouts.{IsLayout};
@@ -192,7 +192,7 @@ impl Merge {
     ghost use Rattle.version_lock.specs.Versions.{IsLockWord, generation_of};
     ghost use Rattle.version_lock.specs.declared.TheConstants.{GENERATION_LIMIT};
     ghost use Rattle.split_merge.specs.Splits.{IsOwnLine};
-    ghost use Rattle.split_merge.specs.Merges.{IsMerge, IsNear, AreHeld, merge_from, merges_on, saw_version, has_head};
+    ghost use Rattle.split_merge.specs.Merges.{IsMerge, AreHeld, merge_from, merges_on, saw_version, has_head};
     ghost use Rattle.split_merge.specs.Merges.{has_prints, union_of, joined};
 
     /// A merge of this node's right neighbour into it. Its party has locked the node with this word, and has taken this

@@ -7,7 +7,7 @@ use crate::planning::name_or_some;
 use data_node::print_at;
 use pm_words::codes::kind::MERGE;
 use pm_words::offsets::node;
-use pm_words::{KEY, LINE_WORDS, Layout};
+use pm_words::{LINE_WORDS, Layout};
 use smo_log::Entry;
 
 /// The words of a node before its slots.
@@ -34,9 +34,8 @@ pub struct Union {
 }
 
 impl Union {
-    ghost use Rattle.std.specs.Prelude.{◌≡◌, ◌*◌, ◌<◌, slice_index};
-    ghost use Rattle.std.specs.Int.{w64, from_le_bytes};
-    ghost use Rattle.split_merge.specs.Unions.{IsUnion, joined_print, eight_joined, joined_prints, behind_in, entry_in};
+    ghost use Rattle.std.specs.Prelude.{◌≡◌, ◌*◌, ◌<◌};
+    ghost use Rattle.split_merge.specs.Unions.{IsUnion, joined_print, joined_prints, behind_in, entry_in};
 
     /// The fingerprint that a slot of the left node is to have: that of the name which goes there, or its own.
     #[tactic(auto, unfolding(crate::specs::Unions::joined_print))]
