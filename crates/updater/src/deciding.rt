@@ -16,7 +16,6 @@ use version_lock::{GENERATION_UNIT, LAST_COUNT, generation_in};
 
 impl Terms {
     ghost use Rattle.std.specs.Prelude.{◌≡◌, ◌+◌, ◌*◌, ◌<◌};
-    ghost use Rattle.pm_words.specs.Layouts.{IsLayout};
     ghost use Rattle.updater.specs.Works.{IsTerms, IsEntry, after_line, saw_state, lands, walks, changes, changed};
     ghost use Rattle.updater.specs.Works.{clears};
 
@@ -134,6 +133,7 @@ impl Terms {
         }
     }
 
+    /// After the status of a node: its stamp where it is GONE, else the next node.
     pub(crate) fn saw_status(&self, node: u64, status: u64) -> WorkAt
         requires terms { IsTerms self.now }
         requires node { node < self.now.layout.nodes }
@@ -145,6 +145,7 @@ impl Terms {
         self.after_node(node)
     }
 
+    /// After the stamp of a GONE node: its version word where the release allows that stamp, else the next node.
     pub(crate) fn saw_stamp(&self, node: u64, stamp: u64) -> WorkAt
         requires terms { IsTerms self.now }
         requires node { node < self.now.layout.nodes }
@@ -156,6 +157,7 @@ impl Terms {
         self.after_node(node)
     }
 
+    /// After the version word of a node that may become FREE: it is made so, but where it is worn.
     pub(crate) fn saw_version(&self, node: u64, version: u64) -> WorkAt
         requires terms { IsTerms self.now }
         requires node { node < self.now.layout.nodes }

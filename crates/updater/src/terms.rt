@@ -1,5 +1,3 @@
-ghost use Rattle.std.specs.Prelude.{◌≡◌};
-
 use pm_words::{KEY, Layout};
 
 /// What stays the same while a turn is made.

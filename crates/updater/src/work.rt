@@ -453,7 +453,6 @@ impl Work {
 impl Work {
     ghost use Rattle.std.specs.Prelude.{◌≡◌, ◌+◌, ◌*◌, ◌<◌};
     ghost use Rattle.pm_words.specs.Layouts.{IsLayout};
-    ghost use Rattle.layer_map.specs.Keys.{key_number};
     ghost use Rattle.updater.specs.declared.work.WorkAt.TheVariants as WorkAt;
     ghost use Rattle.updater.specs.Works.{IsTerms, IsEntry, saw_state, lands, walks, walk_ended, saw_again, leaves};
     ghost use Rattle.updater.specs.Works.{changed, clears, emptied, saw_status, saw_stamp, saw_version, freed, on};
