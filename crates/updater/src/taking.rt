@@ -2,9 +2,9 @@ ghost use Rattle.std.specs.Prelude.{◌≡◌};
 ghost use Rattle.pm_words.specs.declared.layout.Layout.{Layout};
 ghost use Rattle.updater.specs.Takings.{taking_asks, took_of};
 
-use pm_words::Action;
 use pm_words::codes::updater_lock::{TAKEN, UNTAKEN};
 use pm_words::offsets::shared::UPDATER;
+use pm_words::{Action, Layout, Machine, Turn};
 
 /// How an attempt at the updater lock ended.
 #[derive(Clone, Copy, PartialEq, Eq, Debug)]
@@ -32,5 +32,49 @@ impl Took {
         } else {
             Took::Held { word }
         }
+    }
+}
+
+/// It takes the updater lock by that exchange, and tells how the attempt ended.
+#[derive(Clone, Copy)]
+pub struct TakeTurn {
+    pub layout: Layout,
+}
+
+impl Machine for TakeTurn {
+    ghost use Rattle.updater.specs.Takings.{IsTakeTurn, take_asks, take_turned, take_takes, take_left};
+
+    type Answer = Took;
+
+    ghost fits = { IsTakeTurn };
+
+    ghost asks = { take_asks };
+
+    ghost turned = { take_turned };
+
+    ghost takes = { take_takes };
+
+    ghost left = { take_left };
+
+    fn action(&self) -> Action {
+        take_turn()
+    }
+
+    fn resume(self, got: u64) -> Turn<TakeTurn, Took> {
+        Turn::Done(Took::of(got))
+    }
+}
+
+impl TakeTurn {
+    ghost use Rattle.pm_words.specs.Layouts.{IsLayout};
+    ghost use Rattle.updater.specs.Takings.{IsTakeTurn, take_from};
+
+    /// An attempt at the updater lock of this layout.
+    pub fn new(layout: Layout) -> TakeTurn
+        requires { IsLayout layout }
+        ensures new { result ≡ take_from layout }
+        ensures sound { IsTakeTurn result }
+    {
+        TakeTurn { layout }
     }
 }

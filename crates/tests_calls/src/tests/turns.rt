@@ -12,7 +12,7 @@ use pm_words::offsets::{leaf, line, node, volatile};
 use pm_words::{Action, Layout, Machine, Turn};
 use std::process::Abort;
 use std::test::Fail;
-use updater::{Took, Turned, Work, take_turn};
+use updater::{TakeTurn, Took, Turned, Work};
 use version_lock::LAST_COUNT;
 
 /// The status of a node that is not in use.
@@ -380,7 +380,13 @@ fn leaves_a_line(rt: HostRuntime) -> Result<(), Fail> {
 /// The lock is taken where it is free.
 #[test]
 fn takes_the_lock(rt: HostRuntime) -> Result<(), Fail> {
-    assert!(rt; take_turn() == Action::Exchange(1, 0, 1));
-    assert!(rt; Took::of(0) == Took::Taken && Took::of(1) == Took::Held { word: 1 });
+    let take = TakeTurn::new(Layout::new(4, 4, 1)?);
+    assert!(rt; take.action() == Action::Exchange(1, 0, 1));
+    for (found, answer) in [(0, Took::Taken), (1, Took::Held { word: 1 })] {
+        let Turn::Done(took) = take.resume(found) else {
+            panic!(rt; "an attempt goes on");
+        };
+        assert!(rt; took == answer);
+    }
     Ok(())
 }
