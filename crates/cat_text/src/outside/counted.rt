@@ -3,11 +3,10 @@
 //! bytes: what these give and take is the system's word.
 ghost use Rattle.std.specs.Prelude.{◌≡◌, ℕ, None};
 
-use super::fault::OutsideFault;
 use super::fault_count::FaultCount;
 use super::files::{read_file, save_file};
-use super::shelf::Shelf;
-use super::sink::Sink;
+use super::shelf::{LoadFault, SaveFault, Shelf};
+use super::sink::{Sink, WriteFault};
 use super::source::{Failed, Source};
 use std::alloc::AllocGlobal;
 use std::io::{ErrorKind, Read, Write};
@@ -64,13 +63,13 @@ impl<W: Write> Sink for Counted<W> {
 
     ghost faults = { λ s. s.1 };
 
-    fn write(&mut self, piece: &[u8]) -> Result<usize, OutsideFault> {
+    fn write(&mut self, piece: &[u8]) -> Result<usize, WriteFault> {
         match self.inner.write(piece) {
             Ok(taken) if taken > 0 || piece.is_empty() => Ok(taken),
             // A write that takes nothing of a piece would be tried for ever.
             _ => {
                 self.faults.rise();
-                Err(OutsideFault::Failed)
+                Err(WriteFault::Failed)
             }
         }
     }
@@ -81,20 +80,20 @@ impl<R: Files + AllocGlobal> Shelf for Counted<R> {
 
     ghost faults = { λ s. s.1 };
 
-    fn load(&mut self, name: &str) -> Result<Option<Vec<u8>>, OutsideFault> {
+    fn load(&mut self, name: &str) -> Result<Option<Vec<u8>>, LoadFault> {
         match read_file(&self.inner, name) {
             Ok(found) => Ok(found),
-            Err(error) if error.kind() == ErrorKind::OutOfMemory => Err(OutsideFault::NoMemory),
+            Err(error) if error.kind() == ErrorKind::OutOfMemory => Err(LoadFault::NoMemory),
             Err(_) => {
                 self.faults.rise();
-                Err(OutsideFault::Failed)
+                Err(LoadFault::Failed)
             }
         }
     }
 
-    fn save(&mut self, name: &str, bytes: &[u8]) -> Result<(), OutsideFault> {
+    fn save(&mut self, name: &str, bytes: &[u8]) -> Result<(), SaveFault> {
         let saved = save_file(&self.inner, name, bytes);
-        if saved == Err(OutsideFault::Failed) {
+        if saved == Err(SaveFault::Failed) {
             self.faults.rise();
         }
         saved

@@ -1,6 +1,6 @@
 //! Files of the system, loaded whole and replaced in one step.
 
-use super::fault::OutsideFault;
+use super::shelf::SaveFault;
 use std::alloc::AllocGlobal;
 use std::fs::{File, OpenFile, OpenOptions, Permissions};
 use std::io::{ErrorKind, Write};
@@ -14,11 +14,11 @@ pub(super) fn save_file<R: Files + AllocGlobal>(
     rt: &R,
     path: &str,
     bytes: &[u8],
-) -> Result<(), OutsideFault> {
+) -> Result<(), SaveFault> {
     match replace_file(rt, path, bytes) {
         Ok(folder) if sync_folder(rt, folder.as_path()).is_ok() => Ok(()),
-        Err(error) if error.kind() == ErrorKind::OutOfMemory => Err(OutsideFault::NoMemory),
-        _ => Err(OutsideFault::Failed),
+        Err(error) if error.kind() == ErrorKind::OutOfMemory => Err(SaveFault::NoMemory),
+        _ => Err(SaveFault::Failed),
     }
 }
 

@@ -5,7 +5,7 @@ ghost use Rattle.cat_text.specs.OutsideMemory.{Feed, Store, IsNextToFail, after_
 
 use super::fault::OutsideFault;
 use super::plan::FaultPlan;
-use super::sink::Sink;
+use super::sink::{Sink, WriteFault};
 use super::source::{Failed, Source};
 use std::alloc::Global;
 use std::marker::Model;
@@ -137,7 +137,7 @@ impl Sink for MemorySink {
 
     ghost faults = { λ s. s.plan.faults };
 
-    fn write(&mut self, piece: &[u8]) -> Result<usize, OutsideFault>
+    fn write(&mut self, piece: &[u8]) -> Result<usize, WriteFault>
         ensures fails { (result ≡ Err OutsideFault.Failed) ↔ IsNextToFail self.old.plan }
         ensures count { IfOk result (λ taken. taken ≡ min (length piece.now) self.old.largest) }
         ensures takes { IfOk result (λ taken. 0 < length piece.now → 0 < taken) }
@@ -151,7 +151,7 @@ impl Sink for MemorySink {
         ensures fault_counted { result ≡ Err OutsideFault.Failed → self.new.plan ≡ after_fault self.old.plan }
     {
         if self.plan.next_fails() {
-            return Err(OutsideFault::Failed);
+            return Err(WriteFault::Failed);
         }
         let taken = piece.len().min(self.largest);
         self.bytes.extend_from_slice(&piece[..taken])?;

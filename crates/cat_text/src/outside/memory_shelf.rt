@@ -6,7 +6,7 @@ ghost use Rattle.cat_text.specs.Shelves.{content};
 
 use super::fault::OutsideFault;
 use super::plan::FaultPlan;
-use super::shelf::Shelf;
+use super::shelf::{LoadFault, SaveFault, Shelf};
 use std::alloc::Global;
 use std::collections::BTreeMap;
 use std::marker::Model;
@@ -54,7 +54,7 @@ impl Shelf for MemoryShelf {
 
     ghost faults = { λ s. s.plan.faults };
 
-    fn load(&mut self, name: &str) -> Result<Option<Vec<u8>>, OutsideFault>
+    fn load(&mut self, name: &str) -> Result<Option<Vec<u8>>, LoadFault>
         ensures fails { (result ≡ Err OutsideFault.Failed) ↔ IsNextToFail self.old.plan }
         ensures finds { IfOk result (λ found. content found ≡ get self.old.files name.now) }
         ensures keeps { self.new.files ≡ self.old.files }
@@ -63,7 +63,7 @@ impl Shelf for MemoryShelf {
         ensures fault_counted { result ≡ Err OutsideFault.Failed → self.new.plan ≡ after_fault self.old.plan }
     {
         if self.plan.next_fails() {
-            return Err(OutsideFault::Failed);
+            return Err(LoadFault::Failed);
         }
         let Some(bytes) = self.files.get(name) else {
             return Ok(None);
@@ -71,7 +71,7 @@ impl Shelf for MemoryShelf {
         Ok(Some(Vec::from_slice(self.alloc, bytes)?))
     }
 
-    fn save(&mut self, name: &str, bytes: &[u8]) -> Result<(), OutsideFault>
+    fn save(&mut self, name: &str, bytes: &[u8]) -> Result<(), SaveFault>
         ensures fails { (result ≡ Err OutsideFault.Failed) ↔ IsNextToFail self.old.plan }
         ensures saves { OnOk result (self.new.files ≡ insert self.old.files name.now bytes.now) }
         ensures keeps { OnErr result (self.new.files ≡ self.old.files) }
@@ -80,13 +80,13 @@ impl Shelf for MemoryShelf {
         ensures fault_counted { result ≡ Err OutsideFault.Failed → self.new.plan ≡ after_fault self.old.plan }
     {
         if self.plan.next_fails() {
-            return Err(OutsideFault::Failed);
+            return Err(SaveFault::Failed);
         }
         let name = String::from_str(self.alloc, name)?;
         let bytes = Vec::from_slice(self.alloc, bytes)?;
         match self.files.insert(name, bytes) {
             Ok(_) => Ok(()),
-            Err(_) => Err(OutsideFault::NoMemory),
+            Err(_) => Err(SaveFault::NoMemory),
         }
     }
 }

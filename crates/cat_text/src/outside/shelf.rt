@@ -4,6 +4,12 @@ ghost use Rattle.cat_text.specs.Shelves.{FileMap, Finds, KeepsFiles, SavesFile};
 
 use super::fault::OutsideFault;
 
+/// Why a file was not loaded.
+pub type LoadFault = OutsideFault;
+
+/// Why a file was not saved.
+pub type SaveFault = OutsideFault;
+
 /// Files by name.
 ///
 /// `files` is the bytes of each file by its name, for a shelf that tells them; such a shelf tells them after each call
@@ -15,7 +21,7 @@ pub trait Shelf {
 
     /// The bytes of the file of this name; None where there is no such file. The files stay as they are, whatever the
     /// answer is.
-    fn load(&mut self, name: &str) -> Result<Option<Vec<u8>>, OutsideFault>
+    fn load(&mut self, name: &str) -> Result<Option<Vec<u8>>, LoadFault>
         ensures finds { IfOk result (λ found. Finds (files self.old) name.now found) }
         ensures keeps { KeepsFiles (files self.old) (files self.new) }
 
@@ -24,7 +30,7 @@ pub trait Shelf {
 
     /// Gives the file of this name these bytes, and makes it where there is none. No other file changes, whatever the
     /// answer is.
-    fn save(&mut self, name: &str, bytes: &[u8]) -> Result<(), OutsideFault>
+    fn save(&mut self, name: &str, bytes: &[u8]) -> Result<(), SaveFault>
         ensures saves { OnOk result (SavesFile (files self.old) (files self.new) name.now bytes.now) }
         ensures failed { result ≡ Err OutsideFault.Failed
             → KeepsFiles (files self.old) (files self.new)

@@ -5,6 +5,9 @@ ghost use Rattle.cat_text.specs.Outside.{AppendsPart};
 
 use super::fault::OutsideFault;
 
+/// Why a sink took nothing.
+pub type WriteFault = OutsideFault;
+
 /// Bytes that are written in order.
 ///
 /// `written` is the bytes that the sink has taken, where it tells them; such a sink tells them
@@ -16,7 +19,7 @@ pub trait Sink {
 
     /// Takes bytes from the front of the piece, and answers how many: at least one, where the
     /// piece has one.
-    fn write(&mut self, piece: &[u8]) -> Result<usize, OutsideFault>
+    fn write(&mut self, piece: &[u8]) -> Result<usize, WriteFault>
         ensures within { IfOk result (λ taken. taken ≤ length piece.now) }
         ensures takes { IfOk result (λ taken. 0 < length piece.now → 0 < taken) }
         ensures appends { IfOk result (λ taken. Appends (written self.old) (written self.new) (take taken piece.now)) }
@@ -28,7 +31,7 @@ pub trait Sink {
 
 /// Writes a whole text, in as many writes as the sink needs. After an error the sink has a front
 /// of the text that lacks at least its last byte.
-pub fn write_whole<K: Sink>(sink: &mut K, text: &[u8]) -> Result<(), OutsideFault>
+pub fn write_whole<K: Sink>(sink: &mut K, text: &[u8]) -> Result<(), WriteFault>
     ensures whole { OnOk result (Appends (K.written sink.old) (K.written sink.new) text.now) }
     ensures part { OnErr result (AppendsPart (K.written sink.old) (K.written sink.new) text.now) }
     ensures failed { result ≡ Err OutsideFault.Failed → K.faults sink.old < K.faults sink.new }
