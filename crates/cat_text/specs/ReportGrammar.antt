@@ -1,5 +1,5 @@
 -- The grammar of reports: which reports there are, and the text of each.
-use Rattle.std.specs.Prelude.{◌≡◌, ℕ, ◌+◌, ◌<◌, ◌≤◌, ◌^◌, ◌⊎◌, true, List, [], ◌∷◌, All, IfSome, flat_map, length, map}
+use Rattle.std.specs.Prelude.{◌≡◌, ℕ, ◌+◌, ◌<◌, ◌≤◌, ◌^◌, ◌⊎◌, List, [], ◌∷◌, All, IfSome, flat_map, length, map}
 use Rattle.cat_key.specs.Names.{IsName}
 use Rattle.cat_key.specs.declared.Pair.{Pair}
 use Rattle.cat_history.specs.Records.{call_of, numbered}

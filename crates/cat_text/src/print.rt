@@ -1,6 +1,6 @@
 //! Printing reports. Each function `add_..` adds the text of one part at the end of the text so far.
 
-ghost use Rattle.std.specs.Prelude.{◌≡◌, ◌++◌, ℕ, List, codes, decimal, flat_map, length, IfOk, OnOk};
+ghost use Rattle.std.specs.Prelude.{◌≡◌, ◌≤◌, ◌++◌, ℕ, List, codes, decimal, flat_map, length, IfOk, OnOk};
 ghost use Rattle.cat_text.specs.ReportGrammar.{IsReport, IsReportText};
 ghost use Rattle.cat_text.specs.Reports.{cut_text, end_word, high_text, last_line, mark_text, old_text, op_text};
 ghost use Rattle.cat_text.specs.Reports.{pair_text, part_line, part_lines, record_line, record_text, reply_text};
@@ -13,6 +13,9 @@ use cat_history::{CutMark, Op, Record, Reply, ScanPart};
 use cat_key::{Name, Pair};
 use itoa::Buffer;
 use std::alloc::Global;
+
+/// As many bytes as a word and a number can have: 12 and 20.
+const MOST_OF_FIELD: usize = 32;
 
 /// The text of a report, which tells it.
 ///
@@ -67,10 +70,8 @@ fn add_last_line(text: &mut Vec<u8>, round: &RoundReport) -> Result<(), NoMemory
     ensures { OnOk result (text.new.items ≡ text.old.items ++ last_line round.now) }
 {
     add_end(text, round.crashed)?;
-    text.extend_from_slice(b" ")?;
-    add_number(text, round.writes)?;
-    text.extend_from_slice(b" names ")?;
-    add_number(text, round.names)?;
+    add_field(text, b" ", round.writes)?;
+    add_field(text, b" names ", round.names)?;
     text.extend_from_slice(b"\n")
 }
 
@@ -97,9 +98,7 @@ fn add_record_line(text: &mut Vec<u8>, call: &Record) -> Result<(), NoMemory>
     ensures { OnOk result (text.new.items ≡ text.old.items ++ record_line call.now) }
 {
     add_caller(text, call.caller)?;
-    text.extend_from_slice(b" ")?;
     add_op(text, &call.op)?;
-    text.extend_from_slice(b" -> ")?;
     add_reply(text, &call.reply)?;
     text.extend_from_slice(b"\n")
 }
@@ -114,61 +113,58 @@ fn add_caller(text: &mut Vec<u8>, caller: u64) -> Result<(), NoMemory>
     add_number(text, caller)
 }
 
+/// Adds what a call asks, behind a space.
 fn add_op(text: &mut Vec<u8>, op: &Op) -> Result<(), NoMemory>
-    ensures { OnOk result (text.new.items ≡ text.old.items ++ op_text op.now) }
+    ensures { OnOk result (text.new.items ≡ text.old.items ++ (codes " " ++ op_text op.now)) }
 {
     match op {
         Op::Put { name, value } => {
-            text.extend_from_slice(b"put ")?;
+            text.extend_from_slice(b" put ")?;
             add_name(text, name)?;
-            text.extend_from_slice(b" ")?;
-            add_number(text, *value)
+            add_field(text, b" ", *value)
         }
         Op::Get { name } => {
-            text.extend_from_slice(b"get ")?;
+            text.extend_from_slice(b" get ")?;
             add_name(text, name)
         }
         Op::Del { name } => {
-            text.extend_from_slice(b"del ")?;
+            text.extend_from_slice(b" del ")?;
             add_name(text, name)
         }
         Op::Scan { from, count } => {
-            text.extend_from_slice(b"scan ")?;
+            text.extend_from_slice(b" scan ")?;
             add_name(text, from)?;
-            text.extend_from_slice(b" ")?;
-            add_number(text, *count)
+            add_field(text, b" ", *count)
         }
     }
 }
 
+/// Adds what a call was answered, behind an arrow.
 fn add_reply(text: &mut Vec<u8>, reply: &Reply) -> Result<(), NoMemory>
-    ensures { OnOk result (text.new.items ≡ text.old.items ++ reply_text reply.now) }
+    ensures { OnOk result (text.new.items ≡ text.old.items ++ (codes " -> " ++ reply_text reply.now)) }
 {
     match reply {
         Reply::Old { old, place } => {
             add_old(text, *old)?;
-            text.extend_from_slice(b" @")?;
-            add_number(text, *place)
+            add_place(text, *place)
         }
         Reply::Parts { parts, cut } => add_parts(text, parts.as_slice(), *cut),
-        Reply::Full => text.extend_from_slice(b"full"),
-        Reply::Spent { clock } => {
-            text.extend_from_slice(b"spent ")?;
-            add_number(text, *clock)
-        }
+        Reply::Full => text.extend_from_slice(b" -> full"),
+        Reply::Spent { clock } => add_field(text, b" -> spent ", *clock),
         Reply::Cut { mark } => {
-            text.extend_from_slice(b"cut")?;
+            text.extend_from_slice(b" -> cut")?;
             add_mark(text, mark)
         }
-        Reply::Unstarted => text.extend_from_slice(b"unstarted"),
+        Reply::Unstarted => text.extend_from_slice(b" -> unstarted"),
     }
 }
 
-/// Adds how many parts a scan has, and whether it was cut off.
+/// Adds how many parts a scan has, and whether it was cut off, behind an arrow.
 fn add_parts(text: &mut Vec<u8>, parts: &[ScanPart], cut: bool) -> Result<(), NoMemory>
-    ensures { OnOk result (text.new.items ≡ text.old.items ++ (decimal (length parts.now) ++ cut_text cut)) }
+    ensures { OnOk result (text.new.items
+        ≡ text.old.items ++ (codes " -> " ++ decimal (length parts.now) ++ cut_text cut)) }
 {
-    add_number(text, parts.len() as u64)?;
+    add_field(text, b" -> ", parts.len() as u64)?;
     if cut {
         text.extend_from_slice(b" parts cut")
     } else {
@@ -187,11 +183,11 @@ fn add_mark(text: &mut Vec<u8>, mark: &CutMark) -> Result<(), NoMemory>
     }
 }
 
+#[inline]
 fn add_place(text: &mut Vec<u8>, place: u64) -> Result<(), NoMemory>
     ensures { OnOk result (text.new.items ≡ text.old.items ++ (codes " @" ++ decimal place)) }
 {
-    text.extend_from_slice(b" @")?;
-    add_number(text, place)
+    add_field(text, b" @", place)
 }
 
 fn add_part_lines(text: &mut Vec<u8>, reply: &Reply) -> Result<(), NoMemory>
@@ -238,26 +234,41 @@ impl Printed for Pair {
     fn add_to(&self, text: &mut Vec<u8>) -> Result<(), NoMemory> {
         text.extend_from_slice(b" ")?;
         add_name(text, &self.name)?;
-        text.extend_from_slice(b" ")?;
-        add_number(text, self.value)
+        add_field(text, b" ", self.value)
     }
 }
 
+/// Adds the number that a name had, or that it had none, behind an arrow.
 fn add_old(text: &mut Vec<u8>, old: Option<u64>) -> Result<(), NoMemory>
-    ensures { OnOk result (text.new.items ≡ text.old.items ++ old_text old) }
+    ensures { OnOk result (text.new.items ≡ text.old.items ++ (codes " -> " ++ old_text old)) }
 {
     match old {
-        Some(value) => add_number(text, value),
-        None => text.extend_from_slice(b"none"),
+        Some(value) => add_field(text, b" -> ", value),
+        None => text.extend_from_slice(b" -> none"),
     }
 }
 
+#[inline]
 fn add_name(text: &mut Vec<u8>, name: &Name) -> Result<(), NoMemory>
     ensures { OnOk result (text.new.items ≡ text.old.items ++ name.now) }
 {
     name.append_to(text)
 }
 
+/// Adds a word and a number behind it, in one piece.
+#[inline]
+pub(crate) fn add_field(text: &mut Vec<u8>, word: &[u8], number: u64) -> Result<(), NoMemory>
+    requires { length word.now ≤ 12 }
+    ensures { OnOk result (text.new.items ≡ text.old.items ++ (word.now ++ decimal number)) }
+{
+    let mut piece = [0; MOST_OF_FIELD];
+    let digits = itoa::write_digits(number, &mut piece, MOST_OF_FIELD);
+    let start = digits - word.len();
+    piece[start..digits].copy_from_slice(word);
+    text.extend_from_slice(&piece[start..])
+}
+
+#[inline]
 pub(crate) fn add_number(text: &mut Vec<u8>, number: u64) -> Result<(), NoMemory>
     ensures { OnOk result (text.new.items ≡ text.old.items ++ decimal number) }
 {

@@ -1,10 +1,10 @@
 //! The line that sums up a round.
 
-ghost use Rattle.std.specs.Prelude.{◌≡◌, ◌++◌, codes, decimal, IfOk, OnOk};
-ghost use Rattle.cat_text.specs.Summaries.{summary_field, summary_line};
+ghost use Rattle.std.specs.Prelude.{◌≡◌, IfOk};
+ghost use Rattle.cat_text.specs.Summaries.{summary_line};
 
 use crate::NoMemory;
-use crate::print::add_number;
+use crate::print::add_field;
 use std::alloc::Global;
 
 /// What a round comes to in numbers.
@@ -31,20 +31,12 @@ pub fn print_summary(alloc: Global, summary: &Summary) -> Result<Vec<u8>, NoMemo
     ensures { IfOk result (λ text. text.items ≡ summary_line summary.now) }
 {
     let mut text = Vec::new(alloc);
-    add_field(&mut text, "calls ", summary.calls)?;
-    add_field(&mut text, " puts ", summary.puts)?;
-    add_field(&mut text, " dels ", summary.dels)?;
-    add_field(&mut text, " names ", summary.names)?;
-    add_field(&mut text, " sum ", summary.sum)?;
-    add_field(&mut text, " full ", summary.full)?;
+    add_field(&mut text, b"calls ", summary.calls)?;
+    add_field(&mut text, b" puts ", summary.puts)?;
+    add_field(&mut text, b" dels ", summary.dels)?;
+    add_field(&mut text, b" names ", summary.names)?;
+    add_field(&mut text, b" sum ", summary.sum)?;
+    add_field(&mut text, b" full ", summary.full)?;
     text.extend_from_slice(b"\n")?;
     Ok(text)
-}
-
-/// Adds a word and a number.
-fn add_field(text: &mut Vec<u8>, word: &str, number: u64) -> Result<(), NoMemory>
-    ensures { OnOk result (text.new.items ≡ text.old.items ++ summary_field word.now number) }
-{
-    text.extend_from_slice(word.as_bytes())?;
-    add_number(text, number)
 }
