@@ -3,12 +3,7 @@ use Rattle.std.specs.Prelude.{◌≡◌, ℕ, ◌+◌, ◌<◌, ◌≤◌, ◌==
 use Rattle.std.specs.Prelude.{None}
 use Rattle.std.specs.Prelude.{List, [], ◌∷◌, All, length}
 use Rattle.std.specs.List.{sum_by}
-use Rattle.cat_history.specs.Maps.{Map}
-use Rattle.cat_history.specs.Writes.{after_all}
-use Rattle.cat_history.specs.LoneRounds.{write_of}
 use Rattle.cat_history.specs.declared.op.CallerOp.{CallerOp}
-use Rattle.cat_history.specs.declared.op.Op.{Op}
-use Rattle.cat_history.specs.declared.record.Reply.{Reply}
 use Rattle.cat_history.specs.declared.plan.RoundPlan.{RoundPlan}
 use Rattle.cat_text.specs.ReportGrammar.{IsReportOp}
 use Rattle.core_rounds.specs.Waiting.{one_if}
@@ -63,16 +58,6 @@ pub record AreJoinedLone (count : ℕ) (plans : List RoundPlan) : Type 0 where
   pub callers : All (λ (plan : RoundPlan). All (λ a. a.caller < count) plan.ops) plans
   pub told : All (λ (plan : RoundPlan). AreReportCalls plan.ops) plans
   pub calls : calls_in plans ≤ 100000
-
--- The map is what a call left that was answered so, whoever made it.
-abbrev pub IsLeftBy : Map → Op → Reply → Map → Type 0
-IsLeftBy base op reply end =
-    (caller index : ℕ) → end ≡ after_all base (write_of (record {
-      caller = caller;
-      index = index;
-      op = op;
-      reply = reply;
-    }))
 
 -- ---- laws
 

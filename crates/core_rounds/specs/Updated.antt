@@ -13,7 +13,7 @@ use Rattle.cat_text.specs.declared.report.RoundReport.{RoundReport}
 use Rattle.shapes.specs.Anchors.{Anchors}
 use Rattle.shapes.specs.ShapeRounds.{PutsFull, anchors_after, anchors_end, one_added, puts_added}
 use Rattle.shapes.specs.Weights.{IsShape, weight}
-use Rattle.core_rounds.specs.LoneCalls.{IsLeftBy}
+use Rattle.stopped_rounds.specs.Replies.{IsLeftBy}
 use Rattle.core_rounds.specs.Rounds.{ArePlayed, IsPlayedRound, added_in}
 use Rattle.core_rounds.specs.Waiting.{changes_in, changes_made, one_change}
 

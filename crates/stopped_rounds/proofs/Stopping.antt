@@ -207,7 +207,7 @@ module _ (slots most limit budget left left' place place' caller : ℕ) (s : Map
     pushed : records ++ r ∷ [] ≡ was.done ++ r ∷ []
     pushed = ap (λ (l : List Record). l ++ r ∷ []) so_far
 
-    left_by : IsLeftBy now call.op reply new → new.contents ≡ after_all s.contents (writes_of (records ++ r ∷ []))
+    left_by : IsLeftBy now.contents call.op reply new.contents → new.contents ≡ after_all s.contents (writes_of (records ++ r ∷ []))
     left_by leaves = leaves call.caller (length asked) ∙ ap (λ (m : Map). after_all m (write_of r)) was.leaves ∙ sym (after-push s.contents records r)
 
     answered : reply ≢ Unstarted → WasAnswered slots most limit now place call.op reply new → Stopping slots most limit budget left' place' s (asked ++ call ∷ []) (records ++ r ∷ []) new

@@ -25,9 +25,9 @@ abbrev pub SettlesToReport : Record → Type 0
 SettlesToReport r = (end : Map) → IsReportRecord (settled end r)
 
 -- The map is what a call left that was answered so, whoever made it.
-abbrev pub IsLeftBy : MapState → Op → Reply → MapState → Type 0
-IsLeftBy s op reply new =
-    (caller index : ℕ) → new.contents ≡ after_all s.contents (write_of (record {
+abbrev pub IsLeftBy : Map → Op → Reply → Map → Type 0
+IsLeftBy base op reply end =
+    (caller index : ℕ) → end ≡ after_all base (write_of (record {
       caller = caller;
       index = index;
       op = op;
@@ -49,14 +49,14 @@ pub record WasAnswered (slots most limit : ℕ) (s : MapState) (place : ℕ) (op
   pub spent : IsSpent reply ↔ IsLate limit place op
   pub full : (reply ≡ Full) ↔ ((IsLate limit place op → ⊥) × PutsFull slots most s.contents s.anchors op)
   pub bounds : EndsWithMembers s.anchors reply
-  pub left : IsLeftBy s op reply new
+  pub left : IsLeftBy s.contents op reply new.contents
   pub anchors : new.anchors ≡ anchors_after slots s.contents s.anchors op reply
   pub cut : new.cut ≡ s.cut
 
 -- It was cut off.
 pub record WasCutOff (limit : ℕ) (s : MapState) (place : ℕ) (op : Op) (reply : Reply) (new : MapState) : Type 0 where
   pub now : IsCutNow limit s.contents place op reply
-  pub left : IsLeftBy s op reply new
+  pub left : IsLeftBy s.contents op reply new.contents
   pub cut : (c : Change) → Contains new.cut c → change_cut op reply ≡ Some c
 
 -- It was not begun, without a budget; else it was answered, or it was cut off and has used up the budget.
