@@ -2,7 +2,7 @@
 
 ghost use Rattle.std.specs.Prelude.{◌≡◌, ◌≢◌, ℕ, ◌+◌, ◌*◌, ◌%◌, ◌<◌, ◌≤◌, ◌^◌, ◌↔◌, ◌⊎◌, List, [], ◌∷◌, is_some};
 ghost use Rattle.std.specs.Prelude.{if◌then◌else◌, length, take, All, IfOk, IfSome, IsTrue, MatchResult, None, true};
-ghost use Rattle.cat_history.specs.Records.{mark_place};
+ghost use Rattle.cat_history.specs.Records.{mark_place, placed_write};
 ghost use Rattle.cat_history.specs.Rounds.{IsAnswered, IsOnName};
 ghost use Rattle.cat_history.specs.LoneRounds.{write_of, writes_of};
 ghost use Rattle.cat_history.specs.Scans.{IsPart};
@@ -309,7 +309,8 @@ fn read_part<M: BoundedMap>(
 
 /// Whether a record is of a write that has a place.
 pub fn is_placed_write(entry: &Record) -> bool
-    ensures { length (write_of entry.now) ≡ (if result then 1 else 0) }
+    ensures write { length (write_of entry.now) ≡ (if result then 1 else 0) }
+    ensures place { result ≡ is_some (placed_write entry.now) }
 {
     match (&entry.op, &entry.reply) {
         (Op::Put { .. } | Op::Del { .. }, Reply::Old { .. }) => true,

@@ -72,8 +72,8 @@ loop-index-preserved g c =
     let left = answer.left.anchors ∙ ap (λ (k : ℕ). anchors_after k now shape call.op reply) stay.slots in
     let counted : c.if-is_placed_write.writes ≡ c.loop-index.writes + length (write_of r) =
     elim c.if-is_placed_write.branch [
-      | then-is_placed_write w ↦ omega (arith, w.writes-is, c.is_placed_write.ensures, ap {B = ℕ} (λ b. cond b 1 0) w.if-is_placed_write.true)
-      | else-is_placed_write w ↦ omega (arith, w.writes-is, c.is_placed_write.ensures, ap {B = ℕ} (λ b. cond b 1 0) w.if-is_placed_write.false)
+      | then-is_placed_write w ↦ omega (arith, w.writes-is, c.is_placed_write.ensures.write, ap {B = ℕ} (λ b. cond b 1 0) w.if-is_placed_write.true)
+      | else-is_placed_write w ↦ omega (arith, w.writes-is, c.is_placed_write.ensures.write, ap {B = ℕ} (λ b. cond b 1 0) w.if-is_placed_write.false)
     ] in
     let stands = stands-push slots opened stood records r behind.contents behind.anchors c.if-is_placed_write.writes was.stands (answer.left.contents call.caller index) left counted in
     let calls : map call_of records ≡ numbered (take index asked) = was.played.in_script_order ∙ ap (λ (ops : List CallerOp). numbered (take index ops)) (sym same) in
@@ -90,7 +90,7 @@ loop-index-preserved g c =
       told = rw grown (told-push asked index call reply records told c.loop-index-test.true c.index-asked-index.is answer.report was.told);
       stands = rw grown stands;
       writes = rw (grown, writes_of-push) (omega (arith, counted, was.writes, length-append (writes_of records) (write_of r)));
-      few = omega (arith, counted, was.few, one_at_most c.is_placed_write.result (length (write_of r)) c.is_placed_write.ensures);
+      few = omega (arith, counted, was.few, one_at_most c.is_placed_write.result (length (write_of r)) c.is_placed_write.ensures.write);
       uses = record {
         bounds = bounds-then first before behind stay uses.bounds;
         calls_left = omega (arith, was.uses.calls_left, stay.most, uses.calls_left);

@@ -17,8 +17,8 @@ loop-index-preserved g c =
     let r : Record = recorded index call reply in
     let counted : c.if-is_placed_write.writes ≡ c.loop-index.writes + length (write_of r) =
     elim c.if-is_placed_write.branch [
-      | then-is_placed_write w ↦ omega (arith, w.writes-is, c.is_placed_write.ensures, ap {B = ℕ} (λ b. cond b 1 0) w.if-is_placed_write.true)
-      | else-is_placed_write w ↦ omega (arith, w.writes-is, c.is_placed_write.ensures, ap {B = ℕ} (λ b. cond b 1 0) w.if-is_placed_write.false)
+      | then-is_placed_write w ↦ omega (arith, w.writes-is, c.is_placed_write.ensures.write, ap {B = ℕ} (λ b. cond b 1 0) w.if-is_placed_write.true)
+      | else-is_placed_write w ↦ omega (arith, w.writes-is, c.is_placed_write.ensures.write, ap {B = ℕ} (λ b. cond b 1 0) w.if-is_placed_write.false)
     ] in
     let told : Replies (M.slots c.args.map.now) (M.most c.args.map.now) c.args.plan.now.limit (M.state c.loop-index.map) c.loop-index.writes call.op c.loop-index.left reply c.reply_to.new.budget (M.state c.reply_to.new.map) =
     subst (λ (q : ℕ × ℕ). Replies q.0 q.1 c.args.plan.now.limit (M.state c.loop-index.map) c.loop-index.writes call.op c.loop-index.left reply c.reply_to.new.budget (M.state c.reply_to.new.map)) (λ k. (was.slots_stay k, was.most_stays k)) c.in_ok-reply.ensures.reply in
@@ -27,7 +27,7 @@ loop-index-preserved g c =
       stopping = stopping-call (M.slots c.args.map.now) (M.most c.args.map.now) c.args.plan.now.limit c.args.budget c.loop-index.left c.reply_to.new.budget c.loop-index.writes c.if-is_placed_write.writes c.requires.caller.0
           (M.state c.args.map.now) c.args.plan.now.ops c.as_slice-asked.result.now index c.loop-index.records.items c.push_reserved.new.self.items (M.state c.loop-index.map) (M.state c.reply_to.new.map) (M.state c.turn_if_due.new.map) call reply
           was.stopping c.requires.caller.1 c.as_slice-asked.ensures c.loop-index-test.true c.index-asked-index.is counted told turn.same c.push_reserved.ensures.items;
-      few = omega (arith, counted, was.few, one_at_most c.is_placed_write.result (length (write_of r)) c.is_placed_write.ensures);
+      few = omega (arith, counted, was.few, one_at_most c.is_placed_write.result (length (write_of r)) c.is_placed_write.ensures.write);
       slots_stay = turn.slots ∙ c.reply_to.ensures.slots ∙ was.slots_stay;
       most_stays = turn.most ∙ c.reply_to.ensures.most ∙ was.most_stays;
       calls = omega (arith, was.calls, was.most_stays, c.reply_to.ensures.calls_left, turn.calls_left);
