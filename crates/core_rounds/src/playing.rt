@@ -4,7 +4,7 @@ ghost use Rattle.std.specs.Prelude.{◌≡◌, ℕ, ◌+◌, ◌*◌, ◌<◌, �
 ghost use Rattle.pm_words.specs.Images.{Row};
 ghost use Rattle.recovery.specs.Opened.{IsOpenedFrom};
 ghost use Rattle.core_rounds.specs.CoreMaps.{ArePlayedLone, IsOfRun};
-ghost use Rattle.core_rounds.specs.LoneCalls.{AreJoined, AreLoneCalls, AreLoneRounds, AreReportCalls, calls_in};
+ghost use Rattle.core_rounds.specs.LoneCalls.{AreJoined, AreLoneRounds, AreReportCalls, calls_in};
 ghost use Rattle.core_rounds.specs.LoneCalls.{AreJoinedLone, has_other, has_restart, is_crowd, restarts};
 ghost use Rattle.core_rounds.specs.Rounds.{RoundsEndWithTurn};
 ghost use Rattle.core_rounds.specs.Updated.{AreReportedFrom, WaitBehind, changes_of_rounds};
@@ -46,11 +46,7 @@ fn play_on_core<L: Ledger, K: RunOf>(
     blank: Blank,
 ) -> Result<LoneRounds, NoMemory>
     requires opened { (image : Row) × IsOpenedFrom image core }
-    requires lone { AreLoneRounds plans.now }
-    requires joined { AreJoined plans.now }
-    requires callers { All (λ plan. All (λ a. a.caller < core.layout.callers) plan.ops) plans.now }
-    requires told { All (λ plan. AreReportCalls plan.ops) plans.now }
-    requires calls { calls_in plans.now ≤ 100000 }
+    requires playable { AreJoinedLone core.layout.callers plans.now }
     requires name { blank.name ≡ L.name }
     requires parts { (blank.parts ≡ L.parts) × (0 < L.parts) }
     requires run { IsOfRun K.layout K.generation core }
