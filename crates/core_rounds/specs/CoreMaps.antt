@@ -165,15 +165,16 @@ pub record IsOpenedMap (image : Row) (s : Index) : Type 0 where
 abbrev pub OpenedIsMap : Type 0
 OpenedIsMap = (image : Row) (s : Index) → IsOpenedFrom image s → IsOpenedMap image s
 
--- So it is of an image.
+-- Each log line of the image is EMPTY.
 abbrev pub ImageHasNoLines : Row → Type 0
 ImageHasNoLines image = (c j : ℕ) → c < image.layout.callers → j < 8 →
     word_at image.layout image.words (Line c j state_offset) ≡ empty_state
 
--- So many of the log lines of the image are READY, and the others are EMPTY.
+-- The state of the image's log line of this number.
 abbrev pub image_line : Row → ℕ → ℕ
 image_line image j = word_at image.layout image.words (Line (j / 8) (j % 8) state_offset)
 
+-- So many of the log lines of the image are READY, and the others are EMPTY.
 pub record ImageWaits (image : Row) (changes : ℕ) : Type 0 where
   pub ready : how_many (λ j. image_line image j == ready_state) (8 * image.layout.callers) ≡ changes
   pub others : (j : ℕ) → j < 8 * image.layout.callers →

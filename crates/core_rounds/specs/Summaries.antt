@@ -1,4 +1,4 @@
--- What a round of one caller comes to in numbers.
+-- What a round comes to in numbers.
 use Rattle.std.specs.Prelude.{ℕ, ◌≤◌, Bool, true, false, List, length, count_by}
 use Rattle.std.specs.FinMap.{entries, len}
 use Rattle.std.specs.List.{sum_by}

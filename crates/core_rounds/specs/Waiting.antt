@@ -46,10 +46,11 @@ writes_asked plans = sum_by (λ (plan : RoundPlan). writes_among plan.ops) plans
 abbrev pub HaveNoTurns : List RoundPlan → Type 0
 HaveNoTurns plans = All (λ (plan : RoundPlan). plan.updater ≡ 0) plans
 
--- One for a call that was answered so and changes the shape: a put that splits, or a delete that merges.
+-- One where it is so.
 abbrev pub one_if : Bool → ℕ
 one_if b = if b then 1 else 0
 
+-- One for a call that was answered so and changes the shape: a put that splits, or a delete that merges.
 abbrev pub one_change : ℕ → Map → Anchors → Op → Reply → ℕ
 one_change slots m anchors (Put name value) (Old old place) = one_if (splits slots m anchors name)
 one_change slots m anchors (Del name) (Old old place) = one_if (merges slots m anchors name)
