@@ -1,15 +1,15 @@
 -- What the worker of a caller comes to.
 use Rattle.std.specs.Prelude.{◌≡◌, ℕ, ◌+◌, List, [], All, Option, Some, None, get_or}
-use Rattle.cat_history.specs.CrashRounds.{changes_cut, settled_reply}
-use Rattle.cat_history.specs.Maps.{Map, map_of}
+use Rattle.cat_history.specs.CrashRounds.{changes_cut}
+use Rattle.cat_history.specs.Maps.{map_of}
 use Rattle.cat_history.specs.Rounds.{IsAnswered}
 use Rattle.cat_history.specs.declared.op.Op.{Op}
 use Rattle.cat_history.specs.declared.plan.CrashPlan.{CrashPlan}
 use Rattle.cat_history.specs.declared.plan.RoundPlan.{RoundPlan}
 use Rattle.cat_history.specs.declared.record.Record.{Record}
-use Rattle.cat_text.specs.ReportGrammar.{IsReportReply}
 use Rattle.stopped_rounds.specs.LoneStops.{IsWithin}
 use Rattle.stopped_rounds.specs.MoreCuts.{AreAmong}
+use Rattle.stopped_rounds.specs.Replies.{IsTold}
 use Rattle.caller_rounds.specs.CallerRounds.{KnowsRoom, asked_of}
 use Rattle.caller_rounds.specs.Stopping.{HasStopped}
 use Rattle.pac_index.specs.declared.caller.Caller.{Caller}
@@ -33,7 +33,7 @@ budget_of (Some crash) number = Some (get_or crash.budgets number 0)
 
 -- A report may have the reply, once it is settled by whatever map is found.
 abbrev pub IsToldOnceSettled : Record → Type 0
-IsToldOnceSettled r = (end : Map) → IsReportReply r.op (settled_reply end r.op r.reply)
+IsToldOnceSettled r = IsTold r.op r.reply
 
 -- A caller of this number was asked these, and came so far with these calls within this budget: its view says that they
 -- came to their replies so, and a report may have each of these. What it tells as cut off the records tell. Where it
