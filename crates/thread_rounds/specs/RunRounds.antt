@@ -73,9 +73,8 @@ pub record IsLeftByCrash (core : Index) (seed : ℕ) (image : Row) : Type 0 wher
 -- have added one as they were cut off.
 --
 -- The image is what the crash left of the index, by its seed. It is sound by all rules, and of the layout and the
--- generation of the core. Its map is the one after the history
--- and after those of the changes that were cut off without a place that are found in it. It weighs no more than is paid
--- for.
+-- generation of the core. Its map is the one after the history and after those of the changes that were cut off without
+-- a place that are found in it. It weighs no more than is paid for.
 pub record IsRunCrash (core : Index) (plan : RoundPlan) (crash : CrashPlan) (records : List Record) (writes : ℕ)
     (image : Row) : Type 0 where
   pub history : List Write
