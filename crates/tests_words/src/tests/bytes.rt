@@ -1,3 +1,5 @@
+//! The bytes of images: their faults, and what is written and read back.
+
 ghost use Rattle.std.specs.Prelude.{◌≡◌, ◌<◌, IfOk, IfErr};
 
 use pm_words::offsets::header;
@@ -17,9 +19,9 @@ fn fresh(alloc: Global) -> Option<Image> {
     Image::fresh(alloc, layout).ok()
 }
 
-/// Puts another word at one address of the header.
+/// Puts another word at one address of the header, where the bytes reach so far.
 fn put_word(bytes: &mut [u8], at: usize, word: u64) {
-    if at < 8 && bytes.len() >= 64 {
+    if at < 8 && 8 * at + 8 <= bytes.len() {
         bytes[8 * at..8 * at + 8].copy_from_slice(&word.to_le_bytes());
     }
 }
