@@ -180,7 +180,7 @@ fn survives(alloc: Global, image: Image, numbers: &[u64], draws: &mut u64) -> Op
 /// The first step of a split, or else of a merge, after which an image doesn't survive that.
 fn first_unlike(alloc: Global) -> Option<Option<u64>> {
     let mut draws = draws_of(1);
-    for before in 0..160 {
+    for before in 0..230 {
         if !survives(alloc, split(alloc, before)?, &[0, 1, 2, 3], &mut draws)? {
             return Some(Some(before));
         }
