@@ -76,8 +76,15 @@ fn is_settled(core: &mut Core, going: &mut Going) -> bool {
 fn meet(core: &mut Core, calls: [Asked; 2], before: u64, stride: u64) -> Option<bool> {
     let mut first = start(core, 0, calls[0]);
     go(core, &mut first, before);
+    if let End::Illegal = first.at {
+        return Some(false);
+    }
     if !first.flies() {
         return None;
+    }
+    // A caller has one call at once.
+    if begin(core, 0, Get(0)) {
+        return Some(false);
     }
     let mut second = start(core, 1, calls[1]);
     for _ in 0..MANY {
@@ -170,7 +177,7 @@ fn call(kind: u64, number: u64) -> Asked {
 }
 
 /// The row of a number below 56: each kind beside each on one name, which is there or not, and each kind beside a put
-/// that splits and beside a delete that merges, on each name of the two nodes.
+/// that splits and beside a delete that merges, on the names a, b and c.
 fn row_of(case: u64) -> Row {
     let other = call(case, case / 4 % 3);
     match case / 12 {
