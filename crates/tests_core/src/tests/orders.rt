@@ -43,6 +43,8 @@ fn a_part_goes_by_the_order_that_the_last_one_left(rt: HostRuntime) -> Result<()
         (3, Del(7), [3, 0, 3]),
         // the fifth name splits the node, where two names stay
         (4, Put(4, 4), [4, 0, 2]),
+        // it was split before, and has the first two of five names
+        (5, Put(1, 9), [2, 0, 2]),
     ];
     for (row, (names, between, numbers)) in rows.into_iter().enumerate() {
         let told = sorted_behind(rt.alloc(), names, between);
