@@ -2,8 +2,8 @@
 //! proved once.
 //!
 //! What a public call answers alone is proved, and so it is tried once here. These tests are of what no clause says:
-//! rows worked out by hand, calls that are drawn beside a slow model, calls of two callers at each step of the other,
-//! crashes after each step, and how many events calls take.
+//! calls that are drawn beside a slow model, calls of two callers at each step of the other, crashes after each step,
+//! images of which a word is changed, and how many events calls take.
 #![tactic(auto)]
 
 #[cfg(test)]

@@ -9,6 +9,4 @@ mod images;
 mod model;
 mod orders;
 mod rechecks;
-mod rows;
 mod stopped;
-mod waiting;

@@ -19,7 +19,7 @@ use std::sync::ledger::{Blank, Ledger};
 use updater::TurnReply;
 
 /// How many callers the indexes of these tests have.
-pub(super) const CALLERS: u64 = 4;
+const CALLERS: u64 = 4;
 
 /// How many names they have, but for those of events and of drawn calls.
 pub(super) const NAMES: u64 = 12;
@@ -54,7 +54,7 @@ pub(super) fn name_of(number: u64) -> Name {
 }
 
 /// The call.
-pub(super) fn call_of(asked: Asked) -> CoreCall
+fn call_of(asked: Asked) -> CoreCall
     ensures may { (l : IndexLayout) (party : ℕ) → party < l.callers → MayStart l party result }
     ensures alone { (s : Index) (party : ℕ) → party < s.layout.callers → MayRunAlone s party result }
     ensures writes { most_writes result ≤ 1 }

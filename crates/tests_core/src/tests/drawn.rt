@@ -4,8 +4,7 @@ ghost use Rattle.std.specs.Prelude.{◌≡◌};
 ghost use Rattle.recovery.specs.index_core.specs.Lone.{IsQuiet};
 
 use super::calls::{Asked, alone, fresh, name_of};
-use super::model::{Model, NAMES, count_of};
-use super::rows::told;
+use super::model::{FULL, Model, NAMES, count_of};
 use recovery::index_core::{Core, Whole};
 use std::alloc::Global;
 use std::test::Fail;
@@ -36,6 +35,17 @@ pub(super) fn write(draws: &mut u64, names: u64, stretch: u64, value: u64) -> As
         Asked::Put(number, value)
     } else {
         Asked::Del(number)
+    }
+}
+
+/// What a call is answered, in numbers: the number that its name had, or 0 for none, its place, and how many names it
+/// lists; or how many log lines a turn of the updater emptied, how many nodes it made FREE, and whether none is FREE.
+fn told(whole: &Whole) -> [u64; 3] {
+    match whole {
+        Whole::Placed(placed) => [placed.old.unwrap_or(0), placed.place, 0],
+        Whole::Part(words) => [words.old.unwrap_or(0), words.place, words.len],
+        Whole::Turned(turned) => [turned.applied, turned.freed, u64::from(turned.none_free)],
+        _ => FULL,
     }
 }
 
