@@ -33,8 +33,8 @@ module _ (l : Layout) (words : List ℕ) (node prev : ℕ) (whole : length words
 
   pub tell_beside : (p : Location) → HasLocation l p → (IsNodeMark p → ⊥) → at l after p ≡ at l words p
   tell_beside p has beside = tell_other p has
-      (λ e. beside (subst IsNodeMark (sym e) (let low : 0 < 2 = omega arith in inl low)))
-      (λ e. beside (subst IsNodeMark (sym e) (let low : 1 < 2 = omega arith in inl low)))
+      (λ e. beside (subst IsNodeMark (sym e) (inl (inl refl))))
+      (λ e. beside (subst IsNodeMark (sym e) (inl (inr refl))))
 
   pub tell_status : at l after (Volatile node status_offset) ≡ live_status
   tell_status =
@@ -188,8 +188,9 @@ module _ (l : Layout) (words : List ℕ) (untold : IsUntold l words) where
       no_member : (n : ℕ) → IsMember left n → ⊥
       no_member n among = subst (λ (ms : List ListNode). IsMember ms n) none among
 
-      other_word : (o : ℕ) → o ≡ stamp_offset → (o < 2) ⊎ (o ≡ permutation_version_offset) → ⊥
-      other_word o two (inl low) = omega arith
+      other_word : (o : ℕ) → o ≡ stamp_offset → ((o ≡ status_offset) ⊎ (o ≡ prev_offset)) ⊎ (o ≡ permutation_version_offset) → ⊥
+      other_word o two (inl (inl first)) = omega arith
+      other_word o two (inl (inr second)) = omega arith
       other_word o two (inr three) = omega arith
 
   -- the last node leads to none

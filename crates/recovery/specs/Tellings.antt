@@ -6,7 +6,7 @@ use Rattle.pm_words.specs.declared.action.Action.TheVariants.{Store}
 use Rattle.pm_words.specs.Images.{Row}
 use Rattle.pm_words.specs.Locations.{Location, Volatile, HasLocation, IsVolatile, at}
 use Rattle.pm_words.specs.Rows.{acted}
-use Rattle.pm_words.specs.Offsets.{permutation_version_offset}
+use Rattle.pm_words.specs.Offsets.{permutation_version_offset, prev_offset, status_offset}
 use Rattle.data_node.specs.Lists.{MakeList}
 use Rattle.layer_map.specs.Places.{is_of_layer}
 use Rattle.call_stages.specs.Kinds.{prev_address, status_address}
@@ -20,7 +20,8 @@ pub record IsUntold (l : Layout) (words : List ℕ) : Type 0 where
 
 -- The status of a node, or its prev, or the version of its permutation.
 abbrev pub IsNodeMark : Location → Type 0
-IsNodeMark (Volatile n offset) = (offset < 2) ⊎ (offset ≡ permutation_version_offset)
+IsNodeMark (Volatile n offset) =
+    ((offset ≡ status_offset) ⊎ (offset ≡ prev_offset)) ⊎ (offset ≡ permutation_version_offset)
 IsNodeMark _ = ⊥
 
 -- No word but these has changed.
