@@ -1,16 +1,12 @@
 -- How the versions of permutations come to be told, node by node, beside volatile words that tell a list.
-use Rattle.std.proofs.Common.{◌≡◌, ◌≢◌, ℕ, suc, ◌<◌, List, [], ◌∷◌, slice_set, inr, ⊎_elim, refl, sym, ap, ◌∙◌, subst}
+use Rattle.std.proofs.Common.{◌≡◌, ℕ, ◌<◌, List, [], ◌∷◌, inr, ⊎_elim, ◌∙◌}
 use Rattle.std.proofs.Common.{arith}
 use Rattle.std.specs.List.{AllByRecursion}
-use Rattle.std.proofs.lemmas.Bool.{cases_eq}
 use Rattle.pm_words.specs.declared.layout.Layout.{Layout}
 use Rattle.pm_words.specs.Codes.{no_permutation}
-use Rattle.pm_words.specs.Locations.{Location, Volatile, Clock, Updater, Mark, Cached, Durable, HasLocation}
-use Rattle.pm_words.specs.Locations.{address_of, at}
-use Rattle.pm_words.specs.declared.action.Action.TheVariants.{Store}
-use Rattle.pm_words.specs.Rows.{IsRow, IsOutsideHeader, acted}
-use Rattle.pm_words.proofs.Apart.{addresses_within, at-set_same, at-set_other}
-use Rattle.pm_words.proofs.Kept.{acted_row, outside_header}
+use Rattle.pm_words.specs.Locations.{Location, Volatile, Clock, Updater, Mark, Cached, Durable}
+use Rattle.pm_words.specs.Locations.{at}
+use Rattle.pm_words.specs.Rows.{IsRow}
 use Rattle.data_node.specs.Lists.{ListNode, IsIn}
 use Rattle.data_node.proofs.ListLemmas.{all_member}
 use Rattle.pm_words.specs.Offsets.{permutation_version_offset, prev_offset, stamp_offset, status_offset}
@@ -22,33 +18,6 @@ pub record IsOrderedTo (l : Layout) (words now : List ℕ) (count : ℕ) : Type 
   pub row : IsRow l now
   pub beside : KeepsButOrders l words now
   pub orders : (n : ℕ) → n < count → at l now (Volatile n permutation_version_offset) ≡ no_permutation
-
--- none is told first
-pub begins_ordering : (l : Layout) (words : List ℕ) → IsRow l words → IsOrderedTo l words words 0
-begins_ordering l words row = record {
-  row = row;
-  beside = λ p has other. refl;
-  orders = λ n (low : n < 0). omega arith;
-}
-
--- one node more
-pub goes_ordering : (l : Layout) (words now : List ℕ) (count : ℕ) → count < l.nodes → IsOrderedTo l words now count
-    → IsOrderedTo l words (acted l now (Store (address_of l (Volatile count permutation_version_offset)) no_permutation)) (suc count)
-goes_ordering l words now count within is =
-    let here : HasLocation l (Volatile count permutation_version_offset) = (within, omega arith) in
-    let outside : IsOutsideHeader l (address_of l (Volatile count permutation_version_offset)) = outside_header l (Volatile count permutation_version_offset) here (λ k lt. (λ e. cc, λ e. cc)) in
-    record {
-      row = acted_row l now (Store (address_of l (Volatile count permutation_version_offset)) no_permutation) is.row ((addresses_within l (Volatile count permutation_version_offset) here, outside), omega arith);
-      beside = λ p has other. at-set_other l now (Volatile count permutation_version_offset) p no_permutation here has (λ e. other (subst IsOrder (sym e) refl)) ∙ is.beside p has other;
-      orders = λ n low. ⊎_elim
-          (λ (e : n ≡ count). subst (λ k. at l (slice_set now (address_of l (Volatile count permutation_version_offset)) no_permutation) (Volatile k permutation_version_offset) ≡ no_permutation) (sym e) (at-set_same l now (Volatile count permutation_version_offset) no_permutation is.row.whole here))
-          (λ (apart : n ≢ count). at-set_other l now (Volatile count permutation_version_offset) (Volatile n permutation_version_offset) no_permutation here (omega arith, omega arith) (λ e. apart (ap number_of e)) ∙ is.orders n (omega arith))
-          (cases_eq n count);
-    }
-  where
-    number_of : Location → ℕ
-    number_of (Volatile m offset) = m
-    number_of _ = 0
 
 -- a word before the version of a permutation is another one
 no_order : (o : ℕ) → o < 3 → o ≡ permutation_version_offset → ⊥

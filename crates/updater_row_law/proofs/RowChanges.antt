@@ -1,7 +1,7 @@
 -- A step of a change of the layer, as the law of turns sees it.
-use Rattle.std.proofs.Common.{◌≡◌, ◌≢◌, ℕ, ◌-◌, ◌≤◌, ◌⊎◌, cond, List, Option, Some, None, inl, inr, refl, sym, ap}
-use Rattle.std.proofs.Common.{◌∙◌, arith}
-use Rattle.std.proofs.lemmas.Bool.{cases_eq, eq-eqb, ne_eqb}
+use Rattle.std.proofs.Common.{◌≡◌, ◌≢◌, ℕ, ◌⊎◌, cond, List, Option, None, inl, inr, refl, sym, ap}
+use Rattle.std.proofs.Common.{◌∙◌}
+use Rattle.std.proofs.lemmas.Bool.{eq-eqb, ne_eqb}
 use Rattle.pm_words.specs.declared.layout.Layout.{Layout}
 use Rattle.pm_words.specs.declared.action.Action.{Action}
 use Rattle.pm_words.specs.Locations.{Cached, Durable}
@@ -19,9 +19,8 @@ use Rattle.search_layer.proofs.StepLaw.{change_step_keeps}
 use Rattle.search_layer.proofs.RootLemmas.{root_step_keeps}
 use Rattle.search_layer.proofs.RowLemmas.{mix_of_durable}
 use Rattle.updater_law.specs.TurnSteps.{AreSameBut}
-use Rattle.updater_law.specs.Lawful.{IsDecided}
-use Rattle.updater_row_law.specs.Columns.{RowTerms, Ghosts, terms_of, facts_in}
-use Rattle.updater_row_law.specs.RowStages.{RowLine, aim_of, entry_of}
+use Rattle.updater_row_law.specs.Columns.{RowTerms}
+use Rattle.updater_row_law.specs.RowStages.{RowLine, aim_of}
 use Rattle.updater_row_law.specs.RowLaw.{IsChanging}
 
 -- a changed layer at its key, and at another
@@ -54,15 +53,6 @@ mix_but aim before s layer mix at_layer at_mix k ne = elim (mix_is_either aim be
     | inl same ↦ old k ∙ sym (same k)
     | inr made ↦ old k ∙ sym (made k ∙ made_other before (key_number aim.key) (node_of aim.word) k ne)
   ]
-]
-
--- the node word is in range
-pub word_within : (r : RowTerms) (ghosts : Ghosts) (words : List ℕ) (e : RowLine) (word : ℕ) → IsDecided (terms_of r) (facts_in r ghosts words) (entry_of e) (node_of word) → word ≤ r.layout.nodes
-word_within r ghosts words e word is = elim (cases_eq word 0) [
-  | inl none ↦ omega arith
-  | inr some_word ↦
-      let found : node_of word ≡ Some (word - 1) = ap (λ b. cond b None (Some (word - 1))) (ne_eqb word 0 some_word) in
-      let within = (is.fits (word - 1) found).within in omega (arith, some_word)
 ]
 
 -- a step of a change
