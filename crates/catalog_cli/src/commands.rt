@@ -22,7 +22,7 @@ use crate::run_file::run_file;
 use crate::status::Status;
 use cat_command::{Command, read_command};
 use cat_script::MOST_BYTES;
-use cat_text::{OutsideFault, Shelf, Sink, Source, print_report, write_whole};
+use cat_text::{Shelf, Sink, Source, WriteFault, print_report, write_whole};
 use crowd_rounds::pac_index::Gate;
 use pm_words::Layout;
 use std::alloc::Global;
@@ -34,9 +34,8 @@ use std::thread::Threads;
 /// - `play NODES SLOTS CALLERS` plays the script that the source gives, from an empty catalogue of that layout, and
 ///   writes its report. The script is read to its end and looked through before anything is played.
 /// - `run FILE` plays the script that the source gives on the catalogue in a file of the shelf. The image that its
-/// rounds
-///   leave is saved under the same name, once and whole, and then the report is written. The script is read to its end
-///   before the file is loaded, and it is looked through once the file is known to be a sound image.
+///   rounds leave is saved under the same name, once and whole, and then the report is written. The script is read to
+///   its end before the file is loaded, and it is looked through once the file is known to be a sound image.
 /// - `gen SEED COUNT CALLERS` plays a round of calls that the seed makes, and writes a line that sums them up.
 /// - `format FILE NODES SLOTS CALLERS` saves the image of an empty catalogue of that layout on the shelf, under a name
 ///   that has no file yet, and writes a line that tells of it.
@@ -119,8 +118,8 @@ fn run_command<R: Threads + Wait + Sync, S: Source, K: Sink, H: Shelf, G: Gate>(
         Err(status) => status,
         Ok(text) => match write_whole(out, &text) {
             Ok(()) => Status::Done,
-            Err(OutsideFault::Failed) => Status::Write,
-            Err(OutsideFault::NoMemory) => Status::NoMemory,
+            Err(WriteFault::Failed) => Status::Write,
+            Err(WriteFault::NoMemory) => Status::NoMemory,
         },
     }
 }

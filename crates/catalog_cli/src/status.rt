@@ -25,7 +25,7 @@ pub enum ImageRefusal {
     /// Its image breaks this rule first, at this word.
     Damaged { rule: u64, word: u64 },
     /// Its image has too late a generation: none is left for its next opening, or for those behind the script's rounds
-    /// of several callers.
+    /// that a crash ends or that several callers play.
     Generations,
 }
 
