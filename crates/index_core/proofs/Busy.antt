@@ -29,12 +29,6 @@ idle_told e idle = by_calls e.machine e.turn e.recheck idle
     by_calls None None (Some r) is = absurd (cc)
     by_calls None None None is = (refl, refl, refl)
 
--- a party that is idle so isn't busy
-pub idle_is_not_busy : (s : Index) (i : ℕ) (e : PartyState) → get_elem? s.states i ≡ some e → (e.machine ≡ None) × (e.turn ≡ None) × (e.recheck ≡ None) → IsBusy s i → ⊥
-idle_is_not_busy s i e there (none, rests, unchecked) (inl f) = let both : None ≡ Some f.machine = sym none ∙ ap (λ (d : PartyState). d.machine) (some-injective _ _ (sym there ∙ f.there)) ∙ f.flies in cc
-idle_is_not_busy s i e there (none, rests, unchecked) (inr (inl f)) = let both : None ≡ Some f.machine = sym rests ∙ ap (λ (d : PartyState). d.turn) (some-injective _ _ (sym there ∙ f.there)) ∙ f.flies in cc
-idle_is_not_busy s i e there (none, rests, unchecked) (inr (inr f)) = let both : None ≡ Some f.machine = sym unchecked ∙ ap (λ (d : PartyState). d.recheck) (some-injective _ _ (sym there ∙ f.there)) ∙ f.flies in cc
-
 pub quiet_is_idle : (s : Index) (i : ℕ) → IsQuiet s → IsBusy s i → ⊥
 quiet_is_idle s i quiet (inl f) = let both : None ≡ Some f.machine = sym (quiet.calls i f.state f.there) ∙ f.flies in cc
 quiet_is_idle s i quiet (inr (inl f)) = let both : None ≡ Some f.machine = sym (quiet.turns i f.state f.there) ∙ f.flies in cc

@@ -1,5 +1,5 @@
 -- Calls that are on a name or turns of the updater: which of the two a call is, and what either leaves.
-use Rattle.std.proofs.Common.{◌≡◌, ℕ, ◌<◌, ◌≤◌, inl, inr, ⊎_elim, length, refl, sym, ap, ◌∙◌, subst, arith}
+use Rattle.std.proofs.Common.{◌≡◌, ℕ, inl, inr, length, refl, sym, ap, ◌∙◌, subst, arith}
 use Rattle.std.specs.Prelude.{Option, Some, true, is_some}
 use mathlib.Core.Option.{some, some-injective}
 use lib.ListN.{get_elem?}
@@ -15,20 +15,17 @@ use Rattle.node_ops.specs.declared.recheck.Same.{Same}
 use Rattle.node_ops.specs.RecheckSteps.{recheck_turned}
 use Rattle.index_law.proofs.Parties.{set_here}
 use Rattle.updater.specs.declared.making.MakeTurn.{MakeTurn}
-use Rattle.pm_words.specs.declared.layout.Layout.{Layout}
 use Rattle.updater.specs.declared.making.TurnReply.{TurnReply}
 use Rattle.updater.specs.Makings.{making_from, making_turned}
 use Rattle.index_core.specs.declared.party.CoreCall.{CoreCall}
 use Rattle.index_core.specs.declared.party.CoreCall.TheVariants as call
-use Rattle.index_core.specs.CoreCalls.{IfRecheck, IfTurn, MayBegin, MayStart}
+use Rattle.index_core.specs.CoreCalls.{IfRecheck, IfTurn}
 use Rattle.index_core.specs.declared.party.PartyState.{PartyState}
 use Rattle.index_core.specs.declared.party.Rechecking.{Rechecking}
 use Rattle.index_core.specs.declared.party.Stepped.{Stepped}
 use Rattle.index_core.specs.declared.party.Stepped.TheVariants.{Going}
-use Rattle.index_core.specs.Indexes.{HasInFlight, Index, IsBusy, IsInFlight, IsRechecking, IsTurning, KeepsRoom, Starts, StepsTo, told, view_of}
+use Rattle.index_core.specs.Indexes.{HasInFlight, Index, IsBusy, KeepsRoom, Starts, StepsTo, told, view_of}
 use Rattle.index_core.specs.CoreCalls.{machine_of}
-use Rattle.index_core.specs.Lone.{MayRunAlone}
-use Rattle.index_law.specs.Facts.{version_in}
 use Rattle.index_core.specs.PartyStates.{recheck_after, recheck_reply, recheck_stepped, state_after, state_rechecked, state_turned, state_with, stepped_of, turn_after, turn_reply, turn_stepped}
 use Rattle.index_core.specs.Rechecks.{RecheckSteps, RecheckStepsTo, StartsRecheck, recheck_told}
 use Rattle.index_core.specs.Turns.{StartsTurn, TurnSteps, TurnStepsTo, turn_told}
@@ -41,16 +38,6 @@ IsNoTurn c = (stamp release : ℕ) → c ≡ call.Turn stamp release → ⊥
 
 abbrev pub IsNoRecheck : CoreCall → Type 0
 IsNoRecheck c = (node version : ℕ) → c ≡ call.Recheck node version → ⊥
-
--- a call that may start and is neither a turn nor a recheck is a caller's, on a name
-pub on_name : (l : Layout) (i : ℕ) (c : CoreCall) → MayStart l i c → IsNoTurn c → IsNoRecheck c → (i < l.callers) × MayBegin c
-on_name l i c (inl may) none unchecked = may
-on_name l i (call.Put name value limit) (inr other) none unchecked = absurd (⊎_elim (λ (never : ⊥). never) (λ (never : ⊥). never) other)
-on_name l i (call.Get name) (inr other) none unchecked = absurd (⊎_elim (λ (never : ⊥). never) (λ (never : ⊥). never) other)
-on_name l i (call.Del name limit) (inr other) none unchecked = absurd (⊎_elim (λ (never : ⊥). never) (λ (never : ⊥). never) other)
-on_name l i (call.Part low count) (inr other) none unchecked = absurd (⊎_elim (λ (never : ⊥). never) (λ (never : ⊥). never) other)
-on_name l i (call.Recheck node version) (inr other) none unchecked = absurd (unchecked node version refl)
-on_name l i (call.Turn stamp release) (inr other) none unchecked = absurd (none stamp release refl)
 
 pub no_recheck : (c : CoreCall) (P : ℕ → ℕ → Type 0) → IsNoRecheck c → IfRecheck c P
 no_recheck (call.Put name value limit) P none = tt
@@ -68,57 +55,11 @@ no_turn (call.Part low count) P none = tt
 no_turn (call.Recheck node version) P none = tt
 no_turn (call.Turn stamp release) P none = absurd (none stamp release refl)
 
--- one that is a turn is none on a name
-pub on_turn : (l : Layout) (i : ℕ) (c : CoreCall) (stamp release : ℕ) → MayStart l i c → c ≡ call.Turn stamp release → (i ≤ l.callers) × (1 ≤ stamp)
-on_turn l i c stamp release may is = of_turn (subst (MayStart l i) is may)
-  where
-    of_turn : MayStart l i (call.Turn stamp release) → (i ≤ l.callers) × (1 ≤ stamp)
-    of_turn (inl name) = absurd name.1
-    of_turn (inr (inl turn)) = turn
-    of_turn (inr (inr never)) = absurd never
-
--- one that may be made with nothing else in flight may start
-pub alone_may : (s : Index) (i : ℕ) (c : CoreCall) → MayRunAlone s i c → MayStart s.layout i c
-alone_may s i c (inl may) = inl may
-alone_may s i c (inr (inl turn)) = inr (inl turn)
-alone_may s i (call.Put name value limit) (inr (inr never)) = absurd never
-alone_may s i (call.Get name) (inr (inr never)) = absurd never
-alone_may s i (call.Del name limit) (inr (inr never)) = absurd never
-alone_may s i (call.Part low count) (inr (inr never)) = absurd never
-alone_may s i (call.Recheck node version) (inr (inr recheck)) = inr (inr (recheck.0, recheck.1))
-alone_may s i (call.Turn stamp release) (inr (inr never)) = absurd never
-
-pub alone_finds : (s : Index) (i : ℕ) (c : CoreCall) (node version : ℕ) → MayRunAlone s i c → c ≡ call.Recheck node version → version_in s.layout s.words node ≡ version
-alone_finds s i c node version may is = of_recheck (subst (MayRunAlone s i) is may)
-  where
-    of_recheck : MayRunAlone s i (call.Recheck node version) → version_in s.layout s.words node ≡ version
-    of_recheck (inl name) = absurd name.1
-    of_recheck (inr (inl never)) = absurd never
-    of_recheck (inr (inr recheck)) = recheck.2
-
--- so is one that is a recheck
-pub on_recheck : (l : Layout) (i : ℕ) (c : CoreCall) (node version : ℕ) → MayStart l i c → c ≡ call.Recheck node version → (i < l.callers) × (node < l.nodes)
-on_recheck l i c node version may is = of_recheck (subst (MayStart l i) is may)
-  where
-    of_recheck : MayStart l i (call.Recheck node version) → (i < l.callers) × (node < l.nodes)
-    of_recheck (inl name) = absurd name.1
-    of_recheck (inr (inl never)) = absurd never
-    of_recheck (inr (inr recheck)) = recheck
-
 pub a_recheck : (c : CoreCall) (P : ℕ → ℕ → Type 0) (node version : ℕ) → c ≡ call.Recheck node version → P node version → IfRecheck c P
 a_recheck c P node version is holds = subst (λ (d : CoreCall). IfRecheck d P) (sym is) holds
 
-pub no_name : (c : CoreCall) (stamp release : ℕ) → c ≡ call.Turn stamp release → MayBegin c → ⊥
-no_name c stamp release is may = subst MayBegin is may
-
 pub a_turn : (c : CoreCall) (P : ℕ → ℕ → Type 0) (stamp release : ℕ) → c ≡ call.Turn stamp release → P stamp release → IfTurn c P
 a_turn c P stamp release is holds = subst (λ (d : CoreCall). IfTurn d P) (sym is) holds
-
--- a party whose call isn't answered, which has none on a name in flight and makes no turn, makes a recheck
-pub checking : (s : Index) (i : ℕ) → IsBusy s i → (IsInFlight s i → ⊥) → (IsTurning s i → ⊥) → IsRechecking s i
-checking s i (inl flies) none rests = absurd (none flies)
-checking s i (inr (inl turns)) none rests = absurd (rests turns)
-checking s i (inr (inr checks)) none rests = checks
 
 -- a step of a turn takes no room for writes
 pub turn_keeps_room : (old new : Index) (i : ℕ) (answer : Option TurnReply) → TurnSteps old i new answer → KeepsRoom old new

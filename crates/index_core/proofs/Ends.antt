@@ -12,7 +12,7 @@ use Rattle.index_core.specs.Indexes.{Index}
 use Rattle.index_core.specs.Lone.{IsQuiet, IsStill}
 use Rattle.index_core.specs.Turns.{IsTurnedAnd, TurnsAlone}
 use Rattle.index_core.specs.Withins.{ComesInTime, ComesTo, CutsOff, CutsTurnOff, EndsInTime, EndsWithin, RanAlone}
-use Rattle.index_core.proofs.Either.{IsNoTurn, no_turn, no_name}
+use Rattle.index_core.proofs.Either.{IsNoTurn, no_turn}
 use Rattle.node_ops.specs.declared.recheck.Same.{Same}
 use Rattle.index_core.specs.Rechecks.{same_whole}
 use Rattle.index_core.specs.declared.party.CoreCall.TheVariants as call
@@ -40,15 +40,6 @@ name_ends T answer to result s0 s i c d same none is runs =
     (comes_to T (λ given. RanAlone s0 i c s (to given)) (λ given. Ran s0 i d s (to given)) (CutsOff s0 i c s) (Cuts s0 i d s) answer
     (λ given ran. (λ _. subst (λ (e : CoreCall). RanAlone s0 i e s (to given)) (sym same) ran, no_turn d _ none))
     (λ cut. (λ _. subst (λ (e : CoreCall). CutsOff s0 i e s) (sym same) cut, no_turn d _ none)) runs)
-
--- a turn of the updater
-pub turn_ends : (answer : Option Turned) (result : Within) (s0 s : Index) (i stamp release : ℕ) (d : CoreCall) → d ≡ call.Turn stamp release → ComesTo answer (λ given. result ≡ within.Answered (whole.Turned given)) (result ≡ within.Cut)
-    → ComesTo answer (λ turned. TurnsAlone s0 stamp release turned s) (CutsTurnOff s0 i s) → EndsWithin result (Ran s0 i d s) (Cuts s0 i d s) (s ≡ s0)
-turn_ends answer result s0 s i stamp release d same is runs =
-    ends_by Turned answer (λ given. whole.Turned given) result (Ran s0 i d s) (Cuts s0 i d s) (s ≡ s0) is
-    (comes_to Turned (λ turned. TurnsAlone s0 stamp release turned s) (λ turned. Ran s0 i d s (whole.Turned turned)) (CutsTurnOff s0 i s) (Cuts s0 i d s) answer
-    (λ turned ran. (λ may. absurd (no_name d stamp release same may), subst (λ (e : CoreCall). IfTurn e (λ stamp release. TurnsAlone s0 stamp release turned s)) (sym same) ran))
-    (λ cut. (λ may. absurd (no_name d stamp release same may), subst (λ (e : CoreCall). IfTurn e (λ stamp release. CutsTurnOff s0 i s)) (sym same) cut)) runs)
 
 -- a recheck, which is neither
 pub recheck_no_turn : (d : CoreCall) (node version : ℕ) → d ≡ call.Recheck node version → IsNoTurn d

@@ -1,5 +1,5 @@
 -- Lists of states, read by their places.
-use Rattle.std.proofs.Common.{◌≡◌, ℕ, zero, suc, ◌+◌, ◌<◌, ◌⊎◌, inl, inr, ⊎_elim, true, false, is_some, List, [], ◌∷◌, ◌++◌, length, get_or, set, map, refl, sym, ap, ◌∙◌, arith}
+use Rattle.std.proofs.Common.{◌≡◌, ℕ, zero, suc, ◌+◌, ◌<◌, ◌⊎◌, inl, inr, ⊎_elim, true, is_some, List, [], ◌∷◌, ◌++◌, length, get_or, set, map, refl, sym, ap, ◌∙◌, arith}
 use Rattle.std.proofs.lemmas.List.{length-append}
 use Rattle.std.specs.Prelude.{Option, Some, None, Contains, slice_get, slice_index_or}
 use mathlib.Core.Option.{some, some-injective, some-ne-none}
@@ -109,10 +109,6 @@ pub owed-set : (l : List PartyState) (i : ℕ) (was now : PartyState) → get_el
 owed-set [] i was now e = absurd (some-ne-none was (sym e))
 owed-set (x ∷ xs) zero was now e = let same = ap (λ (d : PartyState). machine_owes d.machine) (some-injective x was e) in omega arith
 owed-set (x ∷ xs) (suc i) was now e = let rest = owed-set xs i was now e in omega arith
-
-pub none_of : {A : Type 0} → (o : Option A) → is_some o ≡ false → o ≡ None
-none_of None e = refl
-none_of (Some a) e = absurd (cc)
 
 pub some_of : {A : Type 0} → (o : Option A) → is_some o ≡ true → (a : A) × (o ≡ Some a)
 some_of None e = absurd (cc)

@@ -112,10 +112,6 @@ weight_on l m a turn before after of less rise = ⊎_elim
     (λ (more : AddsName l (stage_of m) a (stage_after turn) × (after ≤ before + 1)). let up = rises l m a turn of more.0 in let none = up.0 in let one = up.1 in let most = more.1 in omega arith)
     rise
 
-after_caller : (e : PartyState) (turn : Turn Running (Once Placed)) → (state_after e turn).caller ≡ e.caller
-after_caller e (Go m) = refl
-after_caller e (Done answer) = refl
-
 pub machine_law : MachineKeeps
 machine_law s i e m is there flies =
     let step = step_facts s i e m is there flies in

@@ -45,7 +45,7 @@ use Rattle.index_law.proofs.Parties.{at_set, set_here}
 use Rattle.index_core.specs.Turns.{turn_told}
 use Rattle.index_core.proofs.Flights.{each_goes_on}
 use Rattle.index_core.proofs.Indexed.{states_set}
-use Rattle.index_core.proofs.Scheduling.{IsEarlier, AnswerHolds, CountsUpTo, counts_as, in_flight, Kept, place_le_end, flies_elsewhere, took_one}
+use Rattle.index_core.proofs.Scheduling.{IsEarlier, AnswerHolds, CountsUpTo, counts_as, in_flight, Kept, flies_elsewhere, took_one}
 use Rattle.index_core.specs.PartyStates.{idle_state, next_index, index_after, stepped_of, reply_with, answer_in, listed_by, recheck_after, turn_after}
 use Rattle.index_core.proofs.Lists.{some_same, idle-each}
 use Rattle.index_core.proofs.Told.{go_of, done_of, told_lists}

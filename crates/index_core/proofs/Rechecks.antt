@@ -1,7 +1,6 @@
 -- What is known of parts in an index, and what a recheck tells there.
-use Rattle.std.proofs.Common.{◌≡◌, ℕ, ◌<◌, ◌+◌, List, [], ◌∷◌, ◌++◌, length, take, refl, sym, subst, ap, ◌∙◌, arith}
-use Rattle.std.specs.Prelude.{Bool, Option, IfSome, if◌then◌else◌}
-use Rattle.std.proofs.lemmas.Bool.{eq-eqb}
+use Rattle.std.proofs.Common.{◌≡◌, ℕ, ◌<◌, ◌+◌, List, [], ◌∷◌, ◌++◌, length, take, refl, sym, subst, ap, arith}
+use Rattle.std.specs.Prelude.{Option, IfSome}
 use Rattle.std.proofs.lemmas.List.{set-get_or}
 use mathlib.Core.Option.{some}
 use lib.ListN.{get_elem?}
@@ -9,24 +8,19 @@ use Rattle.cat_history.specs.Maps.{Map, map_of}
 use Rattle.cat_history.specs.Scans.{range}
 use Rattle.pm_words.specs.declared.layout.Layout.{Layout}
 use Rattle.pm_words.specs.declared.action.Action.TheVariants.{Load}
-use Rattle.pm_words.specs.declared.again.Again.TheVariants.{Moved}
-use Rattle.pm_words.specs.declared.machine.Turn.{Turn}
-use Rattle.pm_words.specs.declared.machine.Turn.TheVariants.{Go, Done}
+use Rattle.pm_words.specs.declared.machine.Turn.TheVariants.{Go}
 use Rattle.pm_words.specs.Rows.{acted}
-use Rattle.call_stages.specs.declared.once.Once.{Once}
 use Rattle.call_stages.specs.declared.once.Once.TheVariants as once
-use Rattle.call_stages.specs.declared.view.View.{View}
 use Rattle.call_stages.specs.AnySteps.{AnyStep}
 use Rattle.call_stages.specs.Kinds.{Told, clock_address, version_address}
 use Rattle.call_stages.specs.Stages.{Stage, counted}
-use Rattle.index_law.specs.Facts.{facts_of, version_in}
+use Rattle.index_law.specs.Facts.{facts_of}
 use Rattle.index_law.specs.Laws.{Allowed, loads_clock, loads_word, ActionLaw}
 use Rattle.index_law.specs.Worlds.{facts, written}
 use Rattle.index_law.proofs.Actions.{action_law}
 use Rattle.index_law.proofs.Maps.{after-longer}
 use Rattle.node_ops.specs.declared.recheck.Recheck.{Recheck}
 use Rattle.node_ops.specs.declared.recheck.Recheck.TheVariants.{Dating, Checking}
-use Rattle.node_ops.specs.declared.recheck.Same.{Same}
 use Rattle.node_ops.specs.declared.running.Running.{Running}
 use Rattle.node_ops.specs.declared.running.Running.TheVariants.{Parting}
 use Rattle.node_ops.specs.CallStages.{stage_of, stage_after, reply_of}
@@ -38,7 +32,7 @@ use Rattle.node_ops.specs.Rechecks.{IsKnown, KnownPart}
 use Rattle.node_ops.specs.RunningSteps.{Sound, running_asks, running_turned}
 use Rattle.node_ops.proofs.Rechecks as ops
 use Rattle.index_core.specs.declared.party.PartyState.{PartyState}
-use Rattle.index_core.specs.Indexes.{Index, IsIndex, world, told}
+use Rattle.index_core.specs.Indexes.{Index, world, told}
 use Rattle.index_core.specs.PartyStates.{machine_stage, party_of}
 use Rattle.index_core.specs.Rechecks.{PartsBecomeKnown, StepsKeepKnown, TurnsKeepKnown, recheck_told, RechecksAct}
 use Rattle.index_core.specs.Rechecks.{IsRecheckOf, IsSameRecheck}
@@ -141,19 +135,3 @@ goes_same s (Dating view node version) next x of goes =
     subst (λ (q : Recheck). IsSameRecheck (Dating view node version) q × IsRecheckOf s q) same
     (record { view = refl; node = refl; version = refl }, record { here = of.here; layout = of.layout; generation = of.generation })
 goes_same s (Checking view node version clock) next x of goes = absurd (cc)
-
--- one that is alone finds what it was handed, if that is the word that is there
-pub recheck_ends : (s : Index) (view : View) (node version : ℕ) (next : Recheck) (result : Turn Recheck (Once Same)) → IsIndex s → IsRecheckOf s (Dating view node version) → version_in s.layout s.words node ≡ version
-    → recheck_turned (Dating view node version) (recheck_told s (Dating view node version)) ≡ Go next → result ≡ recheck_turned next (recheck_told s next) → result ≡ Done (once.Done (record { place = length s.history }))
-recheck_ends s view node version next result is of same goes second =
-    let clock = recheck_told s (Dating view node version) in
-    let on : Checking view node version clock ≡ next = cc in
-    let dated : clock ≡ length s.history = ops.rechecks_are_told (world s) (Dating view node version) is.lawful of.here of.layout in
-    let found : recheck_told s (Checking view node version clock) ≡ version = ops.rechecks_are_told (world s) (Checking view node version clock) is.lawful of.here of.layout ∙ same in
-    second ∙ ap (λ (r : Recheck). recheck_turned r (recheck_told s r)) (sym on)
-    ∙ ap (λ (n : ℕ). recheck_turned (Checking view node version clock) n) found
-    ∙ ap (λ (b : Bool). done_with (if b then once.Done (record { place = clock }) else once.Again (Moved node version version))) (eq-eqb version version refl)
-    ∙ ap (λ (place : ℕ). done_with (once.Done (record { place = place }))) dated
-  where
-    done_with : Once Same → Turn Recheck (Once Same)
-    done_with answer = Done answer

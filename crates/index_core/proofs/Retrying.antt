@@ -32,8 +32,7 @@ use Rattle.index_law.specs.Anchors.{anchors_of, anchors_in}
 use Rattle.index_law.proofs.Noting.{line-here}
 use Rattle.index_law.proofs.Parties.{set_here}
 use Rattle.index_law.proofs.Starts.{listed_within}
-use Rattle.lone_hops_law.specs.lone_call_law.specs.LoneCalls.{FindsFull, FindsWorn, IsLate, IsAnswered}
-use Rattle.lone_hops_law.specs.lone_call_law.specs.Locks.{locks_in}
+use Rattle.lone_hops_law.specs.lone_call_law.specs.LoneCalls.{FindsFull, IsAnswered}
 use Rattle.lone_hops_law.specs.lone_call_law.specs.Merging.{NextIsWorn, next_node}
 use Rattle.lone_hops_law.specs.lone_call_law.specs.Splitting.{LacksFree, LacksLine}
 use Rattle.lone_hops_law.specs.lone_call_law.specs.There.{IsUnmoved}

@@ -28,7 +28,7 @@ use Rattle.index_law.proofs.Maps.{after-longer}
 use Rattle.index_core.specs.declared.party.CoreReply.{CoreReply}
 use Rattle.index_core.specs.declared.party.Stepped.TheVariants.{Going, Answered}
 use Rattle.index_core.specs.Indexes.{Index, TurnsTo, StepsTo, told}
-use Rattle.index_core.specs.PartyStates.{reply_with, stepped_of, answer_in, answered_by, listed_by}
+use Rattle.index_core.specs.PartyStates.{reply_with, stepped_of, answer_in, listed_by}
 use Rattle.index_core.specs.Listings.{IsPartAt, ListsRange, ListsAt}
 use Rattle.index_core.specs.Schedules.{PartLists, CallLists}
 use Rattle.index_core.proofs.PartFacts.{lists_range, sound_call}
@@ -40,9 +40,6 @@ go_of (Done answer) is = absurd (cc)
 pub done_of : (turn : Turn Running (Once Placed)) (answer : Once Placed) → reply_of turn ≡ Some answer → turn ≡ Done answer
 done_of (Go next) answer is = absurd (cc)
 done_of (Done other) answer is = cc
-
-done_same : {a b : Once Placed} → Path (Turn Running (Once Placed)) (Done a) (Done b) → a ≡ b
-done_same is = cc
 
 -- A part that has no listing is answered before its place is.
 pub is_early : (m : Running) (x : ℕ) (answer : Once Placed) → running_turned m x ≡ Done answer → IsSome (count_in m) → listed_in m ≡ None → IsEarly answer
@@ -82,13 +79,6 @@ answer_told m x answer is = at (count_in m) refl (listed_in m) refl
         with_words (once.Spent clock) same = refl
         with_words (once.Worn node word) same = refl
         with_words (once.Again why) same = refl
-
-pub answer_of_step : (m : Running) (x : ℕ) → answered_by (stepped_of m (running_turned m x)) ≡ reply_of (running_turned m x)
-answer_of_step m x = at (running_turned m x) refl
-  where
-    at : (turn : Turn Running (Once Placed)) → running_turned m x ≡ turn → answered_by (stepped_of m turn) ≡ reply_of turn
-    at (Go next) is = refl
-    at (Done answer) is = ap Some (answer_told m x answer is)
 
 -- and where it lists names, these are the map's at its place.
 early_lists : (base : Map) (history : List Write) (low : List ℕ) (count : ℕ) (answer : Once Placed) → IsEarly answer → PartLists base history low count answer (listed_by (reply_with (Some count) None answer))

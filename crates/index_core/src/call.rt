@@ -1,3 +1,5 @@
+//! Which machine makes a call on a name.
+
 ghost use Rattle.std.specs.Prelude.{◌≡◌, IsTrue};
 ghost use Rattle.cat_key.specs.Names.{IsName};
 

@@ -1,3 +1,5 @@
+//! The index in memory: how calls begin, make their steps and end.
+
 ghost use Rattle.std.specs.Prelude.{◌≡◌, ℕ, ◌+◌, ◌-◌, ◌<◌, ◌≤◌, ◌↔◌, List, ◌++◌, length, replicate, OnOk, OnErr};
 ghost use Rattle.std.specs.Prelude.{IsErr, IsTrue, IfSome, vec_len, vec_capacity, Some, None};
 ghost use Rattle.pm_words.specs.Layouts.{IsLayout};

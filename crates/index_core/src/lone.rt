@@ -6,7 +6,7 @@
 ghost use Rattle.std.specs.Prelude.{◌≡◌, ◌+◌, ◌<◌, ◌≤◌, length, None};
 ghost use Rattle.index_core.specs.declared.party.CoreCall.TheVariants as CoreCall;
 ghost use Rattle.index_core.specs.CoreCalls.{IfRecheck, IfTurn, MayBegin, count_of, most_writes};
-ghost use Rattle.index_core.specs.Costs.{ActsWithin, TriesWithin};
+ghost use Rattle.index_core.specs.Costs.{ActsWithin, TriesWithin, turn_actions};
 ghost use Rattle.index_core.specs.Indexes.{IsIndex};
 ghost use Rattle.index_core.specs.Lone.{HasShortWays, IsQuiet, LoseAtMost, MayRunAlone, RunsAlone};
 ghost use Rattle.index_core.specs.Lone.{TakesEachLock, TakesLocks};
@@ -33,8 +33,8 @@ impl Core {
     /// the node are used up, else the clock has reached the limit, else there is no room for a new name, else it takes
     /// place. A put that finds its node full splits it, and is made again. A delete merges the node of its name with
     /// the next one where both together are left with at most half as many names as a node has slots. A part of a scan
-    /// lists the names of its low name's node from that one on. Of `spare` a call takes one for a write that it places,
-    /// and none otherwise.
+    /// lists the names of its low name's node from that one on. Of `spare` a call takes one at most, and only for a
+    /// write that it places.
     ///
     /// Where the caller has no EMPTY log line, or no node is FREE, the updater's party makes a turn, which empties the
     /// log and frees merged nodes, and the call is made again. So it finds no room only where no turn could help.
@@ -45,7 +45,8 @@ impl Core {
     ///
     /// It makes at least one step, which `steps` counts, as do the calls below. On an index whose ways are short a call
     /// that needs no turn, and isn't answered that a node is worn, makes no more than `most_actions`: on any layout
-    /// some 14,100 for a get and 58,400 for a put, and ten or twenty more for each log line that is READY.
+    /// some 14,100 for a get and 58,400 for a put, and ten or twenty more for each log line that is READY. A turn makes
+    /// at most `turn_actions`, and a recheck two.
     pub fn run_alone<L: Ledger>(
         &mut self,
         caller: u64,
@@ -66,6 +67,8 @@ impl Core {
         ensures locks { MayBegin call → TakesLocks caller call self.old self.new }
         ensures acts { steps.old < steps.new }
         ensures events { MayBegin call → ActsWithin self.old caller call result steps.old steps.new }
+        ensures turn_events { IfTurn call (λ stamp release. steps.new ≤ steps.old + turn_actions self.old.layout) }
+        ensures recheck_events { IfRecheck call (λ node version. steps.new ≡ steps.old + 2) }
         ensures index { IsIndex self.new }
     {
         match call {

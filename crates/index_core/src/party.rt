@@ -1,3 +1,5 @@
+//! The parties of the index: what they call, what they have in flight, and what they are answered.
+
 ghost use Rattle.std.specs.Prelude.{◌≡◌, IfOk};
 ghost use Rattle.index_core.specs.PartyStates.{idle_states};
 ghost use Rattle.index_core.specs.Lone.{lacks_line, lacks_node, needs_split};
@@ -41,8 +43,8 @@ pub struct Rechecking {
 pub struct PartyState {
     /// The party's number.
     pub caller: u64,
-    /// How many of its calls on a name were answered, without those that were turned back. It is the index of its call
-    /// in flight, and between two calls that of its next one.
+    /// How many of its calls on a name were answered, without single tries that were turned back. It is the index of
+    /// its call in flight, and between two calls that of its next one.
     pub index: u64,
     /// How long the history was as its call on a name in flight, or else its last one, began.
     pub since: u64,

@@ -19,3 +19,9 @@ returns-in_default-clause-events g c = λ _. subst (λ (r : Whole). ActsWithin c
 
 pub returns-in_default-clause-rechecks : goal.returns-in_default-clause-rechecks
 returns-in_default-clause-rechecks g c = no_recheck c.args.call _ c.in_default.not-Recheck
+
+pub returns-in_default-clause-turn_events : goal.returns-in_default-clause-turn_events
+returns-in_default-clause-turn_events g c = no_turn c.args.call _ c.in_default.not-Turn
+
+pub returns-in_default-clause-recheck_events : goal.returns-in_default-clause-recheck_events
+returns-in_default-clause-recheck_events g c = no_recheck c.args.call _ c.in_default.not-Recheck
