@@ -11,7 +11,7 @@ use Rattle.cat_history.specs.declared.op.Change.{Change}
 use Rattle.cat_history.specs.declared.op.Write.{Write}
 use Rattle.pm_words.specs.Images.{Row}
 use Rattle.pm_words.specs.Locations.{image_words}
-use Rattle.pm_words.specs.Rows.{IsRow, durable_row}
+use Rattle.pm_words.specs.Rows.{durable_row}
 use Rattle.index_law.specs.Weights.{weight_sum}
 use Rattle.index_core.specs.declared.party.PartyState.{PartyState}
 use Rattle.index_core.specs.CrashLaws.{chosen_index, evicted_by}
@@ -137,10 +137,6 @@ holds s callers id words slots has final =
           let enough : key.layout.nodes * (key.layout.slots / 2) ≤ opening_weight key + added_by_all callers + puts = omega (arith, half, added) in
           subst (λ (q : About). q.layout.nodes * (q.layout.slots / 2) ≤ opening_weight q + added_by_all callers + puts) same enough;
     }
-
--- the words are a row of the layout
-pub held_row : (s : Shared) (callers : List Caller) (words : List ℕ) → IsHeld s callers words → IsRow s.about.layout words
-held_row s callers words z = z.index.lawful.row
 
 -- the image of the words once those that the seed chooses are durable
 pub meets_so : (s : Shared) (callers : List Caller) (words : List ℕ) (seed : ℕ) (crashed : Crashed) → ((i : ℕ) (c : Caller) → get_elem? callers i ≡ some c → TellsCut c.cut (seen_by c).state) → IsHeld s callers words → crashed.cuts.items ≡ map cut_of callers

@@ -1,33 +1,14 @@
 -- A caller whose call was answered, or cut off, is one still.
-use Rattle.std.proofs.Common.{◌≡◌, ◌≢◌, ◌⊎◌, ⊎_elim, ℕ, ◌<◌, inl, inr, List, ◌++◌, refl, sym, ap, ◌∙◌, subst}
+use Rattle.std.proofs.Common.{◌≡◌, ◌≢◌, ◌⊎◌, ⊎_elim, ℕ, ◌<◌, refl, sym, ap, ◌∙◌, subst}
 use Rattle.std.specs.Prelude.{Option, Some, None}
-use Rattle.cat_history.specs.Records.{change_of}
-use Rattle.cat_history.specs.declared.op.Change.{Change}
-use Rattle.cat_history.specs.declared.op.Write.{Write}
-use Rattle.call_stages.specs.declared.once.Once.{Once}
-use Rattle.call_stages.specs.declared.once.Placed.{Placed}
-use Rattle.index_core.specs.declared.party.CoreCall.{CoreCall}
-use Rattle.index_core.specs.CoreCalls.{op_of}
 use Rattle.index_core.specs.Indexes.{parties_of}
-use Rattle.index_core.specs.MachineLaws.{place_told}
 use Rattle.epochs.specs.Seats.{IsSeatOf, IsUnpinned, known_by}
 use Rattle.pac_index.specs.declared.caller.Caller.{Caller}
 use Rattle.pac_index.specs.declared.caller.CutCall.{CutCall}
 use Rattle.pac_index.specs.declared.shared.Shared.{Shared}
-use Rattle.pac_index.specs.Budgets.{Pays, StopsAt}
+use Rattle.pac_index.specs.Budgets.{Pays}
 use Rattle.pac_index.specs.Callers.{IsAtRest, IsCallerOf, TellsCut, pairs, seen_by}
-use Rattle.pac_index.specs.Calls.{Answers, own_at}
 use Rattle.pac_index.specs.Kept.{IsLone, placed_by}
-
--- what it keeps is what it has placed
-kept_so : (s : Shared) (old new : Caller) (change : Option Change) (place : Option ℕ) → IsCallerOf s old → new.number ≡ old.number
-    → pairs new.kept.items ≡ pairs old.kept.items ++ own_at old.number old.index change place
-    → placed_by (seen_by old).state.caller (seen_by new).seen ≡ placed_by (seen_by old).state.caller (seen_by old).seen ++ own_at (seen_by old).state.caller old.index change place
-    → pairs new.kept.items ≡ placed_by new.number (seen_by new).seen
-kept_so s old new change place a same pushed own =
-    pushed ∙ ap (λ (l : List (ℕ × Write)). l ++ own_at old.number old.index change place) a.kept
-    ∙ sym (subst (λ (n : ℕ). placed_by n (seen_by new).seen ≡ placed_by n (seen_by old).seen ++ own_at n old.index change place) a.number own)
-    ∙ ap (λ (n : ℕ). placed_by n (seen_by new).seen) (sym same)
 
 -- Its seats are those that it had, and it has given its pin back.
 pub record IsSeated (s : Shared) (old new : Caller) : Type 0 where
@@ -44,44 +25,6 @@ seated_by s old new a table lone number pins = record { table = table; lone = lo
 -- who is at rest tells of nothing
 pub rests_tells : (c : Caller) → IsAtRest c → TellsCut c.cut (seen_by c).state
 rests_tells c rests = subst (λ (o : Option CutCall). TellsCut o (seen_by c).state) (sym rests.2) rests.0
-
--- an answered one
-pub answered_rests : (old new : Caller) (c : CoreCall) (n : ℕ) (answer : Once Placed) → IsAtRest old → new.cut ≡ old.cut → Answers c n (seen_by old) answer (seen_by new) → IsAtRest new
-answered_rests old new c n answer rests cut t = (t.idle, t.turn ∙ rests.1, cut ∙ rests.2)
-
-pub answered_caller : (s : Shared) (old new : Caller) (c : CoreCall) (answer : Once Placed) → IsCallerOf s old → IsAtRest old → IsSeated s old new → new.cut ≡ old.cut
-    → pairs new.kept.items ≡ pairs old.kept.items ++ own_at old.number old.index (change_of (op_of c)) (place_told (change_of (op_of c)) answer)
-    → Answers c old.index (seen_by old) answer (seen_by new) → IsCallerOf s new
-answered_caller s old new c answer a rests seated cut pushed t = record {
-  table = seated.table ∙ a.table;
-  lone = seated.lone;
-  about = t.about ∙ a.about;
-  rests = inl (answered_rests old new c old.index answer rests cut t);
-  tells = rests_tells new (answered_rests old new c old.index answer rests cut t);
-  number = t.caller ∙ a.number ∙ sym seated.number;
-  within = subst (λ (n : ℕ). n < parties_of s.about.layout) (sym seated.number) a.within;
-  kept = kept_so s old new (change_of (op_of c)) (place_told (change_of (op_of c)) answer) a seated.number pushed t.own;
-  pins = seated.pins;
-  unpinned = seated.unpinned;
-  pinning = seated.pinning ∙ a.pinning ∙ sym seated.number;
-}
-
--- one that was cut off
-pub cut_caller : (s : Shared) (old new : Caller) (c : CoreCall) (place : Option ℕ) → IsCallerOf s old → IsSeated s old new → new.left ≡ Some 0 → new.cut ≡ Some (record { call = c; index = old.index; place = place })
-    → pairs new.kept.items ≡ pairs old.kept.items ++ own_at old.number old.index (change_of (op_of c)) place → StopsAt c old.index (seen_by old) place (seen_by new) → IsCallerOf s new
-cut_caller s old new c place a seated spent cut pushed t = record {
-  table = seated.table ∙ a.table;
-  lone = seated.lone;
-  about = t.about ∙ a.about;
-  rests = inr spent;
-  tells = subst (λ (o : Option CutCall). TellsCut o (seen_by new).state) (sym cut) (record { machine = t.machine; flies = t.flies; op = t.op; index = t.index_is; place = t.place_is });
-  number = t.caller ∙ a.number ∙ sym seated.number;
-  within = subst (λ (n : ℕ). n < parties_of s.about.layout) (sym seated.number) a.within;
-  kept = kept_so s old new (change_of (op_of c)) place a seated.number pushed t.own;
-  pins = seated.pins;
-  unpinned = seated.unpinned;
-  pinning = seated.pinning ∙ a.pinning ∙ sym seated.number;
-}
 
 -- one that has placed nothing, and whose state is told
 pub record HasNothingPlaced (old new : Caller) : Type 0 where

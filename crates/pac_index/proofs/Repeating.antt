@@ -40,7 +40,7 @@ use Rattle.pac_index.specs.Pinned.{Pinned, PinMoved, WasPinned}
 use Rattle.pac_index.specs.Ends.{ended_of, ended_by, turn_ended_by, DoesNothing, EachIs, OnDone, IsTry, HasOnlyRead, AtLast, TurnedBack}
 use Rattle.pac_index.specs.Ends.EachIs.{no_step, one_more}
 use Rattle.pac_index.specs.Outcomes.{OnceComesTo, RepeatComesTo, TurnComesTo, TurnTryComesTo, TurnTryRests}
-use Rattle.pac_index.specs.Turns.{noted_in, HasMadeTurn, FoundHeld, MadeTurn, TurnAnswers, TurnHeld, TurnedAtLast}
+use Rattle.pac_index.specs.Turns.{noted_in, FoundHeld, MadeTurn, TurnAnswers, TurnHeld}
 use Rattle.epochs.specs.Kept.{first_epoch}
 use Rattle.epochs.specs.declared.rule.PinMember.{PinMember}
 use Rattle.pac_index.proofs.Budgeting.{pays_nothing, pays_then}
@@ -344,10 +344,6 @@ turn_ends_so parties old b a (turn.Held word) end still tries back same ends is 
 turn_ends_so parties old b a turn.Cut end still tries back same ends is rests =
     let gives : ended.Cut ≡ end = cc in
     subst (λ (e : Ended Turned). TurnComesTo parties old e a) gives (turn_cut parties old b a still tries back same is)
-
--- of a turn that was tried until it was made
-pub turned_at_last : (parties : ℕ) (old w : Member) (pins pins_now : PinMember) (turned : Turned) → TurnedAtLast parties old pins turned w pins_now → HasMadeTurn turned old w
-turned_at_last parties old w pins pins_now turned is = record { before = is.last.before; tries = is.last.tries; back = is.last.back; last = (is.epoch, is.last.last.answers) }
 
 -- of whichever try of a turn: what it leaves
 stops_reads : (epoch : ℕ) (v w : Member) → TurnStopsAt epoch v w → HasOnlyRead v w

@@ -33,7 +33,7 @@ use Rattle.index_core.specs.declared.party.CoreCall.{CoreCall}
 use Rattle.index_core.specs.declared.party.CoreCall.TheVariants as call
 use Rattle.index_core.specs.declared.party.PartyState.{PartyState}
 use Rattle.index_core.specs.Answers.{HasOwnWrite, FoundNoRoom, SaysOf, IsAnswerOf}
-use Rattle.index_core.specs.CoreCalls.{machine_of, op_of, limit_of}
+use Rattle.index_core.specs.CoreCalls.{op_of, limit_of}
 use Rattle.index_core.specs.Listings.{ListsRange}
 use Rattle.index_core.specs.PartyStates.{state_after}
 use Rattle.index_core.specs.Indexes.{MakesCall}
@@ -43,7 +43,7 @@ use Rattle.pac_index.specs.declared.rule.Member.{Member}
 use Rattle.index_core.specs.Heard.{RunningTold}
 use Rattle.pac_index.specs.Kept.{HasPart, answered_now, placed_by, noted, Goes, GoesTimely, view_in, machine_in, calling, added_now}
 use Rattle.pac_index.specs.Calls.{own_at, run_of, began, Runs, Answers, part_in, PartAnswers, StepsOn, turn_left}
-use Rattle.index_core.specs.MachineLaws.{IsNoEpoch, IsReady, ReadyAfter, place_now, place_next}
+use Rattle.index_core.specs.MachineLaws.{IsNoEpoch, ReadyAfter, place_now, place_next}
 use Rattle.index_core.proofs.MachineLaw.{first_ready, places_follow}
 use Rattle.index_core.proofs.Told.{is_early}
 use Rattle.index_core.proofs.Causes.{nothing_told, running_told}
@@ -103,9 +103,6 @@ first_call v (call.Del name limit) = (refl, refl)
 first_call v (call.Part low count) = (refl, refl)
 first_call v (call.Recheck node version) = (refl, refl)
 first_call v (call.Turn stamp release) = (refl, refl)
-
-first_op : (v : Member) (c : CoreCall) → IsOf (op_of c) (machine_in v c) → IsOf (op_of c) (machine_in v c)
-first_op v c of = of
 
 -- a call that begins
 pub runs_first : (c : CoreCall) (n : ℕ) (old : Member) (since : ℕ) → length old.seen ≤ since → IsRunning (machine_in old c) → IsOf (op_of c) (machine_in old c) → Runs c n old (Go (machine_in old c)) (calling old c n since)
@@ -259,20 +256,9 @@ pub going : (machine : Running) (answer : Option (Once Placed)) → ((told : Onc
 going machine None none = refl
 going machine (Some told) none = absurd (none told refl)
 
--- the party of a call in flight has its machine, which may name the place of its next action
-pub flies_on : (c : CoreCall) (n : ℕ) (old v : Member) (turn : Turn Running (Once Placed)) (m : Running) → Runs c n old turn v → turn ≡ Go m → v.state.machine ≡ Some m
-flies_on c n old v turn m runs is = ap (λ (e : PartyState). e.machine) (runs.state ∙ ap (state_after (began c n old runs.since)) is)
-
-pub ready_on : (c : CoreCall) (n : ℕ) (old v : Member) (turn : Turn Running (Once Placed)) (m : Running) (about : About) → Runs c n old turn v → turn ≡ Go m → old.about ≡ about → IsReady about.layout about.generation m
-ready_on c n old v turn m about runs is same = subst (λ (b : About). IsReady b.layout b.generation m) same (subst (ReadyAfter old.about.layout old.about.generation) is runs.ready)
-
 pub runs_stepped : (c : CoreCall) (n : ℕ) (old v w : Member) (turn : Turn Running (Once Placed)) (m next : Running) (answer : Option (Once Placed)) → Runs c n old turn v → turn ≡ Go m → StepsOn m v w next answer → Runs c n old (turn_of next answer) w
 runs_stepped c n old v w turn m next answer runs is on = subst (λ (u : Turn Running (Once Placed)). Runs c n old u w) on.turned (runs_on c n old v w turn m on.told runs is on.goes)
 
 pub lessens : (m : Running) (turn : Turn Running (Once Placed)) → GoesBelow running_left (running_left m) turn → turn_left turn < turn_left (Go m)
 lessens m (Go n) less = omega arith
 lessens m (Done a) less = omega arith
-
--- the machine that the code makes is the party's
-pub machine_here : (v : Member) (about : About) (number : ℕ) (c : CoreCall) (m : Running) → v.about ≡ about → v.state.caller ≡ number → m ≡ machine_of (record { layout = about.layout; generation = about.generation; caller = number }) c → m ≡ machine_in v c
-machine_here v about number c m same caller made = made ∙ (λ k. machine_of (record { layout = (sym same k).layout; generation = (sym same k).generation; caller = sym caller k }) c)

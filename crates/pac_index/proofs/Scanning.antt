@@ -7,9 +7,8 @@ use Rattle.std.specs.Prelude.{Err, IfSome, Ok, Result}
 use Rattle.pac_index.specs.declared.scans.Scanned.{Scanned}
 use Rattle.pac_index.specs.declared.scans.Scanned.TheVariants as scanned
 use Rattle.index_core.specs.PartyStates.{next_index}
-use Rattle.std.specs.List.{AllByRecursion}
 use Rattle.std.proofs.Common.{take}
-use Rattle.cat_key.specs.Names.{IsName, AreNameWords}
+use Rattle.cat_key.specs.Names.{IsName}
 use Rattle.cat_key.specs.declared.Pair.{Pair}
 use Rattle.cat_history.specs.Maps.{Map, map_of}
 use Rattle.cat_history.specs.Scans.{is_below, range, IsPart, AreParts, GoesOn}
@@ -23,7 +22,7 @@ use Rattle.data_node.specs.Lists.{key_of}
 use Rattle.call_stages.specs.declared.once.Once.TheVariants as once
 use Rattle.node_ops.specs.declared.part.PartWords.{PartWords}
 use Rattle.node_ops.specs.Parts.{pairs_of}
-use Rattle.node_ops.specs.PartSteps.{entry_name, placed_of}
+use Rattle.node_ops.specs.PartSteps.{placed_of}
 use Rattle.cat_history.specs.declared.op.NameOp.TheVariants as op
 use Rattle.data_node.proofs.KeyLemmas.{word_fits, key-number}
 use Rattle.index_law.proofs.Maps.{after-longer}
@@ -62,12 +61,6 @@ module _ (low : List ℕ) (left n : ℕ) (old new : Member) (words : PartWords) 
   lists : ListsRange (after (map_of old.about.base) new.seen words.place) low left words
   lists = subst (λ (a : About). ListsRange (after (map_of a.base) new.seen words.place) low left words) is.back.about is.last.lists
 
-  pub part_fits : words.len ≤ 64
-  part_fits = lists.few
-
-  pub part_named : AllByRecursion (λ (entry : List ℕ). AreNameWords (entry_name entry)) (take words.len words.entries)
-  part_named = lists.named
-
   pub part_is : (pairs : List Pair) → pairs ≡ pairs_of words → IsNamed (record { low = low; high = words.high; place = words.place; pairs = pairs }) →
       IsRead low left old new (record { low = low; high = words.high; place = words.place; pairs = pairs })
   part_is pairs listed named = record {
@@ -103,27 +96,10 @@ cut_scan low count old a is = record {
       is.cut;
 }
 
--- so it is of the whole scan
-pub cut_scan_since : (old b a : Caller) → StillOrRests old b → b.index ≡ old.index → IsCutScan b a → IsCutScan old a
-cut_scan_since old b a still index is = record {
-  spent = is.spent;
-  cut = ⊎_elim
-      (λ (same : a ≡ b). ⊎_elim
-      (λ (first : b ≡ old). inl (same ∙ first))
-      (λ (rests : IsAtRest b). inr (subst (λ (o : Option CutCall). IsPartCut o old.index) (sym (ap (λ (d : Caller). d.cut) same ∙ rests.2)) tt))
-      still)
-      (λ (part : IsPartCut a.cut b.index). inr (subst (IsPartCut a.cut) index part))
-      is.cut;
-}
-
 -- of what one part comes to
 pub part_rests : (E : Type 0) (o : Option ScanPart) (part : ScanPart) (b a : Caller) → o ≡ Some part → PartEnds {E = E} (Ok o) b a → IsAtRest a
 part_rests E (Some p) part b a is ends = ends
 part_rests E None part b a is ends = absurd (cc)
-
-pub part_stopped : (E : Type 0) (o : Option ScanPart) (b a : Caller) → o ≡ None → PartEnds {E = E} (Ok o) b a → IsCutScan b a
-part_stopped E (Some p) b a is ends = absurd (cc)
-part_stopped E None b a is ends = ends
 
 pub part_read : (P : ScanPart → Type 0) (o : Option ScanPart) (part : ScanPart) → o ≡ Some part → IfSome o P → P part
 part_read P o part is read = subst (λ (q : Option ScanPart). IfSome q P) is read

@@ -61,9 +61,6 @@ one_most about (suc k) n = ⊎_elim
     (λ (apart : k ≢ n). let split = times_first about k n in let before = one_most about k n in let other : one_if (k == n) ≡ 0 = ap one_if (ne_eqb k n apart) in omega arith)
     (cases_eq k n)
 
-none_at : {A : Type 0} (P : Type 0) (i : ℕ) (a : A) → get_elem? [] i ≡ some a → P
-none_at P i a at = absurd (some-ne-none a (sym at))
-
 -- the rule holds as the table is made
 pub opens : (s : Index) → IsIndex s → IsQuiet s → s.history ≡ [] → Kept (about_in s) (opening s.words [] (first_view (about_in s)))
 opens s is quiet none =

@@ -1,5 +1,5 @@
 -- Stamps stand beside the nodes: an index reads none of them.
-use Rattle.std.proofs.Common.{◌≡◌, ◌≢◌, ℕ, ◌+◌, ◌<◌, ◌≤◌, ⊎_elim, List, get_or, set, refl, sym, ap, ◌∙◌, subst, arith}
+use Rattle.std.proofs.Common.{◌≡◌, ◌≢◌, ℕ, ◌+◌, ◌<◌, ◌≤◌, ⊎_elim, List, get_or, set, sym, ap, ◌∙◌, subst, arith}
 use Rattle.std.proofs.lemmas.Bool.{cases_eq}
 use Rattle.std.specs.Prelude.{min}
 use Rattle.cat_history.specs.Maps.{map_of}
@@ -24,7 +24,7 @@ use Rattle.index_core.proofs.Layering.{stamp_layered}
 use Rattle.index_core.proofs.Permuting.{row_by_facts, words_permuted}
 use Rattle.index_core.specs.Lone.{IsQuiet}
 use Rattle.index_core.specs.Weights.{weight_of}
-use Rattle.pac_index.specs.Stamps.{stamp_in, with_words, SettlesTo}
+use Rattle.pac_index.specs.Stamps.{stamp_in, with_words}
 use Rattle.index_law.proofs.Places.{node_at, offset_at}
 
 abbrev stamped : Layout → List ℕ → ℕ → List ℕ
@@ -61,9 +61,6 @@ pub record Settling (l : Layout) (n : ℕ) (before words : List ℕ) : Type 0 wh
   pub keeps : (s : Index) → IsQuiet s → IsIndex (with_words s l before) → IsIndex (with_words s l words)
   pub weighs : (s : Index) → weight_of (with_words s l words) ≡ weight_of (with_words s l before)
 
-pub none_settled : (l : Layout) (words : List ℕ) → Settling l 0 words words
-none_settled l words = record { first = λ m less. absurd (omega arith); rest = λ m le low. refl; keeps = λ s quiet is. is; weighs = λ s. refl }
-
 -- one node more, whose stamp stays
 pub stays_settled : (l : Layout) (n : ℕ) (before words : List ℕ) → n < l.nodes → stamp_in l words n ≤ 1 → Settling l n before words → Settling l (n + 1) before words
 stays_settled l n before words here small so = record {
@@ -93,9 +90,6 @@ stamp_settled l n before words here row large so = record {
   where
     apart : (m : ℕ) → m ≢ n → m < l.nodes → stamp_in l (stamped l words n) m ≡ stamp_in l words m
     apart m other low = at-set_other l words (Volatile n stamp_offset) (Volatile m stamp_offset) 1 (here, omega arith) (low, omega arith) (λ e. other (ap node_at e))
-
-pub all_settled : (l : Layout) (n : ℕ) (before words : List ℕ) → l.nodes ≤ n → Settling l n before words → SettlesTo l before words
-all_settled l n before words all so = record { stamps = λ m less. so.first m (omega arith); keeps = so.keeps; weighs = so.weighs }
 
 -- a turn of the loop that stores, and one that doesn't
 pub stored : (l : Layout) (n place : ℕ) (before : List ℕ) (row now : Row) → row.layout ≡ l → place ≡ address_of l (Volatile n stamp_offset) → n < l.nodes → IsRow row.layout row.words → 1 < get_or row.words place 0

@@ -1,6 +1,5 @@
 -- How a turn goes on by one step, and what it is answered at its end.
-use Rattle.std.proofs.Common.{◌≡◌, ℕ, ◌≢◌, ◌+◌, ◌-◌, ◌<◌, ◌==◌, Bool, cond, true, false, List, [], ◌∷◌, ◌++◌, length, refl, sym, ap, ◌∙◌, subst, arith}
-use Rattle.std.proofs.lemmas.Bool.{eqb-true}
+use Rattle.std.proofs.Common.{◌≡◌, ℕ, ◌+◌, ◌<◌, Bool, List, [], ◌∷◌, ◌++◌, length, refl, sym, ap, ◌∙◌, subst, arith}
 use Rattle.std.proofs.lemmas.List.{length-append}
 use Rattle.std.specs.Prelude.{Option, Some, None}
 use Rattle.pm_words.specs.declared.machine.Turn.{Turn}
@@ -10,89 +9,22 @@ use Rattle.updater.specs.declared.making.MakeTurn.{MakeTurn}
 use Rattle.updater.specs.declared.making.MakeTurn.TheVariants.{Taking, Working}
 use Rattle.updater.specs.declared.making.TurnReply.{TurnReply}
 use Rattle.updater.specs.declared.making.TurnReply.TheVariants as reply
-use Rattle.updater.specs.declared.terms.Terms.{Terms}
 use Rattle.updater.specs.declared.terms.Turned.{Turned}
 use Rattle.updater.specs.declared.work.Work.{Work}
 use Rattle.updater.specs.Makings.{making_turned, worked}
-use Rattle.updater.specs.Works.{work_from, work_left, work_turned}
-use Rattle.epochs.specs.Kept.{first_epoch}
+use Rattle.updater.specs.Works.{work_left, work_turned}
 use Rattle.pm_words.specs.Turns.{turn_of}
 use Rattle.pm_words.specs.Codes.{untaken_lock}
 use Rattle.index_core.specs.PartyStates.{state_turned}
 use Rattle.index_core.specs.declared.party.PartyState.{PartyState}
 use Rattle.pac_index.specs.declared.rule.About.{About}
 use Rattle.pac_index.specs.declared.rule.Member.{Member}
-use Rattle.pac_index.specs.Kept.{PlacesNone, placed_by}
+use Rattle.pac_index.specs.Kept.{placed_by}
 use Rattle.pac_index.specs.Calls.{run_of}
-use Rattle.pac_index.specs.Turns.{turn_in, turning, turning_at, work_in, TurnReady, TurnGoes, TurnRuns, HasLock, noted_by, TurnAnswers, TurnHeld, WorkStepsOn, actions_left}
+use Rattle.pac_index.specs.Turns.{turn_in, TurnReady, TurnGoes, TurnRuns, HasLock, noted_by, TurnAnswers, WorkStepsOn, actions_left}
 use Rattle.pac_index.proofs.Lists.{begins_trans}
 use Rattle.pac_index.proofs.PartRuns.{run_more}
 use Rattle.pac_index.proofs.Statuses.{turn_tells}
-
--- a turn of which the lock was found taken is so at whichever epoch
-refused_ran : (terms : Terms) (x : ℕ) → x ≢ untaken_lock → run_of making_turned (Go (Taking terms)) (x ∷ []) ≡ Done (reply.Held x)
-refused_ran terms x other =
-    elim (x == untaken_lock) as (λ b. (x == untaken_lock) ≡ b → run_of making_turned (cond b (Go (Working (work_from terms.layout terms.generation terms.stamp terms.release))) (Done (reply.Held x))) [] ≡ Done (reply.Held x)) [
-      | true ↦ λ is. absurd (other (eqb-true _ _ is))
-      | false ↦ λ is. refl
-    ] refl
-
-refused_turn : (terms : Terms) (x : ℕ) → x ≢ untaken_lock → making_turned (Taking terms) x ≡ Done (reply.Held x)
-refused_turn terms x other =
-    elim (x == untaken_lock) as (λ b. (x == untaken_lock) ≡ b → cond b (Go (Working (work_from terms.layout terms.generation terms.stamp terms.release))) (Done (reply.Held x)) ≡ Done (reply.Held x)) [
-      | true ↦ λ is. absurd (other (eqb-true _ _ is))
-      | false ↦ λ is. refl
-    ] refl
-
-abbrev terms_in : Member → ℕ → Terms
-terms_in v epoch = record { layout = v.about.layout; generation = v.about.generation; stamp = epoch; release = epoch - 2 }
-
--- what the step at the updater lock leaves of its party, in whichever state that is then
-pub lock_leaves : (old w : Member) (x : ℕ) (state : PartyState) → TurnGoes (turn_in old first_epoch) (turning old) x w → PlacesNone old (record w { state = state })
-lock_leaves old w x state goes = record {
-  about = goes.stepped.about;
-  taken = goes.stepped.taken ∙ ap (λ (l : List ℕ). old.taken + length l) (sym goes.stepped.told);
-  added = goes.added;
-  known = goes.known;
-  seen = goes.stepped.seen;
-  own = goes.own;
-}
-
-pub turn_held : (old w : Member) (x : ℕ) → TurnGoes (turn_in old first_epoch) (turning old) x w → x ≢ untaken_lock → TurnHeld x old w
-turn_held old w x goes other = λ epoch.
-    let ended = refused_turn (terms_in old first_epoch) x other in
-    record {
-      leaves = lock_leaves old w x w.state goes;
-      state = goes.state ∙ ap (state_turned old.state) ended;
-      ran = ap (run_of making_turned (Go (turn_in old epoch))) goes.stepped.told ∙ refused_ran (terms_in old epoch) x other;
-      lock = (goes.stepped.told, other);
-      free = tt;
-      none_free = goes.none_free ∙ ap (noted_by old.none_free) ended;
-    }
-
--- what holds of a party that has taken the lock
-pub took_lock : (old w : Member) (x : ℕ) → x ≡ untaken_lock → TurnGoes (turn_in old first_epoch) (turning old) x w → TurnGoes (turn_in old first_epoch) (turning old) untaken_lock w
-took_lock old w x is goes = subst (λ (n : ℕ). TurnGoes (turn_in old first_epoch) (turning old) n w) is goes
-
-module _ (old w : Member) (goes : TurnGoes (turn_in old first_epoch) (turning old) untaken_lock w) where
-  pub lock_flies : w.state.turn ≡ Some (work_in w first_epoch)
-  lock_flies = ap (λ (e : PartyState). e.turn) goes.state ∙ ap (λ (b : About). Some (Working (work_from b.layout b.generation first_epoch (first_epoch - 2)))) (sym goes.stepped.about)
-
-  pub lock_ready : (about : About) → old.about ≡ about → TurnReady about.layout (Go (work_in w first_epoch))
-  lock_ready about same = subst (λ (q : About × About). TurnReady q.0.layout (Go (Working (work_from q.1.layout q.1.generation first_epoch (first_epoch - 2))))) (λ k. (same k, (sym goes.stepped.about) k)) goes.ready
-
-  -- and then has its epoch
-  pub lock_dated : (epoch : ℕ) → TurnReady old.about.layout (Go (work_in old epoch)) → TurnRuns epoch old (Go (work_in w epoch)) (turning_at w epoch)
-  lock_dated epoch ready =
-      let same : work_in old epoch ≡ work_in w epoch = ap (λ (b : About). Working (work_from b.layout b.generation epoch (epoch - 2))) (sym goes.stepped.about) in
-      subst (λ (m : MakeTurn). TurnRuns epoch old (Go m) (record w { state = record w.state { turn = Some m } })) same (record {
-        leaves = lock_leaves old w untaken_lock (record w.state { turn = Some (work_in old epoch) }) goes;
-        state = ap (λ (e : PartyState). record e { turn = Some (work_in old epoch) }) goes.state;
-        ran = ap (run_of making_turned (Go (turn_in old epoch))) goes.stepped.told;
-        lock = (tt, ([], goes.stepped.told));
-        none_free = goes.none_free;
-        ready = ready;
-      })
 
 -- its work under the lock isn't refused
 lock_on : (told : List ℕ) (making : MakeTurn) (x : ℕ) → HasLock told (Go making) → HasLock (told ++ x ∷ []) (making_turned making x)
@@ -131,14 +63,6 @@ turn_on epoch old v w turn making x runs is goes =
 pub work_going : (work : Work) (answer : Option Turned) → ((told : Turned) → answer ≡ Some told → ⊥) → worked (turn_of work answer) ≡ Go (Working work)
 work_going work None none = refl
 work_going work (Some told) none = absurd (none told refl)
-
--- the party of a turn in flight has it
-pub turn_flies : (epoch : ℕ) (old v : Member) (turn : Turn MakeTurn TurnReply) (making : MakeTurn) → TurnRuns epoch old turn v → turn ≡ Go making → v.state.turn ≡ Some making
-turn_flies epoch old v turn making runs is = ap (λ (e : PartyState). e.turn) (runs.state ∙ ap (state_turned old.state) is)
-
--- and may go on with it
-pub turn_ready : (epoch : ℕ) (old v : Member) (turn : Turn MakeTurn TurnReply) (making : MakeTurn) (about : About) → TurnRuns epoch old turn v → turn ≡ Go making → old.about ≡ about → TurnReady about.layout (Go making)
-turn_ready epoch old v turn making about runs is same = subst (λ (b : About). TurnReady b.layout (Go making)) same (subst (TurnReady old.about.layout) is runs.ready)
 
 pub work_stepped : (epoch : ℕ) (old v w : Member) (turn : Turn MakeTurn TurnReply) (work next : Work) (answer : Option Turned) → TurnRuns epoch old turn v → turn ≡ Go (Working work) → WorkStepsOn work v w next answer → TurnRuns epoch old (worked (turn_of next answer)) w
 work_stepped epoch old v w turn work next answer runs is on = subst (λ (t : Turn Work Turned). TurnRuns epoch old (worked t) w) on.turned (turn_on epoch old v w turn (Working work) on.told runs is on.goes)

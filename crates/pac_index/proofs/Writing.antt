@@ -100,21 +100,6 @@ module _ (parties : ℕ) (c : CoreCall) (b v a : Caller) (same : HasMadeNone v a
     spare = let less = t.spare in let room = room_same in omega arith;
   }
 
-  cut_behind : (why : Again) → (◌≡◌ {A = Once Placed} (once.Again why) (once.Again again.LogFull)) ⊎ (◌≡◌ {A = Once Placed} (once.Again why) (once.Again again.NoFree)) → TryAnswered c b (once.Again why) v → HasTurnedWithin parties v None a → TryCut parties c b a
-  cut_behind why wants t cut = inr (record {
-    spent = cut.0;
-    index = same.0 ∙ t.index;
-    uncut = same.2 ∙ t.rests.2;
-    cut = record { answer = once.Again why; wants = wants; tried = seen_by v; told = t.answers; pins = pins_of v; pins_now = pins_of a; cut = cut.1 };
-    spare = let less = t.spare in let room = room_same in omega arith;
-  })
-
-  pub line_cut : TryAnswered c b (once.Again again.LogFull) v → HasTurnedWithin parties v None a → TryCut parties c b a
-  line_cut t cut = cut_behind again.LogFull (inl refl) t cut
-
-  pub node_cut : TryAnswered c b (once.Again again.NoFree) v → HasTurnedWithin parties v None a → TryCut parties c b a
-  node_cut t cut = cut_behind again.NoFree (inr refl) t cut
-
 pub turned_reads : (turned : Turned) (v w : Member) → HasMadeTurn turned v w → HasOnlyRead v w
 turned_reads turned v w is = back_trans v is.before w is.back (turn_reads is.last.0 is.before w (reply.Turned turned) is.last.1)
 
@@ -261,10 +246,6 @@ found_full c n turns i old v w so enough last =
       none_free = last.turn.last.1.none_free ∙ ap (λ (b : Bool). last.turn.before.none_free || b) last.told ∙ noted_now last.turn.before.none_free;
       room = room_stays v.about.layout.slots old.about.layout.slots (map_of v.about.base) (map_of old.about.base) last.tried.seen w.seen (length v.seen) (length last.tried.seen) (length old.seen) (length w.seen) (name_asked (op_of c)) (ap (λ (a : About). a.layout.slots) back.about) (ap (λ (a : About). map_of a.base) back.about) turn.seen (omega arith) seen ends (last.refused.says refl).1;
     }
-
--- a delete is never turned back for want of a node
-pub never_full : (name : List ℕ) (limit n : ℕ) (old w : Member) → FoundFull (call.Del name limit) n old w → ⊥
-never_full name limit n old w full = (full.last.last.refused.says refl).0
 
 -- ---- how such a call ends
 

@@ -238,7 +238,7 @@ GoesTimely since (Go machine) = TimelyIn since machine
 GoesTimely since (Done answer) = Unit {0}
 
 -- What a step of a party leaves of it, which is told this number, be it of a call or of a turn.
-pub record Stepped (v : Member) (x : ℕ) (w : Member) : Type 0 where
+pub record LeftByStep (v : Member) (x : ℕ) (w : Member) : Type 0 where
   pub about : w.about ≡ v.about
   pub told : w.told ≡ v.told ++ x ∷ []
   pub taken : w.taken ≡ v.taken + 1
@@ -256,7 +256,7 @@ pub record PlacesNone (old new : Member) : Type 0 where
 -- What a party's step with its machine, which is told this number, leaves and shows.
 pub record Goes (m : Running) (v : Member) (x : ℕ) (w : Member) : Type 0 where
   pub takes : running_takes m x
-  pub stepped : Stepped v x w
+  pub stepped : LeftByStep v x w
   pub state : w.state ≡ state_after v.state (running_turned m x)
   pub added : w.added ≡ v.added + added_now (op_in m) (running_turned m x)
   pub none_free : w.none_free ≡ v.none_free

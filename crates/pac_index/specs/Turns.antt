@@ -25,7 +25,7 @@ use Rattle.atomic_table.specs.Table.{Me}
 use Rattle.pac_index.specs.declared.rule.Member.{Member}
 use Rattle.pac_index.specs.declared.tried.TriedTurn.{TriedTurn}
 use Rattle.pac_index.specs.declared.tried.TriedTurn.TheVariants as tried
-use Rattle.pac_index.specs.Kept.{PlacesNone, Stepped, placed_by, party, IsLone}
+use Rattle.pac_index.specs.Kept.{PlacesNone, LeftByStep, placed_by, party, IsLone}
 use Rattle.pac_index.specs.Calls.{run_of}
 use Rattle.pac_index.specs.Ends.{AtLast}
 
@@ -64,7 +64,7 @@ noted_by noted (Done answer) = noted_in noted answer
 -- What a step of a party's turn, which is told this number, leaves and shows.
 pub record TurnGoes (making : MakeTurn) (v : Member) (x : ℕ) (w : Member) : Type 0 where
   pub takes : making_takes making x
-  pub stepped : Stepped v x w
+  pub stepped : LeftByStep v x w
   pub state : w.state ≡ state_turned v.state (making_turned making x)
   pub added : w.added ≡ v.added
   pub none_free : w.none_free ≡ noted_by v.none_free (making_turned making x)

@@ -1,3 +1,5 @@
+//! The callers of a shared index.
+
 use crate::rooms::Rooms;
 use crate::rule::Members;
 use atomic_table::Seat;

@@ -1,3 +1,5 @@
+//! Single tries of calls on a name, and what they leave of their callers.
+
 ghost use Rattle.pac_index.specs.declared.shared.Shared.{Shared};
 ghost use Rattle.std.specs.Prelude.{OnOk, IfSome, Some, ◌≡◌, ◌+◌, ◌++◌, ◌≤◌, ◌^◌, length};
 ghost use Rattle.cat_history.specs.Records.{change_of};
@@ -28,8 +30,8 @@ use std::marker::Brand;
 
 impl Shared {
     /// One try of a put by one of the callers before the last, which is the updater's. It is refused as spent where the
-    /// clock, loaded under the lock of its node, has reached `limit`, and takes one of `Caller::spare` where it is
-    /// placed.
+    /// clock, loaded under the lock of its node, has reached `limit`. Of the room for writes that `Caller::reserve`
+    /// makes it takes one place at most, and only where it is placed.
     ///
     /// As each single try of a call it takes a pin first, holds it over all its steps on the index, and gives it back
     /// behind the last. Where the epoch moves as it takes the pin, it is answered `Again::Epoch` with the two numbers
@@ -231,14 +233,7 @@ impl Caller {
         self.index
     }
 
-    /// For how many more writes it has room.
-    pub fn spare(&self) -> u64
-        ensures { result ≡ spare_of self.now }
-    {
-        (self.kept.capacity() - self.kept.len()) as u64
-    }
-
-    /// Makes room for so many writes, of which `spare` tells. Nothing else changes, on `NoMemory` either.
+    /// Makes room for so many more writes. Nothing else changes, on `NoMemory` either.
     pub fn reserve(&mut self, writes: u64) -> Result<(), NoMemory>
         ensures ok { OnOk result (writes ≤ spare_of self.new) }
         ensures spare { spare_of self.old ≤ spare_of self.new }
@@ -319,7 +314,7 @@ impl Caller {
 }
 
 /// The change that a call makes, if it is a put or a delete.
-pub(crate) fn change_of(call: &CoreCall) -> Option<Change>
+fn change_of(call: &CoreCall) -> Option<Change>
     ensures change { result ≡ change_of (op_of call.now) }
     ensures writes { IfSome result (λ _. most_writes call.now ≡ 1) }
 {

@@ -12,7 +12,7 @@ pub trait Gate: Sync {
 }
 
 /// A gate that holds nobody.
-pub(crate) struct OpenGate;
+pub struct OpenGate;
 
 impl Gate for OpenGate {
     fn before(&self, _caller: u64, _index: u64) {}

@@ -36,7 +36,7 @@ mod writes;
 pub use caller::{Caller, CutCall, PlacedWrite};
 pub use crashing::Crashed;
 pub use ended::Ended;
-pub use gate::Gate;
+pub use gate::{Gate, OpenGate};
 pub use index_core;
 pub use meeting::have_steps;
 pub use rule::{

@@ -1,3 +1,5 @@
+//! How a shared index is made of a core.
+
 ghost use Rattle.std.specs.Prelude.{◌≡◌, [], IfOk};
 ghost use Rattle.index_core.specs.Indexes.{parties_of};
 ghost use Rattle.index_core.specs.Lone.{IsQuiet};

@@ -1,3 +1,5 @@
+//! How a shared index becomes a core once more, as its callers meet.
+
 ghost use Rattle.std.specs.Prelude.{◌≡◌, ℕ, List, [], length, map, IfOk, MatchBool, true};
 ghost use mathlib.Core.Option.{some};
 ghost use Rattle.index_core.specs.Indexes.{parties_of};

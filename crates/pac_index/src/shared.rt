@@ -1,3 +1,5 @@
+//! The index whose words threads share, and how the steps of a call are taken on them.
+
 ghost use Rattle.std.specs.Prelude.{◌≡◌, ◌≢◌, ◌+◌, ◌<◌, ◌^◌, None, Some, IsSome};
 ghost use Rattle.pm_words.specs.Layouts.{IsLayout};
 ghost use Rattle.pm_words.specs.Locations.{row_words};
@@ -250,7 +252,7 @@ impl Shared {
     }
 
     /// The next step of the call in flight, with the gate before it.
-    pub(crate) fn go_on<G: Gate>(
+    fn go_on<G: Gate>(
         &self,
         seat: &mut Seat<(), Members>,
         machine: &mut Running,

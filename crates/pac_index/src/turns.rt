@@ -131,11 +131,7 @@ impl Shared {
 
     /// The first step of a turn, with the gate before it: the exchange of the updater lock, and the word that it found
     /// there.
-    pub(crate) fn lock_turn<G: Gate>(
-        &self,
-        seat: &mut Seat<(), Members>,
-        pace: &mut Pace<'_, G>,
-    ) -> u64
+    fn lock_turn<G: Gate>(&self, seat: &mut Seat<(), Members>, pace: &mut Pace<'_, G>) -> u64
         requires table { seat.old.table_id ≡ self.now.table.shared.table_id }
         requires lone { IsLone seat.old.me }
         requires about { (party seat.old.me).about ≡ self.now.about }
@@ -151,7 +147,7 @@ impl Shared {
 
     /// Tries once to advance the epoch, and loads it, for a turn that has the updater lock and has done nothing under
     /// it: so the epoch stands still until that turn gives the lock back.
-    pub(crate) fn date_turn(
+    fn date_turn(
         &self,
         seat: &Seat<(), Members>,
         pins: &mut EpochSeat,
@@ -170,7 +166,7 @@ impl Shared {
 
     /// The first step of a turn that has the updater lock, with the gate before it. From here on it is one at this
     /// epoch.
-    pub(crate) fn begin_work<E: HasEpoch, G: Gate>(
+    fn begin_work<E: HasEpoch, G: Gate>(
         &self,
         seat: &mut Seat<(), Members>,
         epoch: u64,
@@ -197,7 +193,7 @@ impl Shared {
     }
 
     /// The next step of a turn under the updater lock, with the gate before it.
-    pub(crate) fn go_on_work<G: Gate>(
+    fn go_on_work<G: Gate>(
         &self,
         seat: &mut Seat<(), Members>,
         work: &mut Work,

@@ -23,7 +23,7 @@ use updater::Turned;
 
 /// From which of its turns for want of a node on a put may end full: until then nodes that are GONE as it begins may
 /// become FREE.
-pub(crate) const TURNS_FOR_ROOM: u64 = 4;
+const TURNS_FOR_ROOM: u64 = 4;
 
 /// What comes behind one try of a put or a delete.
 pub(crate) enum WriteNext {
