@@ -8,9 +8,8 @@ use Rattle.pm_words.specs.Offsets.{anchor_offset}
 use Rattle.pm_words.proofs.Made.{durable_row-at, row_of-at}
 use Rattle.layer_map.specs.Keys.{key_of}
 use Rattle.image_rules.specs.Rules.{line_spot}
-use Rattle.tree_row.proofs.RowLaw.{crash_reads, image_reads}
 use Rattle.image_layer_rules.specs.Anchors.{image_lines, line_word}
-use Rattle.image_layer_rules.specs.Laws.{CrashKeepsLayer, StartCachesLayer, CrashKeepsLines, StartCachesLines}
+use Rattle.image_layer_rules.specs.Laws.{CrashKeepsLines, StartCachesLines}
 
 pub line_word-here : (l : Layout) (image : List ℕ) (line offset : ℕ) → line < 8 * l.callers → offset < 8 → line_word l image line offset ≡ word_at l image (Line (line / 8) (line % 8) offset)
 unfolding line_word
@@ -23,12 +22,6 @@ line_word-outside l image line offset out = rw (le-ltb line (8 * l.callers) out)
 -- the key of a line is that of the words that stand there
 pub line_key-here : (l : Layout) (image : List ℕ) (line : ℕ) → line < 8 * l.callers → (image_lines l image).anchor line ≡ key_of (line_spot l image line anchor_offset) (line_spot l image line (anchor_offset + 1)) (line_spot l image line (anchor_offset + 2))
 line_key-here l image line here = λ k. key_of (line_word-here l image line anchor_offset here (omega arith) k) (line_word-here l image line (anchor_offset + 1) here (omega arith) k) (line_word-here l image line (anchor_offset + 2) here (omega arith) k)
-
-pub crash_keeps_layer : CrashKeepsLayer
-crash_keeps_layer = crash_reads
-
-pub start_caches_layer : StartCachesLayer
-start_caches_layer l image is = (image_reads l image is).0
 
 pub crash_keeps_lines : CrashKeepsLines
 crash_keeps_lines l words line offset here small = line_word-here l (durable_row l words) line offset here small ∙ durable_row-at l words (Line (line / 8) (line % 8) offset)

@@ -12,7 +12,7 @@ use Rattle.updater_law.specs.Covered.{IsCovered}
 use Rattle.updater_law.specs.Covers.{IsOpenFor}
 use Rattle.tree_law.specs.Trees.{Leaf, IsReached}
 use Rattle.tree_law.specs.Words.{IsLawful}
-use Rattle.tree_row.specs.Rows.{layer_words, image_layer}
+use Rattle.tree_row.specs.Rows.{image_layer}
 use Rattle.image_layer_rules.specs.Anchors.{image_anchor, line_word, image_lines, AreKeyWords, IsKeyNumber}
 use Rattle.image_layer_rules.specs.Faults.{image_tree, leaf_key}
 use Rattle.image_layer_rules.specs.Rules.{image_map, BreaksTree}
@@ -63,15 +63,8 @@ SoundIsKept = (l : Layout) (image : List ℕ) → IsImage l image →
 abbrev pub FreshIsSoundByAll : Type 0
 FreshIsSoundByAll = (l : Layout) → IsLayout l → IsSoundByAll l (fresh_words l)
 
--- The words of the layer and of log lines in the image that a crash leaves are those that were durable; and a start
--- caches those of the image.
-abbrev pub CrashKeepsLayer : Type 0
-CrashKeepsLayer = (l : Layout) (words : List ℕ) → image_layer l (durable_row l words) ≡ layer_words l words Durable
-
-abbrev pub StartCachesLayer : Type 0
-StartCachesLayer = (l : Layout) (image : List ℕ) → IsImage l image →
-    layer_words l (row_of l image) Cached ≡ image_layer l image
-
+-- The words of log lines in the image that a crash leaves are those that were durable; and a start caches those of the
+-- image.
 abbrev pub CrashKeepsLines : Type 0
 CrashKeepsLines = (l : Layout) (words : List ℕ) (line offset : ℕ) → line < 8 * l.callers → offset < 8 →
     line_word l (durable_row l words) line offset ≡ at l words (Durable (Line (line / 8) (line % 8) offset))

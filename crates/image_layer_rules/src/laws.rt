@@ -1,8 +1,7 @@
 //! The laws of images that are sound by all rules, each named by the contract of a function.
 
 ghost use Rattle.image_layer_rules.specs.Laws.{RuleOnTree, RuleOnCount, RuleOnCover, CoverTellsKeys, SoundIsKept};
-ghost use Rattle.image_layer_rules.specs.Laws.{FreshIsSoundByAll, CrashKeepsLayer, StartCachesLayer};
-ghost use Rattle.image_layer_rules.specs.Laws.{CrashKeepsLines, StartCachesLines};
+ghost use Rattle.image_layer_rules.specs.Laws.{FreshIsSoundByAll, CrashKeepsLines, StartCachesLines};
 ghost use Rattle.image_layer_rules.specs.Visits.{VisitedOnce, VisitsAreFew};
 
 /// Rule 10 says that the words of the tree are in order, and that the key of each leaf is zero or a name. Of such a
@@ -33,11 +32,9 @@ pub fn fresh_law()
     ensures { FreshIsSoundByAll }
 {}
 
-/// The words of the layer and of log lines go unchanged from the durable words into the image, and from the image into
-/// the cached words.
+/// The words of log lines go unchanged from the durable words into the image, and from the image into the cached words.
+/// That those of the layer do, `tree_row` says (`reading_law`).
 pub fn words_law()
-    ensures crash_layer { CrashKeepsLayer }
-    ensures start_layer { StartCachesLayer }
     ensures crash_lines { CrashKeepsLines }
     ensures start_lines { StartCachesLines }
 {}

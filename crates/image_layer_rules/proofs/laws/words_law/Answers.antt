@@ -1,11 +1,5 @@
-use Rattle.image_layer_rules.proofs.LineLemmas.{crash_keeps_layer, start_caches_layer, crash_keeps_lines, start_caches_lines}
+use Rattle.image_layer_rules.proofs.LineLemmas.{crash_keeps_lines, start_caches_lines}
 use Rattle.image_layer_rules.proofs.laws.words_law.Goals as goal
-
-pub returns-clause-crash_layer : goal.returns-clause-crash_layer
-returns-clause-crash_layer c = crash_keeps_layer
-
-pub returns-clause-start_layer : goal.returns-clause-start_layer
-returns-clause-start_layer c = start_caches_layer
 
 pub returns-clause-crash_lines : goal.returns-clause-crash_lines
 returns-clause-crash_lines c = crash_keeps_lines
