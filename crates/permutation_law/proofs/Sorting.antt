@@ -87,11 +87,6 @@ abbrev node_held : Stage → ℕ
 node_held (Holds n lock h) = n
 node_held _ = 0
 
-abbrev known_node : Sorting → ℕ
-known_node Unsorted = 0
-known_node (Storing n lock seen) = n
-known_node (Stored n lock) = n
-
 module _ (z : Permuted) (i : ℕ) (p : Party) (is : IsPermuted z) (there : get_elem? z.world.parties i ≡ some p)
     (n lock : ℕ) (h : Held) (stage : p.stage ≡ Holds n lock h) (offset y : ℕ) (here : n < z.world.layout.nodes) (least : 2 < offset) (most : offset < 16) (fits : y < 2 ^ 64)
     (sorting after : Sorting) (at : get_elem? z.sortings i ≡ some sorting) where
