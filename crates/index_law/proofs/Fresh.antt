@@ -193,6 +193,6 @@ fresh_law l parties layout idle begun =
       begun = begun;
     }
 
--- none but the first is listed, and none is GONE
+-- none but the first is listed
 pub fresh_list : (l : Layout) → IsLayout l → (facts (fresh_world l [])).list ≡ []
 fresh_list l layout = ap (λ (f : Facts). f.list) (same_lit l [] layout)

@@ -39,7 +39,8 @@ pub fn rooms()
 {}
 
 /// Each turn of a lone call, whatever its op, and how it is answered. To this law a part of a range scan is a get of
-/// its low name.
+/// its low name. At each moment each node has lost one lock at most. A part whose node's permutation was made at its
+/// version word changes no word and sorts nothing.
 pub fn lone_calls()
     ensures begins { LoneCallsBegin }
     ensures parts_begin { LonePartsBegin }

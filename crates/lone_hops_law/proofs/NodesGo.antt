@@ -22,7 +22,6 @@ use Rattle.call_stages.specs.Kinds.{Step, Look, Split, Merge, prev_address}
 use Rattle.call_stages.specs.Kinds as kinds
 use Rattle.call_stages.specs.AnySteps.{loads_layer, on_permutation}
 use Rattle.call_stages.specs.Lines.{HeldLine, line_address, Notes, passes_line, takes, looks_up, notes, keeps_safe}
-use Rattle.call_stages.specs.Footings.{Footing, FootStep}
 use Rattle.call_stages.specs.Footings as foot
 use Rattle.call_stages.specs.Prevs.{Debt, IsJoin, IsRetire, Deals, keeps, forgets, ends, switches, joins, Prevs}
 use Rattle.call_stages.specs.Prevs.{names, pays, renews}

@@ -27,9 +27,6 @@ position_past m behind key most = ap (λ b. cond b (1 + position_from behind key
 pub position_before : (m : ListNode) (behind : List ListNode) (key : ℕ) → key < m.anchor → position_from (m ∷ behind) key ≡ 0
 position_before m behind key below = ap (λ b. cond b (1 + position_from behind key) 0) (lt-leb m.anchor key below)
 
-one_is : (anchor key : ℕ) → anchor ≤ key → one_at anchor key ≡ 1
-one_is anchor key most = ap (λ b. cond {A = ℕ} b 1 0) (le-leb anchor key most)
-
 one_isnt : (anchor key : ℕ) → key < anchor → one_at anchor key ≡ 0
 one_isnt anchor key below = ap (λ b. cond {A = ℕ} b 1 0) (lt-leb anchor key below)
 

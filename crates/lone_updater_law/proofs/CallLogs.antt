@@ -23,8 +23,8 @@ use Rattle.call_stages.specs.Stages.{Grip, Stage, Idle, Tells, counted, placed_i
 use Rattle.call_stages.specs.Kinds.{Step}
 use Rattle.call_stages.specs.Lines.{HeldLine, line_address, Marks, fills, opens, readies, Notes, passes_line, takes}
 use Rattle.call_stages.specs.Lines.{looks_up, notes, keeps_safe}
-use Rattle.call_stages.specs.Footings.{Footing, IsOpenOf, Minds, HasLine, IsKnownEmpty, IsLeftToTurn, KeepsOrLetsGo}
-use Rattle.call_stages.specs.Footings.{Waits, FootStep}
+use Rattle.call_stages.specs.Footings.{IsOpenOf, Minds, HasLine, IsKnownEmpty, IsLeftToTurn, KeepsOrLetsGo}
+use Rattle.call_stages.specs.Footings.{Waits}
 use Rattle.call_stages.specs.Footings as foot
 use Rattle.call_stages.specs.Prevs.{Prevs, IsSwitch, IsJoin}
 use Rattle.index_law.specs.Lines.{line_in, SureLine}

@@ -6,7 +6,8 @@ ghost use Rattle.updater_law.specs.Laws.{FreshIsLawful};
 ghost use Rattle.updater_law.specs.Lone.{LoneTurn};
 ghost use Rattle.updater_law.specs.Traces.{TracesKeep, FreedWereStamped};
 
-/// A step of the turn, a step of another party, and words of the layer that become durable keep what is lawful.
+/// A step of the turn, a step of another party, and words of the layer that become durable keep what is lawful. So do
+/// traces of them.
 pub fn steps_keep()
     ensures turn { TurnKeeps }
     ensures others { OtherKeeps }
