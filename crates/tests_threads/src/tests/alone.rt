@@ -7,16 +7,20 @@ ghost use Rattle.pac_index.specs.Callers.{MayCall, StaysCaller};
 use super::meeting::{fresh, take_last};
 use super::playing::LIMIT;
 use call_stages::{Once, Placed};
+use cat_history::ScanPart;
 use cat_key::Name;
 use node_ops::PartWords;
-use pac_index::{Caller, Ended, Shared, Tried, TriedTurn};
+use pac_index::{Caller, Ended, Scanned, Shared, Tried, TriedTurn};
 use pm_words::{Layout, NoMemory};
 use std::alloc::Global;
 use std::sync::Wait;
 use std::test::Fail;
 
+/// What a call told of its name, and its place.
+type Told = Option<(Option<u64>, u64)>;
+
 /// What a try told of its name, and its place.
-fn tried(tried: Tried<Placed>) -> Option<(Option<u64>, u64)> {
+fn tried(tried: Tried<Placed>) -> Told {
     match tried {
         Tried::Answered(Once::Done(placed)) => Some((placed.old, placed.place)),
         _ => None,
@@ -24,7 +28,7 @@ fn tried(tried: Tried<Placed>) -> Option<(Option<u64>, u64)> {
 }
 
 /// What a whole call told of its name, and its place.
-fn ended(ended: Ended<Placed>) -> Option<(Option<u64>, u64)> {
+fn ended(ended: Ended<Placed>) -> Told {
     match ended {
         Ended::Done(placed) => Some((placed.old, placed.place)),
         _ => None,
@@ -32,38 +36,77 @@ fn ended(ended: Ended<Placed>) -> Option<(Option<u64>, u64)> {
 }
 
 /// What a part told of its low name, and its place.
-fn listed(words: &PartWords) -> Option<(Option<u64>, u64)> {
+fn listed(words: &PartWords) -> Told {
     Some((words.old, words.place))
 }
 
-/// A put, a get, a part and a delete of a name by single tries.
-fn tries(
+/// What a part told of its low name, and a place at which its node is found unchanged.
+fn rechecked(shared: &Shared, caller: &mut Caller, words: &PartWords) -> Told
+    requires { MayCall shared.now caller.old }
+    ensures { StaysCaller shared.now caller.old caller.new }
+{
+    if words.node >= shared.layout().nodes() {
+        return None;
+    }
+    match shared.recheck_once(caller, words.node, words.version) {
+        Tried::Answered(Once::Done(same)) => Some((words.old, same.place)),
+        _ => None,
+    }
+}
+
+/// What the one part of a scan tells of its one name, and its place.
+fn only(parts: &[ScanPart]) -> Told {
+    let [part] = parts else {
+        return None;
+    };
+    match part.pairs.as_slice() {
+        [pair] => Some((Some(pair.value), part.place)),
+        _ => None,
+    }
+}
+
+/// What a whole scan told of the one name that it lists, and its place.
+fn scanned<R: Wait>(
+    rt: &R,
     shared: &Shared,
+    alloc: Global,
     caller: &mut Caller,
     name: &Name,
-) -> Option<[Option<(Option<u64>, u64)>; 4]>
+) -> Told
+    requires { MayCall shared.now caller.old }
+    ensures { StaysCaller shared.now caller.old caller.new }
+{
+    match shared.scan(rt, alloc, caller, name, 3) {
+        Ok(Scanned::Done(parts)) => only(parts.as_slice()),
+        _ => None,
+    }
+}
+
+/// A put, a get, a part, a recheck of its node and a delete of a name by single tries.
+fn tries(shared: &Shared, caller: &mut Caller, name: &Name) -> Option<[Told; 5]>
     requires { MayCall shared.now caller.old }
     ensures { StaysCaller shared.now caller.old caller.new }
 {
     caller.reserve(1).ok()?;
     let put = tried(shared.put_once(caller, name, 1, LIMIT));
     let get = tried(shared.get_once(caller, name));
-    let part = match shared.part_once(caller, name, 3) {
-        Tried::Answered(Once::Done(words)) => listed(&words),
-        _ => None,
+    let Tried::Answered(Once::Done(words)) = shared.part_once(caller, name, 3) else {
+        return None;
     };
+    let same = rechecked(shared, caller, &words);
     caller.reserve(1).ok()?;
     let del = tried(shared.del_once(caller, name, LIMIT));
-    Some([put, get, part, del])
+    Some([put, get, listed(&words), same, del])
 }
 
-/// The same by whole calls.
+/// A put, a get, a part, a scan and a delete by whole calls.
 fn waits<R: Wait>(
     rt: &R,
     shared: &Shared,
+    alloc: Global,
     caller: &mut Caller,
     name: &Name,
-) -> Option<[Option<(Option<u64>, u64)>; 4]>
+) -> Option<[Told; 5]>
     requires { MayCall shared.now caller.old }
     ensures { StaysCaller shared.now caller.old caller.new }
 {
@@ -74,9 +117,10 @@ fn waits<R: Wait>(
         Ended::Done(words) => listed(&words),
         _ => None,
     };
+    let scan = scanned(rt, shared, alloc, caller, name);
     caller.reserve(1).ok()?;
     let del = ended(shared.del(rt, caller, name, LIMIT));
-    Some([put, get, part, del])
+    Some([put, get, part, scan, del])
 }
 
 /// Both on a fresh index, and a turn behind them.
@@ -85,7 +129,7 @@ fn told<R: Wait>(
     alloc: Global,
     layout: Layout,
     name: &Name,
-) -> Result<Option<[[Option<(Option<u64>, u64)>; 4]; 2]>, NoMemory>
+) -> Result<Option<[[Told; 5]; 2]>, NoMemory>
     requires layout { IsLayout layout }
 {
     let core = fresh(alloc, layout)?;
@@ -94,7 +138,7 @@ fn told<R: Wait>(
     let mut caller = take_last(&shared, &mut callers);
     let (Some(tries), Some(waits)) = (
         tries(&shared, &mut caller, name),
-        waits(rt, &shared, &mut caller, name),
+        waits(rt, &shared, alloc, &mut caller, name),
     ) else {
         return Ok(None);
     };
@@ -108,12 +152,8 @@ fn a_caller_alone_is_answered_as_by_a_map(rt: HostRuntime) -> Result<(), Fail> {
     let layout = Layout::new(2, 4, 1)?;
     let told = told(&rt, rt.alloc(), layout, &name)?;
     let of = |value: u64, place: u64| {
-        [
-            Some((None, place)),
-            Some((Some(value), place + 1)),
-            Some((Some(value), place + 1)),
-            Some((Some(value), place + 1)),
-        ]
+        let behind = Some((Some(value), place + 1));
+        [Some((None, place)), behind, behind, behind, behind]
     };
     assert!(rt; told == Some([of(1, 0), of(2, 2)]));
     Ok(())
