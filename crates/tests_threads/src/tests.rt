@@ -1,8 +1,6 @@
 //! The tests, by what they are of.
 
 mod alone;
-mod cuts;
-mod held;
 mod histories;
 mod meeting;
 mod playing;

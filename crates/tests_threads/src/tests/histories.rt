@@ -1,6 +1,6 @@
 //! Callers on threads: their replies are those of one history.
 
-use super::meeting::{Seen, met};
+use super::meeting::met;
 use super::playing::{Habit, Kind, Plan};
 use super::watch::Watch;
 use pm_words::Layout;
@@ -27,15 +27,6 @@ fn waits(kind: Kind, letter: u8, names: u64, calls: u64) -> Plan {
     Plan {
         habit: Habit::Waits(kind),
         letter,
-        names,
-        calls,
-    }
-}
-
-fn scans(names: u64, calls: u64) -> Plan {
-    Plan {
-        habit: Habit::Scans,
-        letter: b'a',
         names,
         calls,
     }
@@ -91,29 +82,9 @@ fn replies_are_those_of_one_history(rt: HostRuntime) -> Result<(), Fail> {
     ];
     for (nodes, slots, plans) in rounds {
         let layout = Layout::new(nodes, slots, 4)?;
-        let seen = met(&rt, rt.alloc(), layout, plans, true, &Watch::new(None))?;
+        let seen = met(&rt, rt.alloc(), layout, plans, true, &Watch::new())?;
         let [_, replies, _] = seen.counts;
         assert_eq!(rt; (seen.told, replies), (true, calls_of(plans)));
-    }
-    Ok(())
-}
-
-/// Parts and scans beside writers, on one node, and where the writers split nodes of four slots and merge them. A scan
-/// has a part at least.
-#[test]
-fn parts_and_scans_are_those_of_the_history(rt: HostRuntime) -> Result<(), Fail> {
-    for (nodes, slots, names) in [(1, 64, 5), (64, 4, 16)] {
-        let plans = [
-            tries(Kind::PutsAndDels, b'a', names, 500),
-            waits(Kind::Parts, b'a', names, 300),
-            tries(Kind::PutsAndDels, b'a', names, 500),
-            scans(names, 300),
-        ];
-        let layout = Layout::new(nodes, slots, 4)?;
-        let seen = met(&rt, rt.alloc(), layout, plans, false, &Watch::new(None))?;
-        let [writes, replies, _] = seen.counts;
-        assert!(rt; seen.told);
-        assert!(rt; writes == 1000 && replies >= calls_of(plans));
     }
     Ok(())
 }
@@ -124,79 +95,28 @@ fn parts_and_scans_are_those_of_the_history(rt: HostRuntime) -> Result<(), Fail>
 fn turns_empty_the_lines_of_puts_that_split(rt: HostRuntime) -> Result<(), Fail> {
     let plans = [tries(Kind::Puts, b'a', 120, 120), IDLE, IDLE, IDLE];
     let layout = Layout::new(128, 4, 4)?;
-    let seen = met(&rt, rt.alloc(), layout, plans, true, &Watch::new(None))?;
+    let seen = met(&rt, rt.alloc(), layout, plans, true, &Watch::new())?;
     let counts = seen.counts;
     assert!(rt; seen.told && counts == [120, 120, 0]);
     assert_eq!(rt; seen.emptied, 58);
     Ok(())
 }
 
-/// Whole puts and deletes with no updater beside them: without turns of their own the ninth split or merge of a caller
-/// would find no log line, however often it is tried. The last is of one caller alone, whose 28 names take up thirteen
-/// nodes, so that the second time they need some that deletes gave up.
-#[test]
-fn calls_whose_log_is_full_make_turns(rt: HostRuntime) -> Result<(), Fail> {
-    let puts = |letter| waits(Kind::Puts, letter, 120, 120);
-    let both = |letter| waits(Kind::FillsAndEmpties, letter, 60, 120);
-    let alone = waits(Kind::FillsAndEmpties, b'a', 28, 84);
-    let rounds = [
-        (192, [puts(b'a'), puts(b'b'), IDLE, IDLE]),
-        (96, [both(b'a'), both(b'b'), IDLE, IDLE]),
-        (16, [alone, IDLE, IDLE, IDLE]),
-    ];
-    for (nodes, plans) in rounds {
-        let layout = Layout::new(nodes, 4, 4)?;
-        let seen = met(&rt, rt.alloc(), layout, plans, false, &Watch::new(None))?;
-        let calls = calls_of(plans);
-        let counts = seen.counts;
-        assert!(rt; seen.told && counts == [calls, calls, 0]);
-    }
-    Ok(())
-}
-
-/// Whether each of sixteen puts is done or full: a put is full only where half of all slots are paid for.
-fn is_half_full(seen: &Seen) -> bool {
-    let [writes, replies, full] = seen.counts;
-    writes >= 4 && writes <= 8 && replies == writes && writes.saturating_add(full) == 16
-}
-
-/// Sixteen names on two nodes of four slots, where nobody deletes one.
-#[test]
-fn puts_that_no_turn_can_help_end_full(rt: HostRuntime) -> Result<(), Fail> {
-    let puts = |letter| waits(Kind::Puts, letter, 8, 8);
-    let plans = [puts(b'a'), puts(b'b'), IDLE, IDLE];
-    let layout = Layout::new(2, 4, 4)?;
-    let seen = met(&rt, rt.alloc(), layout, plans, false, &Watch::new(None))?;
-    assert!(rt; seen.told && is_half_full(&seen));
-    Ok(())
-}
-
-/// A put that ends full is a call as any other: it has an index of its own, and places nothing. On one node of four
-/// slots the fifth name finds no room, and the sixth call is of the first name again.
-#[test]
-fn a_full_put_counts_as_one_call(rt: HostRuntime) -> Result<(), Fail> {
-    let plans = [waits(Kind::Puts, b'a', 5, 7), IDLE, IDLE, IDLE];
-    let layout = Layout::new(1, 4, 4)?;
-    let gate = Watch::new(None);
-    let seen = met(&rt, rt.alloc(), layout, plans, false, &gate)?;
-    let counts = seen.counts;
-    assert!(rt; seen.told && counts == [6, 6, 1] && seen.last == Some(6));
-    assert!(rt; gate.is_in_order());
-    Ok(())
-}
-
-/// A gate is told of all steps of a whole put, over its four tries and a turn behind each. A put of a new name takes 5
-/// steps for the floor, 6 for the walk and 67 for the rest; one that finds no room 5, 6 and 31; and a turn with nothing
-/// to do takes the lock, loads the states of 32 lines and the status of the node twice, and gives the lock back.
+/// A gate is told of all steps of a whole put, over its four tries and a turn behind each. On one node of four slots the
+/// fifth name finds no room: a try takes 5 steps for the floor, 6 for the walk and 31 for the rest, and a turn with
+/// nothing to do takes the lock, loads the states of 32 lines and the status of the node twice, and gives the lock back.
+/// A put that ends full is a call as any other: it has an index of its own, and places nothing. The sixth one is of the
+/// first name again, and takes 5, 6 and 34 steps.
 #[test]
 fn a_gate_sees_each_step_of_a_whole_put(rt: HostRuntime) -> Result<(), Fail> {
-    let plans = [waits(Kind::Puts, b'a', 5, 5), IDLE, IDLE, IDLE];
+    let plans = [waits(Kind::Puts, b'a', 5, 6), IDLE, IDLE, IDLE];
     let layout = Layout::new(1, 4, 4)?;
-    let gate = Watch::new(None);
+    let gate = Watch::new();
     let seen = met(&rt, rt.alloc(), layout, plans, false, &gate)?;
-    assert!(rt; seen.told && gate.is_in_order());
+    let counts = seen.counts;
+    assert!(rt; seen.told && counts == [5, 5, 1] && seen.last == Some(5));
     let (tried, turned) = (5 + 6 + 31, 1 + 32 + 1 + 1 + 1);
-    let counts = gate.counts();
-    assert!(rt; counts == [4 * (tried + turned), 5 + 6 + 67]);
+    let steps = gate.counts();
+    assert!(rt; gate.is_in_order() && steps == [5 + 6 + 34, 4 * (tried + turned)]);
     Ok(())
 }

@@ -10,7 +10,7 @@ use super::playing::{Finished, Notes, Plan, Reply, plays};
 use super::telling::{are_told, do_rise};
 use super::watch::Watch;
 use pac_index::{Caller, Ended, Shared, have_steps};
-use pm_words::{Again, Layout, NoMemory};
+use pm_words::{Layout, NoMemory};
 use recovery::index_core::Core;
 use recovery::open_fresh;
 use std::alloc::Global;
@@ -166,11 +166,7 @@ pub(crate) fn take_last(shared: &Shared, callers: &mut Vec<Caller>) -> Caller
 }
 
 /// A caller behind those before it.
-pub(crate) fn put_back(
-    shared: &Shared,
-    callers: &mut Vec<Caller>,
-    caller: Caller,
-) -> Result<(), NoMemory>
+fn put_back(shared: &Shared, callers: &mut Vec<Caller>, caller: Caller) -> Result<(), NoMemory>
     requires callers { HasCallers shared.now (length callers.old.items) callers.old.items }
     requires caller { IsCallerOf shared.now caller × (caller.number ≡ length callers.old.items) }
     ensures { IfOk result (λ _. HasCallers shared.now (length callers.new.items) callers.new.items ×
@@ -233,8 +229,6 @@ pub(crate) struct Seen {
     pub(crate) last: Option<u64>,
     /// Each reply is told by the history, and none is of a place before that of an earlier one of its caller.
     pub(crate) told: bool,
-    /// The first reply of the first player.
-    pub(crate) first: First,
 }
 
 impl Seen {
@@ -245,49 +239,7 @@ impl Seen {
             emptied: 0,
             last: None,
             told: false,
-            first: first_of(&[]),
         }
-    }
-}
-
-/// What is seen of a reply that was the first.
-#[derive(Clone, Copy)]
-pub(crate) struct First {
-    pub(crate) place: u64,
-    /// It was never turned back.
-    pub(crate) at_once: bool,
-    /// Its last try before was turned back since its node was changed once, whose number is 0.
-    pub(crate) moved: bool,
-}
-
-/// Whether a try that was turned back tells both version words, the second of a node that was locked once and given
-/// back.
-fn is_moved(back: Option<Again>) -> bool {
-    match back {
-        Some(
-            Again::Moved {
-                node,
-                first,
-                second,
-            },
-        ) => node == 0 && second == first.wrapping_add(2),
-        _ => false,
-    }
-}
-
-/// The first of these replies; where there is none, it is of no place that a history has.
-fn first_of(replies: &[Reply]) -> First {
-    match replies {
-        [reply, ..] => First {
-            place: reply.place,
-            at_once: reply.back.is_none(),
-            moved: is_moved(reply.back),
-        },
-        [] => First {
-            place: u64::MAX,
-            at_once: false,
-            moved: false,
-        },
     }
 }
 
@@ -296,14 +248,12 @@ fn see(alloc: Global, core: &Core, all: Gathered, emptied: u64) -> Result<Seen, 
     let history = core.history();
     let mut replies = all.replies;
     let counts = [history.len() as u64, replies.len() as u64, all.full];
-    let first = first_of(replies.as_slice());
     let told = are_told(alloc, history, &mut replies)?;
     Ok(Seen {
         counts,
         emptied,
         last: history.last().map(|write| write.index),
         told: told && all.rise,
-        first,
     })
 }
 

@@ -1,17 +1,13 @@
 //! Callers that make calls as planned, and what these are answered.
 
-ghost use Rattle.std.specs.Prelude.{◌≡◌, ◌<◌, ◌≤◌, IfSome};
+ghost use Rattle.std.specs.Prelude.{◌≡◌, ◌<◌, ◌≤◌};
 ghost use Rattle.recovery.specs.index_core.specs.CoreCalls.{MayBegin, most_writes};
 ghost use Rattle.pac_index.specs.Callers.{MayCall, StaysCaller};
 
-use super::telling::mixed;
 use super::watch::Watch;
 use call_stages::{Once, Placed};
-use cat_history::ScanPart;
-use cat_key::{Name, WORDS};
-use node_ops::PartWords;
-use pac_index::{Caller, Ended, Scanned, Shared, Tried};
-use pm_words::Again;
+use cat_key::Name;
+use pac_index::{Caller, Ended, Shared, Tried};
 use recovery::index_core::CoreCall;
 use std::alloc::Global;
 use std::sync::Wait;
@@ -23,18 +19,12 @@ pub(crate) const LIMIT: u64 = 1 << 62;
 /// How often a call is made again at most, while it is turned back.
 const TRIES: u64 = 10_000_000;
 
-/// How many names a part lists at most, and a scan.
-const PART: u64 = 3;
-
-const SCAN: u64 = 6;
-
-/// What a call asks of its name. A part lists so many names at most.
+/// What a call asks of its name.
 #[derive(Clone, Copy)]
 pub(crate) enum Asks {
     Put(u64),
     Get,
     Del,
-    Part(u64),
 }
 
 /// What a player asks, one call after another: by single tries, or by calls that wait until they end.
@@ -42,7 +32,6 @@ pub(crate) enum Asks {
 pub(crate) enum Habit {
     Tries(Kind),
     Waits(Kind),
-    Scans,
 }
 
 /// Which calls.
@@ -51,9 +40,6 @@ pub(crate) enum Kind {
     Puts,
     Gets,
     PutsAndDels,
-    /// Puts of all names, then deletes of all, and so on.
-    FillsAndEmpties,
-    Parts,
 }
 
 /// So many calls of names with this first letter, of which there are so many.
@@ -65,20 +51,16 @@ pub(crate) struct Plan {
     pub(crate) calls: u64,
 }
 
-/// A call that took place, or a part of a scan.
+/// A call that took place.
 #[derive(Clone, Copy)]
 pub(crate) struct Reply {
     pub(crate) caller: u64,
     pub(crate) index: u64,
     pub(crate) name: Name,
     pub(crate) asks: Asks,
-    /// The number of its name; or of a part the mixed words of what it lists.
+    /// The number that its name had.
     pub(crate) told: Option<u64>,
-    /// Where a part ends.
-    pub(crate) high: [u64; WORDS],
     pub(crate) place: u64,
-    /// Why its last try before was turned back, if one was.
-    pub(crate) back: Option<Again>,
 }
 
 /// What a player has been answered so far, and how many of its puts ended full.
@@ -89,16 +71,12 @@ pub(crate) struct Notes {
 }
 
 impl Kind {
-    /// What the call of this number asks, of so many names.
-    fn asks(self, names: u64, number: u64) -> Asks {
-        let round = number.checked_div(names).unwrap_or(0);
+    /// What the call of this number asks.
+    fn asks(self, number: u64) -> Asks {
         match self {
-            Kind::Puts => Asks::Put(number),
             Kind::Gets => Asks::Get,
             Kind::PutsAndDels if number % 3 == 2 => Asks::Del,
-            Kind::FillsAndEmpties if round % 2 == 1 => Asks::Del,
-            Kind::PutsAndDels | Kind::FillsAndEmpties => Asks::Put(number),
-            Kind::Parts => Asks::Part(PART),
+            Kind::Puts | Kind::PutsAndDels => Asks::Put(number),
         }
     }
 }
@@ -120,18 +98,17 @@ impl Plan {
 }
 
 /// The call of a core.
-fn call_of(name: Name, asks: Asks) -> Option<CoreCall>
-    ensures { IfSome result (λ call. MayBegin call × (most_writes call ≤ 1)) }
+fn call_of(name: Name, asks: Asks) -> CoreCall
+    ensures { MayBegin result × (most_writes result ≤ 1) }
 {
     match asks {
-        Asks::Put(value) => Some(CoreCall::Put {
+        Asks::Put(value) => CoreCall::Put {
             name,
             value,
             limit: LIMIT,
-        }),
-        Asks::Get => Some(CoreCall::Get { name }),
-        Asks::Del => Some(CoreCall::Del { name, limit: LIMIT }),
-        Asks::Part(_) => None,
+        },
+        Asks::Get => CoreCall::Get { name },
+        Asks::Del => CoreCall::Del { name, limit: LIMIT },
     }
 }
 
@@ -143,9 +120,7 @@ fn told(name: Name, asks: Asks, caller: u64, index: u64, placed: Placed) -> Repl
         name,
         asks,
         told: placed.old,
-        high: [0; WORDS],
         place: placed.place,
-        back: None,
     }
 }
 
@@ -160,7 +135,7 @@ fn once(
     requires { MayCall shared.now caller.old }
     ensures { StaysCaller shared.now caller.old caller.new }
 {
-    let call = call_of(name, asks)?;
+    let call = call_of(name, asks);
     caller.reserve(1).ok()?;
     match shared.try_call(caller, call, gate) {
         Tried::Answered(answer) => Some(answer),
@@ -180,94 +155,14 @@ fn tries(
     requires { MayCall shared.now caller.old }
     ensures { StaysCaller shared.now caller.old caller.new }
 {
-    let mut back = None;
     for _ in 0..TRIES {
         let (number, index) = (caller.number(), caller.index());
-        match once(shared, caller, name, asks, gate)? {
-            Once::Done(placed) => {
-                let reply = told(name, asks, number, index, placed);
-                return notes.note(Reply { back, ..reply });
-            }
-            Once::Again(why) => back = Some(why),
-            _ => {}
+        if let Once::Done(placed) = once(shared, caller, name, asks, gate)? {
+            return notes.note(told(name, asks, number, index, placed));
         }
         yield_now();
     }
     None
-}
-
-/// A whole put or delete.
-fn writes<R: Wait>(
-    rt: &R,
-    shared: &Shared,
-    caller: &mut Caller,
-    name: Name,
-    asks: Asks,
-    gate: &Watch,
-) -> Option<Ended<Placed>>
-    requires { MayCall shared.now caller.old }
-    ensures { StaysCaller shared.now caller.old caller.new }
-{
-    let call = call_of(name, asks)?;
-    caller.reserve(1).ok()?;
-    Some(shared.write(rt, caller, call, gate))
-}
-
-/// The words of the name at which a part ends, zeros where there is none.
-fn words_of(high: Option<Name>) -> [u64; WORDS] {
-    match high {
-        Some(high) => high.words(),
-        None => [0; WORDS],
-    }
-}
-
-/// A part of a caller that began with this index, or of a scan.
-fn listed(caller: u64, index: u64, low: Name, count: u64, high: Option<Name>, place: u64) -> Reply {
-    Reply {
-        caller,
-        index,
-        name: low,
-        asks: Asks::Part(count),
-        told: None,
-        high: words_of(high),
-        place,
-        back: None,
-    }
-}
-
-/// The mixed words of what a part lists.
-fn mixed_words(words: &PartWords) -> u64 {
-    let mut mix = words.len;
-    for (entry, _) in words.entries.iter().zip(0..words.len) {
-        mix = mixed(mix, *entry);
-    }
-    mix
-}
-
-/// A whole part.
-fn lists<R: Wait>(
-    rt: &R,
-    shared: &Shared,
-    caller: &mut Caller,
-    low: Name,
-    count: u64,
-    gate: &Watch,
-    notes: &mut Notes,
-) -> Option<()>
-    requires { MayCall shared.now caller.old }
-    ensures { StaysCaller shared.now caller.old caller.new }
-{
-    let (number, index) = (caller.number(), caller.index());
-    match shared.part_at(rt, caller, low, count, gate) {
-        Ended::Done(words) => {
-            let reply = listed(number, index, low, count, words.high, words.place);
-            notes.note(Reply {
-                told: Some(mixed_words(&words)),
-                ..reply
-            })
-        }
-        _ => None,
-    }
 }
 
 impl Notes {
@@ -278,45 +173,9 @@ impl Notes {
         }
         Some(())
     }
-
-    /// How a whole call ended.
-    fn ended(&mut self, reply: Reply, ended: Ended<Placed>) -> Option<()> {
-        match ended {
-            Ended::Done(Placed { old, place, .. }) => self.note(Reply {
-                told: old,
-                place,
-                ..reply
-            }),
-            Ended::Full => {
-                self.full = self.full.saturating_add(1);
-                Some(())
-            }
-            _ => None,
-        }
-    }
-
-    /// The parts of a scan of a caller.
-    fn scanned(&mut self, caller: u64, parts: &[ScanPart]) -> Option<()> {
-        let mut left = SCAN;
-        for part in parts {
-            let pairs = part.pairs.as_slice();
-            let mut mix = pairs.len() as u64;
-            for pair in pairs {
-                let [a, b, c] = pair.name.words();
-                mix = mixed(mix, [a, b, c, pair.value]);
-            }
-            let reply = listed(caller, 0, part.low, left, part.high, part.place);
-            self.note(Reply {
-                told: Some(mix),
-                ..reply
-            })?;
-            left = left.saturating_sub(pairs.len() as u64);
-        }
-        Some(())
-    }
 }
 
-/// A call that waits until it ends.
+/// A put or a delete that waits until it ends.
 fn waits<R: Wait>(
     rt: &R,
     shared: &Shared,
@@ -329,34 +188,15 @@ fn waits<R: Wait>(
     requires { MayCall shared.now caller.old }
     ensures { StaysCaller shared.now caller.old caller.new }
 {
-    let none = Placed {
-        old: None,
-        place: 0,
-        hops: 0,
-    };
-    let begun = told(name, asks, caller.number(), caller.index(), none);
-    match asks {
-        Asks::Part(count) => lists(rt, shared, caller, name, count, gate, notes),
-        Asks::Get => notes.ended(begun, shared.get_at(rt, caller, name, gate)),
-        _ => notes.ended(begun, writes(rt, shared, caller, name, asks, gate)?),
-    }
-}
-
-/// A whole scan.
-fn scans<R: Wait>(
-    rt: &R,
-    shared: &Shared,
-    alloc: Global,
-    caller: &mut Caller,
-    from: Name,
-    notes: &mut Notes,
-) -> Option<()>
-    requires { MayCall shared.now caller.old }
-    ensures { StaysCaller shared.now caller.old caller.new }
-{
-    let number = caller.number();
-    match shared.scan(rt, alloc, caller, &from, SCAN) {
-        Ok(Scanned::Done(parts)) => notes.scanned(number, parts.as_slice()),
+    let call = call_of(name, asks);
+    caller.reserve(1).ok()?;
+    let (number, index) = (caller.number(), caller.index());
+    match shared.write(rt, caller, call, gate) {
+        Ended::Done(placed) => notes.note(told(name, asks, number, index, placed)),
+        Ended::Full => {
+            notes.full = notes.full.saturating_add(1);
+            Some(())
+        }
         _ => None,
     }
 }
@@ -365,7 +205,6 @@ fn scans<R: Wait>(
 fn plays_one<R: Wait>(
     rt: &R,
     shared: &Shared,
-    alloc: Global,
     caller: &mut Caller,
     plan: Plan,
     number: u64,
@@ -377,15 +216,8 @@ fn plays_one<R: Wait>(
 {
     let name = plan.name(number)?;
     match plan.habit {
-        Habit::Scans => scans(rt, shared, alloc, caller, name, notes),
-        Habit::Tries(kind) => {
-            let asks = kind.asks(plan.names, number);
-            tries(shared, caller, name, asks, gate, notes)
-        }
-        Habit::Waits(kind) => {
-            let asks = kind.asks(plan.names, number);
-            waits(rt, shared, caller, name, asks, gate, notes)
-        }
+        Habit::Tries(kind) => tries(shared, caller, name, kind.asks(number), gate, notes),
+        Habit::Waits(kind) => waits(rt, shared, caller, name, kind.asks(number), gate, notes),
     }
 }
 
@@ -414,18 +246,7 @@ pub(crate) fn plays<R: Wait>(
         full: 0,
     };
     for number in 0..plan.calls {
-        if plays_one(
-            rt,
-            shared,
-            alloc,
-            &mut caller,
-            plan,
-            number,
-            gate,
-            &mut notes,
-        )
-        .is_none()
-        {
+        if plays_one(rt, shared, &mut caller, plan, number, gate, &mut notes).is_none() {
             break;
         }
     }

@@ -2,55 +2,17 @@
 
 use super::playing::{Asks, Reply};
 use cat_history::{Change, Write};
-use cat_key::{Name, Pair, WORDS};
 use pm_words::NoMemory;
 use shapes::{NameMap, PlainMap};
 use std::alloc::Global;
 
-/// The words of a name and its number, mixed into what stands before them.
-pub(crate) fn mixed(mix: u64, words: [u64; 4]) -> u64 {
-    let mut mix = mix;
-    for word in words {
-        mix = (mix ^ word).wrapping_mul(0x9e37_79b9_7f4a_7c15);
-        mix ^= mix >> 29;
-    }
-    mix
-}
-
-/// Whether a part that ends at a name of these words, or where they are zeros nowhere, lists no such name.
-fn is_past(high: &[u64; WORDS], name: &Name) -> bool {
-    let words = name.words();
-    *high != [0; WORDS] && *high <= words
-}
-
-/// The mixed words of the first of these pairs, up to where a part ends.
-fn mixed_pairs(pairs: &[Pair], high: &[u64; WORDS]) -> u64 {
-    let mut len: u64 = 0;
-    for pair in pairs {
-        if is_past(high, &pair.name) {
-            break;
-        }
-        len = len.wrapping_add(1);
-    }
-    let mut mix = len;
-    for (pair, _) in pairs.iter().zip(0..len) {
-        let [a, b, c] = pair.name.words();
-        mix = mixed(mix, [a, b, c, pair.value]);
-    }
-    mix
-}
-
 /// What the map tells, on which the reply's change is made.
-fn told_by(alloc: Global, map: &mut PlainMap, reply: &Reply) -> Result<Option<u64>, NoMemory> {
-    Ok(match reply.asks {
+fn told_by(map: &mut PlainMap, reply: &Reply) -> Option<u64> {
+    match reply.asks {
         Asks::Put(value) => map.put(&reply.name, value).ok().flatten(),
         Asks::Get => map.get(&reply.name),
         Asks::Del => map.del(&reply.name),
-        Asks::Part(count) => {
-            let part = map.part(alloc, &reply.name, count)?;
-            Some(mixed_pairs(part.pairs.as_slice(), &reply.high))
-        }
-    })
+    }
 }
 
 /// Whether a call changes the map.
@@ -95,7 +57,7 @@ pub(crate) fn are_told(
     replies.sort_by_key(|reply| (reply.place, is_write(&reply.asks)))?;
     let mut done = 0usize;
     for reply in replies.iter() {
-        if reply.place != done as u64 || told_by(alloc, &mut map, reply)? != reply.told {
+        if reply.place != done as u64 || told_by(&mut map, reply) != reply.told {
             return Ok(false);
         }
         if is_write(&reply.asks) {
