@@ -9,4 +9,3 @@ mod waits;
 pub use beside::Beside;
 pub use open::OpenGate;
 pub use turns::Turns;
-pub use waits::Moment;

@@ -2,13 +2,15 @@
 
 use crate::waits::{Moment, Waits};
 use pac_index::Gate;
+use std::sync::atomic::{AtomicU64, Ordering};
 
 /// Holds caller 0 before its sixth call, and caller 1 before its first one, until caller 2, who turns the updater, has
-/// made a whole turn. Its first turn begins once caller 0 has come to its sixth call.
+/// made a whole turn, whose steps it counts. That one begins once caller 0 has come to its sixth call.
 #[derive(Drop)]
 pub struct Turns {
     filled: Moment,
     turned: Moment,
+    steps: AtomicU64,
     waits: Waits,
 }
 
@@ -17,6 +19,7 @@ impl Turns {
         Turns {
             filled: Moment::new(),
             turned: Moment::new(),
+            steps: AtomicU64::new(0),
             waits: Waits::new(),
         }
     }
@@ -24,6 +27,11 @@ impl Turns {
     /// How many of the three waits ended in time.
     pub fn met(&self) -> u64 {
         self.waits.met()
+    }
+
+    /// How many steps the whole turn took.
+    pub fn steps(&self) -> u64 {
+        self.steps.load(Ordering::SeqCst)
     }
 }
 
@@ -41,5 +49,9 @@ impl Gate for Turns {
         }
     }
 
-    fn within(&self, _caller: u64, _step: u64) {}
+    fn within(&self, caller: u64, _step: u64) {
+        if caller == 2 && !self.turned.has_come() {
+            self.steps.fetch_add(1, Ordering::SeqCst);
+        }
+    }
 }

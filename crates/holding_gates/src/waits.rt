@@ -8,25 +8,29 @@ const TURNS: u64 = 10_000_000;
 
 /// A moment for which callers wait.
 #[derive(Drop)]
-pub struct Moment {
+pub(crate) struct Moment {
     came: AtomicBool,
 }
 
 impl Moment {
-    pub fn new() -> Moment {
+    pub(crate) fn new() -> Moment {
         Moment {
             came: AtomicBool::new(false),
         }
     }
 
-    pub fn comes(&self) {
+    pub(crate) fn comes(&self) {
         self.came.store(true, Ordering::SeqCst);
     }
 
+    pub(crate) fn has_come(&self) -> bool {
+        self.came.load(Ordering::SeqCst)
+    }
+
     /// Waits for it, and tells whether it came.
-    pub fn wait(&self) -> bool {
+    fn wait(&self) -> bool {
         for _ in 0..TURNS {
-            if self.came.load(Ordering::SeqCst) {
+            if self.has_come() {
                 return true;
             }
             yield_now();

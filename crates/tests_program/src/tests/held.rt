@@ -34,6 +34,9 @@ fn callers_run_beside_each_other(rt: HostRuntime) -> Result<(), Fail> {
     Ok(())
 }
 
+/// The turn that the gate waits for takes the lock, loads the states of 16 log lines, carries out the one of the split,
+/// loads the statuses of 8 nodes twice, and gives the lock back. That line takes 6 steps for its fields, 5 for the floor,
+/// 15 for the walk over one hop, 1 for the version word again, 74 for the search layer, and 1 to be EMPTY.
 #[test]
 fn the_updater_turns_beside_callers(rt: HostRuntime) -> Result<(), Fail> {
     let gate = Turns::new();
@@ -41,6 +44,10 @@ fn the_updater_turns_beside_callers(rt: HostRuntime) -> Result<(), Fail> {
         "updater 1\n0 put a 1\n0 put b 2\n0 put c 3\n0 put d 4\n0 put e 5\n0 get a\n1 get a\n";
     let ended = ends_with(&rt, script, "\njoin 5 names 5\n", &gate);
     assert_eq!(rt; ended, Some(true));
-    assert_eq!(rt; gate.met(), 3);
+    let carried = 6 + 5 + 15 + 1 + 74 + 1;
+    assert_eq!(rt;
+        [gate.met(), gate.steps()],
+        [3, 1 + 16 + carried + 8 + 8 + 1]
+    );
     Ok(())
 }
