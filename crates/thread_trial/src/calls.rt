@@ -43,7 +43,7 @@ pub fn is_put(mix: Mix, number: u64) -> bool {
 /// The name that a caller's call of this number is about: call 0 and 1 are about one name, 2 and 3 about the next.
 pub fn name_of(mix: Mix, caller: u64, number: u64) -> Option<Name> {
     let owner = match mix {
-        Mix::Own => caller % 16,
+        Mix::Own => caller % OWNERS,
         Mix::Common { .. } => 0,
     };
     let turn = number / 2 % NAMES;
