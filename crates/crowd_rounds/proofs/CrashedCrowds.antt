@@ -20,9 +20,6 @@ use Rattle.pm_words.specs.Images.{Row}
 use Rattle.pm_words.specs.declared.layout.Layout.{Layout}
 use Rattle.shapes.specs.ShapeRounds.{puts_added, FullIsPaid, IsShapeWithin}
 use Rattle.image_rules.proofs.MapLemmas.{has_one_map}
-use Rattle.image_rules.specs.Rules.{header_generation}
-use Rattle.image_layer_rules.specs.Sound.{IsSoundByAll}
-use Rattle.version_lock.specs.Versions.{IsGeneration}
 use Rattle.caller_rounds.proofs.Rising.{crash_names_rise}
 use Rattle.caller_rounds.proofs.Settling.{settled_stay}
 use Rattle.caller_rounds.proofs.Told.{records_are_told}

@@ -38,8 +38,8 @@ pub record AreFirstPlain (plans : List RoundPlan) (count : ℕ) : Type 0 where
   pub none : restarts (take count plans) ≡ 0
   pub next : (plan : RoundPlan) → count < length plans → has_restart (get_or plans count plan) ≡ true
 
--- Joined rounds of one caller each were played on this core and reported so, and left that one. Where there are none, it
--- is the same core.
+-- Joined rounds of one caller each were played on this core and reported so, and left that one. Where there are none,
+-- it is the same core.
 pub record ArePlainPlayed (old : Index) (plans : List RoundPlan) (reports : List RoundReport) (new : Index) : Type 0
   where
     pub played : ArePlayed old.layout.slots old.layout.nodes (weight_of old) (len (map_of_index old)) (map_of_index old)

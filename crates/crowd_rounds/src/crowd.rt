@@ -3,7 +3,6 @@
 ghost use Rattle.std.specs.Prelude.{◌≡◌, ◌<◌, ◌≤◌, ◌^◌, All, IfOk, length, suc};
 ghost use Rattle.core_crashes.specs.core_rounds.specs.LoneCalls.{AreReportCalls};
 ghost use Rattle.thread_rounds.specs.index_core.specs.Lone.{IsQuiet};
-ghost use Rattle.core_crashes.specs.recovery.specs.Opened.{IsOpenedFrom};
 ghost use Rattle.image_rules.specs.Rules.{header_generation};
 ghost use Rattle.image_layer_rules.specs.Sound.{IsSoundByAll};
 ghost use Rattle.version_lock.specs.Versions.{IsGeneration};
@@ -20,9 +19,10 @@ use thread_rounds::index_core::Core;
 use thread_rounds::pac_index::Gate;
 use thread_rounds::{Finish, Round, run_round};
 
-/// A round of several callers that was played: what is reported of it, and the core that an image opens as behind it.
+/// A round that was played, behind which the index was opened again: what is reported of it, and the core that the
+/// image opens as.
 #[derive(Drop)]
-pub(crate) struct Crowd {
+pub(crate) struct Restarted {
     pub(crate) report: RoundReport,
     pub(crate) core: Core,
 }
@@ -36,13 +36,13 @@ pub(crate) fn play_crowd<R: Threads + Wait + Sync, G: Gate>(
     core: Core,
     plan: &RoundPlan,
     gate: &G,
-) -> Result<Crowd, NoMemory>
+) -> Result<Restarted, NoMemory>
     requires quiet { IsQuiet core }
     requires next { IsGeneration (suc core.generation) }
     requires callers { All (λ a. a.caller < core.layout.callers) plan.now.ops }
     requires told { AreReportCalls plan.now.ops }
     requires limit { plan.now.limit ≤ 2 ^ 62 }
-    ensures { IfOk result (λ crowd. IsPlayedAs plan.now.crash core plan.now crowd.report crowd.core) }
+    ensures { IfOk result (λ done. IsPlayedAs plan.now.crash core plan.now done.report done.core) }
 {
     let mut core = core;
     core.new_round()?;
@@ -58,14 +58,14 @@ pub(crate) fn play_crowd<R: Threads + Wait + Sync, G: Gate>(
 }
 
 /// The report of a round whose callers met in this core, and the core that its image opens as.
-fn reopened(alloc: Global, records: Records, writes: u64, met: Core) -> Result<Crowd, NoMemory>
+fn reopened(alloc: Global, records: Records, writes: u64, met: Core) -> Result<Restarted, NoMemory>
     requires quiet { IsQuiet met }
     requires next { IsGeneration (suc met.generation) }
-    ensures { IfOk result (λ crowd. IsReportedBehind met records writes crowd.report crowd.core) }
+    ensures { IfOk result (λ done. IsReportedBehind met records writes done.report done.core) }
 {
     let core = reopen(alloc, met)?;
     let names = names_in(&core);
-    Ok(Crowd {
+    Ok(Restarted {
         report: RoundReport {
             records,
             crashed: false,
@@ -77,16 +77,21 @@ fn reopened(alloc: Global, records: Records, writes: u64, met: Core) -> Result<C
 }
 
 /// The report of a round that a crash ended, which left this image, and the core that it opens as.
-fn recovered(alloc: Global, records: Records, writes: u64, image: Image) -> Result<Crowd, NoMemory>
+fn recovered(
+    alloc: Global,
+    records: Records,
+    writes: u64,
+    image: Image,
+) -> Result<Restarted, NoMemory>
     requires sound { IsSoundByAll image.layout image.words }
     requires next { IsGeneration (suc (header_generation image.layout image.words)) }
-    ensures { IfOk result (λ crowd. IsReportedCrash image records writes crowd.report crowd.core) }
+    ensures { IfOk result (λ done. IsReportedCrash image records writes done.report done.core) }
 {
     let core = recover_sound(alloc, image)?;
     let mut records = records;
     settle(&mut records, core.base());
     let names = names_in(&core);
-    Ok(Crowd {
+    Ok(Restarted {
         report: RoundReport {
             records,
             crashed: true,

@@ -22,9 +22,9 @@ ghost use Rattle.core_crashes.specs.core_rounds.specs.Waiting.{HaveNoTurns, chan
 ghost use Rattle.crowd_rounds.specs.Segments.{AreFirstPlain, AreFirstPlayed, ArePlainPlayed, ArePlayable};
 ghost use Rattle.crowd_rounds.specs.Segments.{ArePlayedOn, HasBudgets, IsPlayedRestart, WorkOn};
 
-use crate::crowd::{Crowd, play_crowd};
+use crate::crowd::{Restarted, play_crowd};
 use cat_history::{Items, NoMemory, RoundPlan};
-use cat_text::{Report, RoundReport};
+use cat_text::Report;
 use core_crashes::core_rounds::{LoneRounds, has_restart, is_crowd, play_lone, restarts};
 use core_crashes::recovery::open_fresh;
 use core_crashes::{CrashedRound, crash_round};
@@ -84,13 +84,7 @@ pub fn play_rounds<R: Threads + Wait + Sync, G: Gate>(
     gate: &G,
 ) -> Result<PlayedRounds, NoMemory>
     requires opened { (image : Row) × IsOpenedFrom image core }
-    // There are as many generations behind its own as it is opened again.
-    requires generations { IsGeneration (core.generation + restarts plans.now) }
-    requires callers { All (λ plan. All (λ a. a.caller < core.layout.callers) plan.ops) plans.now }
-    requires told { All (λ plan. AreReportCalls plan.ops) plans.now }
-    requires limits { All (λ plan. plan.limit ≤ 2 ^ 62) plans.now }
-    requires budgets { All (HasBudgets core.layout.callers) plans.now }
-    requires calls { calls_in plans.now ≤ 100000 }
+    requires playable { ArePlayable core plans.now }
     // Each round is legal and reported, and the core has the map and the shape that follow the last one.
     ensures played { IfOk result (λ done. ArePlayed core.layout.slots core.layout.nodes (weight_of core)
         (len (map_of_index core)) (map_of_index core) (anchors_in (world core)) plans.now done.report
@@ -205,14 +199,6 @@ fn plain_at_first(plans: &[RoundPlan]) -> usize
     plans.len()
 }
 
-/// A round that was played, behind which the index was opened again: what is reported of it, and the core that the
-/// image opens as.
-#[derive(Drop)]
-struct Restarted {
-    report: RoundReport,
-    core: Core,
-}
-
 /// Plays a round behind which the index is opened again: one of several callers, or one of one caller that a crash
 /// ends.
 fn play_restart<R: Threads + Wait + Sync, G: Gate>(
@@ -235,14 +221,7 @@ fn play_restart<R: Threads + Wait + Sync, G: Gate>(
     ensures { IfOk result (λ done. IsPlayedRestart core plan.now done.report done.core) }
 {
     if is_crowd(plan.ops.as_slice()) {
-        let Crowd {
-            report: told,
-            core: next,
-        } = play_crowd(rt, alloc, core, plan, gate)?;
-        return Ok(Restarted {
-            report: told,
-            core: next,
-        });
+        return play_crowd(rt, alloc, core, plan, gate);
     }
     let Some(crash) = &plan.crash else {
         unreachable!()

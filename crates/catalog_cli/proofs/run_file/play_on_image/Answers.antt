@@ -34,39 +34,25 @@ returns-in_err-accept-clause-refused g c =
     (subst (IsOpenable c.args.image) c.as_slice-plans.ensures c.in_ok-core.ensures.openable)
     (subst (λ (l : Layout). IsRefusedBy l.callers bytes c.in_err-accept.field-0.0) c.layout-layout.ensures.layout (c.in_err-accept.ensures.refused bytes is)))
 
-pub play_rounds-requires-clause-generations : goal.play_rounds-requires-clause-generations
-play_rounds-requires-clause-generations g c κs lives = generations-left c.args.image c.as_slice-plans.result.now c.in_ok-core.core c.in_ok-core.ensures.opened c.in_ok-core.ensures.openable
-
-pub play_rounds-requires-clause-callers : goal.play_rounds-requires-clause-callers
-play_rounds-requires-clause-callers g c κs lives =
+-- the rounds of a script that is accepted can be played
+pub play_rounds-requires-clause-playable : goal.play_rounds-requires-clause-playable
+play_rounds-requires-clause-playable g c κs lives =
     let script = c.requires in
+    let plans = c.as_slice-plans.result.now in
     let accepted = c.in_ok-accept.ensures.accepted script.0 script.1 in
-    subst (λ (l : Layout). All (λ (plan : RoundPlan). All (λ (a : CallerOp). a.caller < l.callers) plan.ops) c.as_slice-plans.result.now) (c.layout-layout.ensures.layout ∙ sym c.in_ok-core.ensures.opened.layout)
-    (λ i d within. (all-playable _ script.0 c.args.script.now _ accepted c.as_slice-plans.ensures i d within).callers_are)
-
-pub play_rounds-requires-clause-told : goal.play_rounds-requires-clause-told
-play_rounds-requires-clause-told g c κs lives i d within =
-    let script = c.requires in
-    (all-playable _ script.0 c.args.script.now _ (c.in_ok-accept.ensures.accepted script.0 script.1) c.as_slice-plans.ensures i d within).told
-
-pub play_rounds-requires-clause-limits : goal.play_rounds-requires-clause-limits
-play_rounds-requires-clause-limits g c κs lives i d within =
-    let script = c.requires in
-    (all-playable _ script.0 c.args.script.now _ (c.in_ok-accept.ensures.accepted script.0 script.1) c.as_slice-plans.ensures i d within).limit
-
-pub play_rounds-requires-clause-budgets : goal.play_rounds-requires-clause-budgets
-play_rounds-requires-clause-budgets g c κs lives =
-    let script = c.requires in
-    let accepted = c.in_ok-accept.ensures.accepted script.0 script.1 in
-    subst (λ (l : Layout). All (HasBudgets l.callers) c.as_slice-plans.result.now) (c.layout-layout.ensures.layout ∙ sym c.in_ok-core.ensures.opened.layout)
-    (λ i d within. (all-playable _ script.0 c.args.script.now _ accepted c.as_slice-plans.ensures i d within).budgets)
-
-pub play_rounds-requires-clause-calls : goal.play_rounds-requires-clause-calls
-play_rounds-requires-clause-calls g c κs lives =
-    let script = c.requires in
+    let layout = c.layout-layout.ensures.layout ∙ sym c.in_ok-core.ensures.opened.layout in
     let same = ap calls_in c.as_slice-plans.ensures in
     let few = calls-of-script script.0 c.args.script.now script.1 in
-    omega (arith, same, few)
+    record {
+      generations = generations-left c.args.image plans c.in_ok-core.core c.in_ok-core.ensures.opened c.in_ok-core.ensures.openable;
+      callers = subst (λ (l : Layout). All (λ (plan : RoundPlan). All (λ (a : CallerOp). a.caller < l.callers) plan.ops) plans) layout
+          (λ i d within. (all-playable _ script.0 c.args.script.now _ accepted c.as_slice-plans.ensures i d within).callers_are);
+      told = λ i d within. (all-playable _ script.0 c.args.script.now _ accepted c.as_slice-plans.ensures i d within).told;
+      limits = λ i d within. (all-playable _ script.0 c.args.script.now _ accepted c.as_slice-plans.ensures i d within).limit;
+      budgets = subst (λ (l : Layout). All (HasBudgets l.callers) plans) layout
+          (λ i d within. (all-playable _ script.0 c.args.script.now _ accepted c.as_slice-plans.ensures i d within).budgets);
+      calls = omega (arith, same, few);
+    }
 
 pub print_report-requires : goal.print_report-requires
 print_report-requires g c =

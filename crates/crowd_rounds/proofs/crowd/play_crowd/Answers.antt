@@ -26,15 +26,15 @@ recovered-requires-clause-next g c =
 pub returns-in-Joined : goal.returns-in-Joined
 returns-in-Joined g c =
     IfOk-weaker c.reopened.result _ _
-    (λ crowd behind.
-    reported-joined c.args.core c.new_round.new.self c.in-Joined.met c.args.plan.now c.in_ok-records.field-0 crowd.report crowd.core c.in_ok-new_round.ensures.ok c.in-Joined.is c.in_ok-records.ensures.run
+    (λ done behind.
+    reported-joined c.args.core c.new_round.new.self c.in-Joined.met c.args.plan.now c.in_ok-records.field-0 done.report done.core c.in_ok-new_round.ensures.ok c.in-Joined.is c.in_ok-records.ensures.run
     c.requires.told (search arith) behind)
     c.reopened.ensures
 
 pub returns-in-Crashed : goal.returns-in-Crashed
 returns-in-Crashed g c =
     IfOk-weaker c.recovered.result _ _
-    (λ crowd behind.
-    reported-crash c.args.core c.new_round.new.self c.args.plan.now c.in_ok-records.field-0 c.in-Crashed.image crowd.report crowd.core c.in_ok-new_round.ensures.ok c.in-Crashed.is c.in_ok-records.ensures.run
+    (λ done behind.
+    reported-crash c.args.core c.new_round.new.self c.args.plan.now c.in_ok-records.field-0 c.in-Crashed.image done.report done.core c.in_ok-new_round.ensures.ok c.in-Crashed.is c.in_ok-records.ensures.run
     c.requires.told (search arith) behind)
     c.recovered.ensures

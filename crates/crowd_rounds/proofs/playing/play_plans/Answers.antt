@@ -1,9 +1,10 @@
-use Rattle.std.proofs.Common.{◌≡◌, ℕ, ◌+◌, ◌/◌, ◌≤◌, List, [], ◌∷◌, sym, ap, subst, arith}
+use Rattle.std.proofs.Common.{◌≡◌, ℕ, ◌+◌, ◌/◌, ◌<◌, ◌≤◌, List, [], ◌∷◌, sym, ap, subst, arith}
 use Rattle.std.proofs.lemmas.Result.{IfOk-weaker}
 use Rattle.std.specs.Prelude.{All}
 use Rattle.std.specs.FinMap.{empty, len, len-empty}
 use Rattle.cat_key.specs.Names.{name_cmp}
 use Rattle.cat_history.specs.Maps.{Map}
+use Rattle.cat_history.specs.declared.op.CallerOp.{CallerOp}
 use Rattle.cat_history.specs.declared.plan.RoundPlan.{RoundPlan}
 use Rattle.cat_text.specs.declared.report.RoundReport.{RoundReport}
 use Rattle.pm_words.specs.declared.layout.Layout.{Layout}
@@ -20,11 +21,19 @@ use Rattle.crowd_rounds.specs.Segments.{HasBudgets}
 use Rattle.crowd_rounds.proofs.Working.{from-one}
 use Rattle.crowd_rounds.proofs.playing.play_plans.Goals as goal
 
--- there are more generations than rounds
-pub play_rounds-requires-clause-generations : goal.play_rounds-requires-clause-generations
-play_rounds-requires-clause-generations g c κs within =
+-- there are more generations than rounds, and the core has the callers of the layout
+pub play_rounds-requires-clause-playable : goal.play_rounds-requires-clause-playable
+play_rounds-requires-clause-playable g c κs within =
     let few = restarts_few c.args.plans.now in
-    subst (λ (n : ℕ). IsGeneration (n + restarts c.args.plans.now)) (sym c.in_ok-core.ensures.generation) (record { least = omega arith; fits = omega (arith, few, c.requires.rounds) })
+    let layout = sym c.in_ok-core.ensures.opened.layout in
+    record {
+      generations = subst (λ (n : ℕ). IsGeneration (n + restarts c.args.plans.now)) (sym c.in_ok-core.ensures.generation) (record { least = omega arith; fits = omega (arith, few, c.requires.rounds) });
+      callers = subst (λ (l : Layout). All (λ (plan : RoundPlan). All (λ (a : CallerOp). a.caller < l.callers) plan.ops) c.args.plans.now) layout c.requires.callers;
+      told = c.requires.told;
+      limits = c.requires.limits;
+      budgets = subst (λ (l : Layout). All (HasBudgets l.callers) c.args.plans.now) layout c.requires.budgets;
+      calls = c.requires.calls;
+    }
 
 -- what is played on the core of a fresh image is played from an empty catalogue
 from-empty : (l : Layout) (s : Index) (plans : List RoundPlan) (reports : List RoundReport) (end : Map) (shape : Anchors) → s.layout ≡ l → map_of_index s ≡ empty → anchors_in (world s) ≡ [] ∷ [] →
@@ -51,7 +60,3 @@ returns-clause-works g c =
     let fresh = c.in_ok-core.ensures in
     IfOk-weaker c.play_rounds.result _ _
     (λ done works. from-one _ c.args.layout.now c.in_ok-core.core c.args.plans.now done.report fresh.opened fresh.opened.layout fresh.anchors fresh.weighs works) c.play_rounds.ensures.works
-
-pub play_rounds-requires-clause-budgets : goal.play_rounds-requires-clause-budgets
-play_rounds-requires-clause-budgets g c κs within =
-    subst (λ (l : Layout). All (HasBudgets l.callers) c.args.plans.now) (sym c.in_ok-core.ensures.opened.layout) c.requires.budgets

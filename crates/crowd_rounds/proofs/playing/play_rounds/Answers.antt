@@ -17,7 +17,7 @@ use Rattle.crowd_rounds.proofs.playing.play_rounds.Goals as goal
 pub play_lone-requires-clause-playable : goal.play_lone-requires-clause-playable
 play_lone-requires-clause-playable g c =
     let plain = (joined_lone_have_no_restart c.args.plans.now).1 (sym c.restarts.ensures ∙ c.if-restarts-eq0.true) in
-    record { lone = plain.0; joined = plain.1; callers = c.requires.callers; told = c.requires.told; calls = c.requires.calls }
+    record { lone = plain.0; joined = plain.1; callers = c.requires.playable.callers; told = c.requires.playable.told; calls = c.requires.playable.calls }
 
 pub returns-then-restarts-eq0-clause-report : goal.returns-then-restarts-eq0-clause-report
 returns-then-restarts-eq0-clause-report g c = subst (All IsReportRound) (sym c.of.ensures) c.in_ok-reports.ensures.leaves.told
