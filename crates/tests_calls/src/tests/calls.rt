@@ -8,7 +8,7 @@ ghost use Rattle.node_ops.specs.CallStages.{SoundAfter};
 
 use super::rows::{
     A, C, D, FLOOR, FORM_4, FREE, G, LEAF, LIVE, P, READY, ROW, RUN, Row, cell_at, leaf_at,
-    may_tell, node_at, root_at, view, volatile_at, word_of,
+    may_tell, root_at, view, word_of,
 };
 use call_stages::{Once, Placed};
 use cat_key::Name;
@@ -321,23 +321,6 @@ fn a_put_without_a_line_is_to_be_made_again(rt: HostRuntime) -> Result<(), Fail>
     Ok(())
 }
 
-fn calls_on_many_slots() -> [(Ask, Once<Placed>, u64); 3] {
-    [
-        (put(b'a', 1), done(None, 0), FLOOR + 73),
-        (get(b'a'), done(Some(1), 1), FLOOR + 21),
-        (del(b'a'), done(Some(1), 1), FLOOR + 41),
-    ]
-}
-
-#[test]
-fn sixty_four_slots_take_no_longer(rt: HostRuntime) -> Result<(), Fail> {
-    let layout = Layout::new(1, 64, 1)?;
-    let mut row = Row::new(layout, vec![in rt.alloc(); 0u64; ROW]?);
-    row.live(&rt, 0, 0);
-    see_calls(&rt, &mut row, &calls_on_many_slots());
-    Ok(())
-}
-
 /// A walk ends at a version word that is locked, behind the loads of the floor.
 fn calls_where_locked(word: u64) -> [(Ask, Once<Placed>, u64); 3] {
     let locked = Once::Again(Again::Locked { node: 0, word });
@@ -462,62 +445,5 @@ fn walks_begin_at_the_floor(rt: HostRuntime) -> Result<(), Fail> {
         lead(&rt, &mut row, number, letter, to);
     }
     see_calls(&rt, &mut row, &calls_by_floors());
-    Ok(())
-}
-
-/// The loads of a get from node 0, which has the name in its first slot: the floor, the walk, the clock, and the words
-/// of the node, its version word the first and the last of them.
-fn loads_of_get(rt: &impl Abort, layout: &Layout) -> [u64; 26]
-    requires { IsLayout layout.now }
-{
-    let at = |offset: u64| node_at(rt, layout, 0, offset);
-    let leaf = |offset: u64| leaf_at(rt, layout, 0, offset);
-    [
-        root_at(layout),
-        leaf(leaf::KEY),
-        leaf(leaf::KEY + 1),
-        leaf(leaf::KEY + 2),
-        leaf(leaf::NODE),
-        at(node::VERSION),
-        volatile_at(rt, layout, 0, volatile::STATUS),
-        at(node::ANCHOR),
-        at(node::ANCHOR + 1),
-        at(node::ANCHOR + 2),
-        at(node::NEXT),
-        0,
-        at(node::BITMAP),
-        at(node::PRINTS),
-        at(node::PRINTS + 1),
-        at(node::PRINTS + 2),
-        at(node::PRINTS + 3),
-        at(node::PRINTS + 4),
-        at(node::PRINTS + 5),
-        at(node::PRINTS + 6),
-        at(node::PRINTS + 7),
-        at(node::SLOTS),
-        at(node::SLOTS + 1),
-        at(node::SLOTS + 2),
-        at(node::SLOTS + 3),
-        at(node::VERSION),
-    ]
-}
-
-/// A get loads the version word before all that it relies on, the clock before the words that it reads, and the version
-/// word again at its end. It makes no other actions than these loads.
-fn see_loads(rt: &impl Abort, row: &mut Row) {
-    let is_put = is_answered(rt, row, put(b'a', 1), done(None, 0), FLOOR + 73);
-    row.note_loads();
-    let is_told = is_answered(rt, row, get(b'a'), done(Some(1), 1), 26);
-    assert!(rt; is_put && is_told);
-    let loads = loads_of_get(rt, &row.layout);
-    assert_eq!(rt; row.other_address(&loads), loads.len());
-}
-
-#[test]
-fn a_get_reads_between_two_loads_of_the_version(rt: HostRuntime) -> Result<(), Fail> {
-    let layout = Layout::new(1, 4, 1)?;
-    let mut row = Row::new(layout, vec![in rt.alloc(); 0u64; ROW]?);
-    row.live(&rt, 0, 0);
-    see_loads(&rt, &mut row);
     Ok(())
 }

@@ -49,8 +49,7 @@ pub(crate) const P: u64 = 0x70 << 56;
 /// An address, and the word that is stored there.
 pub(crate) type Stored = (u64, u64);
 
-/// The words of a row, how many actions were done on it, and the first words that were stored, exchanged or counted;
-/// the loaded ones too, where those are noted.
+/// The words of a row, how many actions were done on it, and the first words that were stored, exchanged or counted.
 #[derive(Drop)]
 pub(crate) struct Row {
     pub(crate) layout: Layout,
@@ -58,7 +57,6 @@ pub(crate) struct Row {
     pub(crate) actions: u64,
     pub(crate) stores: [Stored; STORES],
     pub(crate) stored: usize,
-    notes_loads: bool,
     ghost in_range: { IsLayout layout },
 }
 
@@ -86,7 +84,6 @@ impl Row {
             actions: 0,
             stores: [(0, 0); STORES],
             stored: 0,
-            notes_loads: false,
         };
         row.begin_with(layout.cached(ROOT), LEAF);
         row.begin_with(layout.cached(layout.leaf_word(0, leaf::NODE)), 1);
@@ -110,13 +107,6 @@ impl Row {
         self.actions = 0;
         self.stores = [(0, 0); STORES];
         self.stored = 0;
-    }
-
-    /// Loads are noted from now on.
-    pub(crate) fn note_loads(&mut self)
-        ensures { self.new.layout ≡ self.old.layout }
-    {
-        self.notes_loads = true;
     }
 
     /// The word at this address.
@@ -172,24 +162,13 @@ impl Row {
         self.put(rt, address, word);
     }
 
-    /// The word here is loaded by an action.
-    fn load(&mut self, rt: &impl Abort, address: u64) -> u64
-        ensures { self.new.layout ≡ self.old.layout }
-    {
-        let found = self.word(rt, address);
-        if self.notes_loads {
-            self.note(address, found);
-        }
-        found
-    }
-
     /// Does an action, and tells what it gives.
     pub(crate) fn act(&mut self, rt: &impl Abort, action: Action) -> u64
         ensures { self.new.layout ≡ self.old.layout }
     {
         self.actions = self.actions.wrapping_add(1);
         match action {
-            Action::Load(address) => self.load(rt, address),
+            Action::Load(address) => self.word(rt, address),
             Action::Store(address, word) => {
                 self.store(rt, address, word);
                 0
