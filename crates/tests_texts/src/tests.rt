@@ -2,6 +2,5 @@
 
 mod outside;
 mod readings;
-mod reports;
 mod saving;
 mod scripts;

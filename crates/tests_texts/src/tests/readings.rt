@@ -24,7 +24,7 @@ fn first_other(alloc: Global, rows: &[(&str, u64)]) -> Option<usize> {
         .position(|(text, line)| line_told(alloc, text) != Some(*line))
 }
 
-/// Each form of a report is read.
+/// Each form of a report is read, and printed as it was.
 #[test]
 fn reports_are_read(rt: HostRuntime) -> Result<(), Fail> {
     let rows = [
