@@ -3,7 +3,8 @@
 ghost use Rattle.std.specs.Prelude.{◌≡◌};
 ghost use Rattle.pm_words.specs.Layouts.{IsLayout};
 ghost use Rattle.pm_words.specs.Turns.{GoesBelow};
-ghost use Rattle.node_ops.specs.RunningSteps.{IsRunning, Sound, running_leads, running_left};
+ghost use Rattle.node_ops.specs.RunningSteps.{IsRunning, Sound, running_asks, running_leads, running_left};
+ghost use Rattle.node_ops.specs.RunningSteps.{running_takes, running_turned};
 ghost use Rattle.node_ops.specs.CallStages.{SoundAfter};
 
 use super::rows::{
@@ -14,7 +15,7 @@ use call_stages::{Once, Placed};
 use cat_key::Name;
 use node_ops::{Del, Get, Put, Running};
 use pm_words::offsets::{leaf, node, volatile};
-use pm_words::{Again, Layout, Machine, Turn};
+use pm_words::{Action, Again, Layout, Machine, Turn};
 use split_merge::{MergeAt, SplitAt};
 use std::process::Abort;
 use std::test::Fail;
@@ -40,18 +41,54 @@ fn see_next(rt: &impl Abort, call: &Running, got: u64)
     }
 }
 
-/// Makes a turn of a call.
+/// The action that a call's own machine asks for.
+fn own_action(call: &Running) -> Action
+    requires { IsRunning call.now }
+    ensures { result ≡ running_asks call.now }
+{
+    match call {
+        Running::Getting(get) => get.action(),
+        Running::Putting(put) => put.action(),
+        Running::Deleting(del) => del.action(),
+        Running::Parting(part) => part.action(),
+    }
+}
+
+/// A turn of a call's own machine, as the call's. A part's answers what it lists, so a part is told as a call.
+fn own_turn(call: Running, got: u64) -> Turn<Running, Once<Placed>>
+    requires { running_takes call got }
+    ensures turned { result ≡ running_turned call got }
+    ensures fewer { GoesBelow running_left (running_left call) result }
+{
+    match call {
+        Running::Getting(get) => match get.resume(got) {
+            Turn::Go(next) => Turn::Go(Running::Getting(next)),
+            Turn::Done(answer) => Turn::Done(answer),
+        },
+        Running::Putting(put) => match put.resume(got) {
+            Turn::Go(next) => Turn::Go(Running::Putting(next)),
+            Turn::Done(answer) => Turn::Done(answer),
+        },
+        Running::Deleting(del) => match del.resume(got) {
+            Turn::Go(next) => Turn::Go(Running::Deleting(next)),
+            Turn::Done(answer) => Turn::Done(answer),
+        },
+        Running::Parting(_) => call.resume(got),
+    }
+}
+
+/// Makes a turn of a call, by its own machine.
 pub(crate) fn turned(rt: &impl Abort, row: &mut Row, call: Running) -> Turn<Running, Once<Placed>>
     requires { Sound row.old.layout RUN call }
     ensures layout { row.new.layout ≡ row.old.layout }
     ensures sound { SoundAfter row.old.layout RUN result }
     ensures fewer { GoesBelow running_left (running_left call) result }
 {
-    let action = call.action();
+    let action = own_action(&call);
     let got = row.act(rt, action);
     may_tell(rt, &row.layout, action, got);
     see_next(rt, &call, got);
-    call.resume(got)
+    own_turn(call, got)
 }
 
 /// Runs a call to its answer.
