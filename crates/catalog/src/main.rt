@@ -3,7 +3,7 @@
 
 use cat_text::Counted;
 use catalog_cli::{Status, catalog};
-use pac_index::Gate;
+use pac_index::OpenGate;
 use std::process::ExitCode;
 use std::rt::Env;
 use std::{env, io};
@@ -23,15 +23,6 @@ const FORMS: &str = "\
     from run to run";
 
 const VERSION: &str = "catalog 0.1.0";
-
-/// A gate that holds no caller.
-struct OpenGate;
-
-impl Gate for OpenGate {
-    fn before(&self, _caller: u64, _index: u64) {}
-
-    fn within(&self, _caller: u64, _step: u64) {}
-}
 
 /// Answers `--help` and `--version`, and hands every other command on.
 fn main(rt: HostRuntime) -> ExitCode {

@@ -2,10 +2,9 @@
 #![tactic(auto)]
 
 mod beside;
-mod open;
 mod turns;
 mod waits;
 
 pub use beside::Beside;
-pub use open::OpenGate;
+pub use pac_index::OpenGate;
 pub use turns::Turns;
