@@ -1,5 +1,5 @@
-//! Tests of callers on threads of their own, all of whose replies are compared with the history that `close` gives, and
-//! of pins and release numbers.
+//! Tests of the calls of callers on threads, made by one of them, of turns and epochs, and of pins and release numbers on
+//! threads. What callers on threads are answered beside each other is looked at by rounds (`tools/check-rounds`).
 #![tactic(auto)]
 
 #[cfg(test)]

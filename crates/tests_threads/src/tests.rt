@@ -1,10 +1,8 @@
 //! The tests, by what they are of.
 
 mod alone;
-mod histories;
-mod meeting;
-mod playing;
+mod fresh;
+mod gates;
 mod releases;
-mod telling;
 mod turns;
 mod watch;

@@ -4,8 +4,7 @@ ghost use Rattle.std.specs.Prelude.{◌≡◌, ◌<◌};
 ghost use Rattle.pm_words.specs.Layouts.{IsLayout};
 ghost use Rattle.pac_index.specs.Callers.{MayCall, StaysCaller};
 
-use super::meeting::{fresh, take_last};
-use super::playing::LIMIT;
+use super::fresh::{LIMIT, fresh, take_last};
 use call_stages::{Once, Placed};
 use cat_history::ScanPart;
 use cat_key::Name;

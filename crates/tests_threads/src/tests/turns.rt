@@ -2,7 +2,7 @@
 
 ghost use Rattle.pm_words.specs.Layouts.{IsLayout};
 
-use super::meeting::{fresh, take_last};
+use super::fresh::{fresh, take_last};
 use epochs::Advance;
 use pac_index::{Shared, TriedTurn};
 use pm_words::{Layout, NoMemory};

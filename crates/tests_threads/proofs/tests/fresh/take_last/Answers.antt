@@ -1,5 +1,5 @@
 use Rattle.pac_index.proofs.Handing.{popped}
-use Rattle.tests_threads.proofs.tests.meeting.take_last.Goals as goal
+use Rattle.tests_threads.proofs.tests.fresh.take_last.Goals as goal
 
 pub returns-clause-caller : goal.returns-clause-caller
 returns-clause-caller c =
