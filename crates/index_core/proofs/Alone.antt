@@ -37,6 +37,7 @@ use Rattle.index_law.proofs.Starts.{listed_within}
 use Rattle.lone_hops_law.specs.lone_call_law.specs.LoneCalls.{FindsFull, NeedsLine, FindsWorn, IsLate, IsAnswered}
 use Rattle.lone_hops_law.specs.lone_call_law.specs.Splitting.{HasFree, LacksFree, LacksLine}
 use Rattle.lone_hops_law.specs.lone_call_law.specs.Tries.{IsHalvedSince}
+use Rattle.lone_hops_law.specs.lone_call_law.specs.Locks.{locks_of}
 use Rattle.lone_hops_law.specs.lone_call_law.specs.Rooms.{target_node, target_names}
 use Rattle.lone_hops_law.specs.lone_call_law.specs.Merging.{FindsMerge, HasKeptList, IsMergedSince, LeavesShape}
 use Rattle.lone_hops_law.specs.lone_call_law.specs.Merging.{NextIsWorn, next_node}
@@ -48,13 +49,14 @@ use Rattle.index_core.specs.declared.party.CoreCall.{CoreCall}
 use Rattle.index_core.specs.declared.party.CoreCall.TheVariants as call
 use Rattle.index_core.specs.declared.party.Whole.{Whole}
 use Rattle.index_core.specs.declared.party.Whole.TheVariants as whole
-use Rattle.index_core.specs.CoreCalls.{op_of, limit_of, count_of}
+use Rattle.index_core.specs.CoreCalls.{IsGetCall, op_of, limit_of, count_of}
 use Rattle.index_core.specs.PartyStates.{party_of, state_counted}
-use Rattle.index_core.specs.Indexes.{Index, world, map_of_index, IsIndex}
+use Rattle.index_core.specs.Indexes.{Index, KeepsWords, world, map_of_index, IsIndex}
 use Rattle.index_core.specs.Lone.{HasNoCalls, IsQuiet, IsStill, SortsIfStale, FindsNoRoom, HasSameList, SplitsFor}
 use Rattle.index_core.specs.Lone.{SplitsNothing, MergesFor, MergesNothing, LeavesList, TakesLocks, LoseAtMost}
 use Rattle.index_core.specs.Lone.{TakesEachLock, names_beside, locks_left, IsWholeAnswer, TriesAlone, RunsAlone}
 use Rattle.index_core.specs.Lone.{CountsCall, ComesFree, KeepsStamps, IsMadeAgain, NeedsNoTurn, LandsIn, HasShortWays}
+use Rattle.index_core.specs.Lone.{OnlyReads}
 use Rattle.index_core.specs.Lone.{HopsAreFew, WalksShort, LeavesLog, most_tries, alone_writes, lacks_line, lacks_node}
 use Rattle.index_core.specs.Lone.{needs_split, node_for, part_whole, taken_nodes, whole_of, state_tried, state_done}
 use Rattle.index_core.specs.Weights.{weight_of, added_by, added_if, added_whole}
@@ -140,6 +142,7 @@ pub record Ran (s0 s : Index) (i : ℕ) (c : CoreCall) (answer : Once Placed) (t
   pub cause : IsWholeAnswer tries s0 i c s (whole_of answer)
   pub history : s.history ≡ s0.history ++ alone_writes i state.index c (whole_of answer)
   pub states : s.states ≡ slice_set s0.states i (state_tried state (length s0.history) answer)
+  pub reads : IsGetCall c → KeepsWords s0 s
   pub layout : s.layout ≡ s0.layout
   pub generation : s.generation ≡ s0.generation
   pub base : s.base ≡ s0.base
@@ -192,6 +195,20 @@ few_then s0 s states (call.Part low count) hops few = few
 few_then s0 s states (call.Recheck node version) hops few = few
 few_then s0 s states (call.Turn stamp release) hops few = few
 
+-- where no word changes, no node is locked
+only_reads : (s0 s : Index) → s.layout ≡ s0.layout → s.generation ≡ s0.generation → KeepsWords s0 s → OnlyReads s0 s
+only_reads s0 s layout generation words =
+    record { words = words; locks = λ n k. locks_of (generation k) (version_in (layout k) (words k) n) }
+
+-- nor is a get made again
+pub gets_once : (i : ℕ) (s : Index) (c : CoreCall) → IsGetCall c → IsMadeAgain i c s → ⊥
+gets_once i s (call.Get name) get again = again
+gets_once i s (call.Put name value limit) get again = get
+gets_once i s (call.Del name limit) get again = get
+gets_once i s (call.Part low count) get again = get
+gets_once i s (call.Recheck node version) get again = get
+gets_once i s (call.Turn stamp release) get again = get
+
 -- where its party is as a whole call leaves it
 counted_runs : (s0 s : Index) (i : ℕ) (c : CoreCall) (answer : Once Placed) (tries : ℕ) (ran : Ran s0 s i c answer tries) → tries ≤ most_tries c → (states : List PartyState) → states ≡ slice_set s0.states i (state_done ran.state (length s0.history))
     → ((placed : Placed) → answer ≡ once.Done placed → states ≡ s.states) → RunsAlone s0 i c (record s { states = states }) (whole_of answer)
@@ -202,6 +219,7 @@ counted_runs s0 s i c answer tries ran few states are kept = record {
   answer = same_cause answer refl ran.cause;
   history = ran.history;
   states = are;
+  reads = λ get. only_reads s0 (record s { states = states }) ran.layout ran.generation (ran.reads get);
   layout = ran.layout;
   generation = ran.generation;
   base = ran.base;
@@ -497,6 +515,7 @@ module _ (s0 s : Index) (i : ℕ) (c : CoreCall) (is0 : IsIndex s0) (still0 : Is
         cause = end.cause;
         history = end.history;
         states = t.states;
+        reads = t.reads;
         layout = t.layout;
         generation = t.generation;
         base = t.base;
@@ -740,6 +759,7 @@ module _ (s0 s1 s : Index) (i : ℕ) (c : CoreCall) (is0 : IsIndex s0) (still0 :
             ∙ set_twice s0.states i tried (state_tried tried (length s1.history) answer)
             ∙ ap (slice_set s0.states i) (keeps_index first again t.state)
             ∙ ap (λ (n : ℕ). slice_set s0.states i (state_tried t.state n answer)) (ap length cut.history);
+        reads = λ get. absurd (gets_once i s0 c get (full_again_if s0 i c rest_before cut.full));
         layout = u.layout ∙ t.layout;
         generation = u.generation ∙ t.generation;
         base = u.base ∙ t.base;
@@ -806,6 +826,7 @@ module _ (s0 s : Index) (i : ℕ) (low : List ℕ) (count : ℕ) (is0 : IsIndex 
         answer = (t.answered.0.0, whole_part s0 s reading low count words is0 still0.calls t.base history kept.0 t.named node t.answered.2 t.answered.3 t.answered.1 is sorts);
         history = t.answered.4;
         states = t.states;
+        reads = λ get. absurd get;
         layout = t.layout;
         generation = t.generation;
         base = t.base;

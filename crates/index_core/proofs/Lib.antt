@@ -12,6 +12,7 @@ pub mod LoneRechecks
 pub mod PartFacts
 pub mod Ranges
 pub mod Freeing
+pub mod GetLoads
 pub mod Stepping
 pub mod Reading
 pub mod Crashing

@@ -48,6 +48,7 @@ use Rattle.index_core.specs.MachineLaws.{IdleWeigh, shows, put_shows, showing, s
 use Rattle.index_core.proofs.Shown.{new_if, told_new, step_shows, adds_shows}
 use Rattle.index_core.proofs.Answering.{says_of}
 use Rattle.index_core.proofs.Epochless.{step_is_no_epoch}
+use Rattle.index_core.proofs.GetLoads.{get_keeps_words}
 use Rattle.index_core.proofs.Lists.{map_from, map_there, map_set, set_twice}
 use Rattle.index_law.proofs.Footed.{rest_footed}
 use Rattle.index_core.proofs.Footings.{line_of, debt_of, free_states, may_do_names}
@@ -122,6 +123,7 @@ machine_law s i e m is there flies =
       can = step.can;
       takes = step.takes;
       kept = step.kept s.spare;
+      reads = get_keeps_words s i e m s.spare step.fits;
       counts = step.counts;
       lists = step.lists;
       says = says_of s.layout s.generation (facts (world new)) e m (told s m) of step.fits step.owns (step.legal s.spare);

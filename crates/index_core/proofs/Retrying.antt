@@ -62,7 +62,7 @@ use Rattle.index_core.specs.Turns.{TurnsAlone}
 use Rattle.index_core.specs.Weights.{weight_of, added_by}
 use Rattle.cat_history.specs.declared.op.NameOp.{NameOp}
 use Rattle.index_core.proofs.WornNodes.{worn_found, worn_target}
-use Rattle.index_core.proofs.Alone.{IsSwept, Ran, answered_then, full_again_if, late_was, on_name, one_try, two_tries}
+use Rattle.index_core.proofs.Alone.{IsSwept, Ran, answered_then, full_again_if, gets_once, late_was, on_name, one_try, two_tries}
 use Rattle.index_core.proofs.Lists.{set_twice}
 use Rattle.index_core.proofs.SplitAnswers.{lacks_told, split_told}
 use Rattle.index_core.proofs.Quiet.{quiet_is_still, rests, can_walk}
@@ -566,6 +566,7 @@ module _ (s0 s s' : Index) (i : ℕ) (c : CoreCall) (before tries : ℕ) (answer
         states = ran.states ∙ o.states (state_tried ran.state (length s.history) answer)
             ∙ ap (λ (d : PartyState). slice_set s0.states i (state_tried d (length s.history) answer)) same
             ∙ ap (slice_set s0.states i) (o.is_now (length s.history) answer ∙ ap (λ (n : ℕ). state_tried o.state n answer) (ap length o.history));
+        reads = λ get. absurd (gets_once i s0 c get o.waits.again);
         layout = ran.layout ∙ o.layout;
         generation = ran.generation ∙ o.generation;
         base = ran.base ∙ o.base;

@@ -40,15 +40,16 @@ use Rattle.lone_hops_law.specs.lone_call_law.proofs.LoneCalls.{lone_calls_lose}
 use Rattle.index_core.specs.declared.party.PartyState.{PartyState}
 use Rattle.index_core.specs.declared.party.CoreCall.{CoreCall}
 use Rattle.index_core.specs.declared.party.CoreCall.TheVariants as call
-use Rattle.index_core.specs.CoreCalls.{machine_of, op_of, limit_of, count_of, most_writes}
+use Rattle.index_core.specs.CoreCalls.{IsGetCall, machine_of, op_of, limit_of, count_of, most_writes}
 use Rattle.index_core.specs.PartyStates.{party_of, machine_footing, state_with, state_after, machine_owes, owed}
-use Rattle.index_core.specs.Indexes.{Index, room_of, layered, world, IsIndex, IsInFlight, view_of, Starts}
+use Rattle.index_core.specs.Indexes.{Index, room_of, layered, world, IsIndex, IsInFlight, KeepsWords, view_of, Starts}
 use Rattle.index_core.specs.Indexes.{started_index, told, stepped_index}
 use Rattle.index_core.specs.Bursts.{TurnsOn}
 use Rattle.index_core.specs.Lone.{HasNoCalls, IsQuiet, IsStill, TriesAlone, locks_left, LoseAtMost}
 use Rattle.index_core.specs.MachineLaws.{MachineLaw, showing, showing_after}
 use Rattle.index_core.specs.Weights.{weight_of, added_by}
 use Rattle.index_core.proofs.Bounds.{bounded_small}
+use Rattle.index_core.proofs.GetLoads.{call_is_get, get_keeps_words}
 use Rattle.index_core.proofs.Lists.{map_there, map_set, set_twice, owed-set, quiet-owed}
 use Rattle.index_core.proofs.Quiet.{none_then, quiet_then, rests, still_then, walks_come}
 use Rattle.index_law.specs.Laws.{IsAtRest}
@@ -96,6 +97,7 @@ pub record Lone (s0 s : Index) (i : ℕ) (c : CoreCall) : Type 0 where
   pub log : LogStands start.state.caller (world s0) (world s) (footing_of machine)
   pub nodes : NodesStand (world s0) (world s) (stage_of machine)
   pub same_base : s.base ≡ s0.base
+  pub reads : IsGetCall c → KeepsWords s0 s
   pub stamps : stamp_in (world s) ≡ stamp_in (world s0)
   pub weighs : weight_sum (world s) ≤ weight_of s0 + showing (Some machine)
   pub room : length s0.history + s0.spare ≤ room_of s
@@ -220,6 +222,7 @@ lone_start s0 s i c is0 still t spare is =
       log = begun_log s0 i t.state c s.spare;
       nodes = begun_nodes s0 i t.state c s.spare;
       same_base = refl;
+      reads = λ get. refl;
       stamps = refl;
       weighs = omega arith;
       room = room;
@@ -284,6 +287,13 @@ module _ (s0 s s' : Index) (i : ℕ) (c : CoreCall) (result : Option (Once Place
 
   pub turn_told : result ≡ reply_of (running_turned o.machine x)
   turn_told = t.answers ∙ ap (λ (m : Running). reply_of (running_turned m (told s m))) turn_machine
+
+  -- one of a get has changed no word
+  same_words : IsGetCall c → KeepsWords s0 s'
+  same_words get =
+      ap (λ (v : Index). v.words) is
+      ∙ get_keeps_words s i e o.machine s'.spare o.call.sound.here (call_is_get c o.machine get o.call.of o.count)
+      ∙ o.reads get
 
   law : MachineLaw s i e o.machine
   law = machine_law s i e o.machine o.index at_i refl
@@ -389,6 +399,7 @@ module _ (s0 s s' : Index) (i : ℕ) (c : CoreCall) (result : Option (Once Place
           log = log_on next go.1 call_on;
           nodes = nodes_on next go.1;
           same_base = ap (λ (v : Index). v.base) is ∙ o.same_base;
+          reads = same_words;
           stamps = same_stamps;
           weighs = omega arith;
           room = omega (arith, t.room);
@@ -515,6 +526,7 @@ module _ (s0 s s' : Index) (i : ℕ) (c : CoreCall) (result : Option (Once Place
       layout = same_layout;
       generation = same_generation;
       base = ap (λ (v : Index). v.base) is ∙ o.same_base;
+      reads = same_words;
       stamps = same_stamps;
       layer = subst (KeepsLayer (world s0)) (sym (ap world is)) ended_log.0;
       lines = subst (λ (w : World). LeavesLines (name_asked (op_of c)) o.start.state.caller (world s0) w answer) (sym (ap world is)) (lines_of_party answer ended_log.1);

@@ -65,6 +65,11 @@ MayBegin (call.Part low count) = Unit {0}
 MayBegin (call.Recheck node version) = ⊥
 MayBegin (call.Turn stamp release) = ⊥
 
+-- It is a get.
+abbrev pub IsGetCall : CoreCall → Type 0
+IsGetCall (call.Get name) = Unit {0}
+IsGetCall _ = ⊥
+
 -- It is a turn of the updater, of whose stamp and release this holds.
 abbrev pub IsTurnAnd : CoreCall → (ℕ → ℕ → Type 0) → Type 0
 IsTurnAnd (call.Put name value limit) P = ⊥

@@ -17,6 +17,7 @@ use Rattle.call_stages.specs.Stages.{placed_in}
 use Rattle.call_stages.specs.AnySteps.{AnyStep}
 use Rattle.call_stages.specs.declared.view.View.{View}
 use Rattle.node_ops.specs.declared.running.Running.{Running}
+use Rattle.node_ops.specs.declared.running.Running.TheVariants.{Getting}
 use Rattle.pm_words.specs.declared.machine.Turn.{Turn}
 use Rattle.pm_words.specs.declared.machine.Turn.TheVariants.{Go, Done}
 use Rattle.pm_words.specs.Turns.{GoesBelow}
@@ -214,6 +215,15 @@ abbrev pub MakesCall : Call → Turn Running (Once Placed) → Type 0
 MakesCall c (Go machine) = IsSame c (running_call machine)
 MakesCall c (Done answer) = Unit {0}
 
+-- What is in flight is a get.
+abbrev pub IsGetting : Running → Type 0
+IsGetting (Getting get) = Unit {0}
+IsGetting _ = ⊥
+
+-- Each word of the row is as it was.
+abbrev pub KeepsWords : Index → Index → Type 0
+KeepsWords old new = new.words ≡ old.words
+
 -- No node becomes FREE.
 abbrev pub FreesNone : Index → Index → Type 0
 FreesNone old new = (n : ℕ) → (facts (world new)).status n ≡ free_status → (facts (world old)).status n ≡ free_status
@@ -245,6 +255,7 @@ pub record TurnsTo (old : Index) (party : ℕ) (new : Index) (result : Option (O
   pub flies : state.machine ≡ Some machine
   pub is : new ≡ stepped_index old party state machine new.spare
   pub answers : result ≡ reply_of (running_turned machine (told old machine))
+  pub reads : IsGetting machine → KeepsWords old new  -- a get changes no word
   -- an answer is the map's, a write that took place stands in the history, and a refusal has its cause
   pub says : SaysOf new.layout.slots (map_of new.base) new.history state (op_in machine) (running_call machine).limit
       result

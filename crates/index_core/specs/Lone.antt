@@ -43,10 +43,10 @@ use Rattle.index_core.specs.declared.party.CoreCall.TheVariants as call
 use Rattle.index_core.specs.declared.party.PartyState.{PartyState}
 use Rattle.index_core.specs.declared.party.Whole.{Whole}
 use Rattle.index_core.specs.declared.party.Whole.TheVariants as whole
-use Rattle.index_core.specs.CoreCalls.{IsRecheckAnd, IsTurnAnd, MayBegin, op_of, limit_of, count_of}
+use Rattle.index_core.specs.CoreCalls.{IsGetCall, IsRecheckAnd, IsTurnAnd, MayBegin, op_of, limit_of, count_of}
 use Rattle.index_core.specs.Listings.{ListsRange}
 use Rattle.index_core.specs.PartyStates.{party_of, next_index, index_after, state_counted}
-use Rattle.index_core.specs.Indexes.{Index, IsIndex, map_of_index, world}
+use Rattle.index_core.specs.Indexes.{Index, IsIndex, KeepsWords, map_of_index, world}
 use Rattle.index_core.specs.Turns.{TurnsAlone}
 use Rattle.index_core.specs.Weights.{weight_of, added_by, added_whole}
 
@@ -228,6 +228,7 @@ pub record TriesAlone (old : Index) (caller : ℕ) (c : CoreCall) (new : Index) 
   pub named : IsName (name_asked (op_of c))
   pub answered : IsAnswered (world old) (op_of c) (limit_of c) (world new) (party_of state) answer
   pub states : new.states ≡ slice_set old.states caller (state_tried state (length old.history) answer)
+  pub reads : IsGetCall c → KeepsWords old new
   pub layout : new.layout ≡ old.layout
   pub generation : new.generation ≡ old.generation
   pub base : new.base ≡ old.base
@@ -333,6 +334,11 @@ abbrev pub TakesLocks : ℕ → CoreCall → Index → Index → Type 0
 TakesLocks caller c s new = (locks_left s ≤ locks_left new + 1) ⊎
     (IsMadeAgain caller c s × (locks_left s ≤ locks_left new + most_tries c))
 
+-- Each word is as it was, and each node can be locked as often.
+pub record OnlyReads (s new : Index) : Type 0 where
+  pub words : KeepsWords s new
+  pub locks : (n : ℕ) → node_locks new n ≡ node_locks s n
+
 -- The write that it placed, if it is one and took place.
 abbrev pub alone_writes : ℕ → ℕ → CoreCall → Whole → List Write
 alone_writes caller index c (whole.Placed placed) = written caller index (change_of (op_of c))
@@ -405,6 +411,7 @@ pub record RunsAlone (old : Index) (caller : ℕ) (c : CoreCall) (new : Index) (
   pub answer : IsWholeAnswer (most_tries c) old caller c new result
   pub history : new.history ≡ old.history ++ alone_writes caller state.index c result
   pub states : new.states ≡ slice_set old.states caller (state_done state (length old.history))
+  pub reads : IsGetCall c → OnlyReads old new
   pub layout : new.layout ≡ old.layout
   pub generation : new.generation ≡ old.generation
   pub base : new.base ≡ old.base

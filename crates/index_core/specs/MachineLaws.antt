@@ -35,7 +35,7 @@ use Rattle.index_core.specs.Heard.{HearsOn}
 use Rattle.index_core.specs.Listings.{ListsAt}
 use Rattle.index_core.specs.CoreCalls.{machine_of}
 use Rattle.index_core.specs.Indexes.{Index, IsIndex, MakesCall, view_of, started_index, stepped_index, told, world}
-use Rattle.index_core.specs.Indexes.{FreesNone, parties_of}
+use Rattle.index_core.specs.Indexes.{FreesNone, IsGetting, KeepsWords, parties_of}
 use Rattle.index_core.specs.Lone.{HasNoCalls, HasNoTurns}
 
 -- A machine is sound, and its next action names a place that an action may name, whatever the words are.
@@ -94,6 +94,8 @@ pub record MachineLaw (s : Index) (party : ℕ) (state : PartyState) (machine : 
   -- the action, done on its word, and the machine, told what the word gave, leave an index, longer by what the step
   -- counts
   pub kept : IsIndex (stepped_index s party state machine s.spare)
+  -- that of a get changes no word
+  pub reads : IsGetting machine → KeepsWords s (stepped_index s party state machine s.spare)
   -- it counts just where it adds to the clock, at the place that it is told
   pub counts : Counts s.layout (length s.history) (running_asks machine) (told s machine) (counted (stage_of machine))
   -- an answer is the map's at its place, or has its cause

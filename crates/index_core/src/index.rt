@@ -165,10 +165,10 @@ impl Core {
     /// Takes one step of the party's call, which is in flight: one action on one word, counted in `steps` as one event.
     /// Returns whether the call goes on or is answered. A call that took place is answered with the number of its name
     /// in the map at its place, which lies in the call's time, and its write stands in the history there. A part of a
-    /// scan that took place lists the names that the map at its place has up to where its node ends. A turn of the
-    /// updater leaves the map, the history and the list. A recheck changes nothing, and is answered `Same` exactly
-    /// where the node's version word, loaded after the clock, is the one that was handed in. Any other call is told its
-    /// cause, and a put or delete gives the room for its write back to `spare`.
+    /// scan that took place lists the names that the map at its place has up to where its node ends. A get changes no
+    /// word. A turn of the updater leaves the map, the history and the list. A recheck changes nothing, and is answered
+    /// `Same` exactly where the node's version word, loaded after the clock, is the one that was handed in. Any other
+    /// call is told its cause, and a put or delete gives the room for its write back to `spare`.
     pub fn step<L: Ledger>(&mut self, party: u64, steps: &mut Steps<L>) -> Stepped
         requires flies { IsBusy self.old party }
         ensures stepped { IsInFlight self.old party → StepsTo self.old party self.new result }

@@ -33,8 +33,8 @@ impl Core {
     /// the node are used up, else the clock has reached the limit, else there is no room for a new name, else it takes
     /// place. A put that finds its node full splits it, and is made again. A delete merges the node of its name with
     /// the next one where both together are left with at most half as many names as a node has slots. A part of a scan
-    /// lists the names of its low name's node from that one on. Of `spare` a call takes one at most, and only for a
-    /// write that it places.
+    /// lists the names of its low name's node from that one on. A get changes no word. Of `spare` a call takes one at
+    /// most, and only for a write that it places.
     ///
     /// Where the caller has no EMPTY log line, or no node is FREE, the updater's party makes a turn, which empties the
     /// log and frees merged nodes, and the call is made again. So it finds no room only where no turn could help.

@@ -22,9 +22,10 @@ use Rattle.index_core.specs.Heard.{HearsOn}
 use Rattle.index_core.specs.PartyStates.{state_after, owed}
 use Rattle.pm_words.specs.declared.action.Action.{Action}
 use Rattle.index_core.specs.Cores.{IsAdd, index_with}
-use Rattle.index_core.specs.Indexes.{Index, IsIndex, world, told, stepped_index, MakesCall, FreesNone}
+use Rattle.index_core.specs.Indexes.{Index, IsIndex, world, told, stepped_index, KeepsWords, MakesCall, FreesNone}
 use Rattle.index_core.proofs.Answering.{says_of}
 use Rattle.index_core.proofs.CoreBursts.{core_flies, core_within}
+use Rattle.index_core.proofs.GetLoads.{get_keeps_words}
 use Rattle.index_core.proofs.Lists.{read_is}
 use Rattle.index_core.proofs.PartyPlaces.{holds_in, told_of}
 use Rattle.index_core.proofs.Reading.{Reads, reads, Leaves, leaves}
@@ -154,6 +155,8 @@ returns-clause-turned g c =
       flies = flies.flies;
       is = left.same n ∙ ap (λ (v : Index). stepped_index v i e m n) c.self.view_is;
       answers = answers_at g c ∙ ap (λ (v : Index). reply_of (running_turned m (told v m))) c.self.view_is;
+      reads = λ getting. subst (λ (q : Index × Index). KeepsWords q.0 q.1) (λ k. (c.self.view_is k, sym (left.same n) k))
+          (get_keeps_words s i e m n at.facts.fits getting);
       says = subst (λ (r : Option (Once Placed)). SaysOf new.layout.slots (map_of new.base) new.history e (op_in m) (running_call m).limit r) (sym (answers_at g c))
           (subst (λ (v : Index). SaysOf v.layout.slots (map_of v.base) v.history e (op_in m) (running_call m).limit (reply_of (running_turned m (told s m)))) (sym (left.same n))
           (says_of s.layout s.generation (facts (world (stepped_index s i e m n))) e m (told s m) at.of at.sound.here at.facts.owns (at.facts.legal n)));
