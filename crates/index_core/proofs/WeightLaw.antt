@@ -343,4 +343,4 @@ weight_is_bounded first last begun calls index quiet run =
     let sum = after.sum in
     let puts : showing_sum last.states ≤ puts_in_flight last.states = sum_more (λ (e : PartyState). showing e.machine) (λ (e : PartyState). put_in e.machine) showing_puts last.states in
     let image = crash_light last after.index in
-    record { core = omega arith; image = omega arith }
+    record { core = omega arith; sum = omega arith; image = omega arith }

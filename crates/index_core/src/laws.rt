@@ -68,8 +68,8 @@ pub fn history_round_law()
 /// the slots for each GONE node.
 ///
 /// Along a schedule from an index with no call in flight, the weight is at most that of the first index, and one more
-/// for each put that was begun since then and added a name, or isn't answered. The image that a crash leaves weighs no
-/// more either.
+/// for each put that was begun since then and added a name, or isn't answered; so is it with what deletes and merges in
+/// flight have lowered it by. The image that a crash leaves weighs no more either.
 ///
 /// A whole put with no other call in flight, where a lock is left of each node, finds no room exactly where it is full
 /// in the shape: the map lacks its name, the target has as many names as a node has slots, and as many nodes are listed
