@@ -9,7 +9,7 @@ use Rattle.index_core.specs.declared.party.Within.{Within}
 use Rattle.index_core.specs.declared.party.Within.TheVariants as within
 use Rattle.index_core.specs.CoreCalls.{IfTurn, MayBegin}
 use Rattle.index_core.specs.Indexes.{Index}
-use Rattle.index_core.specs.Lone.{IsQuiet, IsStill}
+use Rattle.index_core.specs.Lone.{HasShortWays, IsQuiet, IsStill}
 use Rattle.index_core.specs.Turns.{IsTurnedAnd, TurnsAlone}
 use Rattle.index_core.specs.Withins.{ComesInTime, ComesTo, CutsOff, CutsTurnOff, EndsInTime, EndsWithin, RanAlone}
 use Rattle.index_core.proofs.Either.{IsNoTurn, no_turn}
@@ -58,13 +58,13 @@ recheck_ends answer result s0 s i node version d same is =
     of None = ((λ may. absurd (recheck_no_name d node version same may)), no_turn d _ (recheck_no_turn d node version same))
 
 -- what it finds in flight, and leaves
-pub stays_end : (answer : Option Turned) (result : Within) (s0 s : Index) (i before : ℕ) → 0 < before → IfSome answer (λ _. IsQuiet s0 × IsQuiet s) → (answer ≡ None → IsQuiet s0 → 0 < before → (party : ℕ) → party ≢ i → IsStill party s)
+pub stays_end : (answer : Option Turned) (result : Within) (s0 s : Index) (i before : ℕ) → 0 < before → IfSome answer (λ _. IsQuiet s0 × IsQuiet s) → IfSome answer (λ _. HasShortWays s) → (answer ≡ None → IsQuiet s0 → 0 < before → (party : ℕ) → party ≢ i → IsStill party s)
     → ComesTo answer (λ given. result ≡ within.Answered (whole.Turned given)) (result ≡ within.Cut)
-    → EndsWithin result (λ _. IsQuiet s0 × IsQuiet s) (IsQuiet s0 → (party : ℕ) → party ≢ i → IsStill party s) (s ≡ s0)
-stays_end (Some given) result s0 s i before some quiet stays is =
-    subst (λ (r : Within). EndsWithin r (λ _. IsQuiet s0 × IsQuiet s) (IsQuiet s0 → (party : ℕ) → party ≢ i → IsStill party s) (s ≡ s0)) (sym is) quiet
-stays_end None result s0 s i before some quiet stays is =
-    subst (λ (r : Within). EndsWithin r (λ _. IsQuiet s0 × IsQuiet s) (IsQuiet s0 → (party : ℕ) → party ≢ i → IsStill party s) (s ≡ s0)) (sym is) (λ was. stays refl was some)
+    → EndsWithin result (λ _. IsQuiet s0 × IsQuiet s × HasShortWays s) (IsQuiet s0 → (party : ℕ) → party ≢ i → IsStill party s) (s ≡ s0)
+stays_end (Some given) result s0 s i before some quiet short stays is =
+    subst (λ (r : Within). EndsWithin r (λ _. IsQuiet s0 × IsQuiet s × HasShortWays s) (IsQuiet s0 → (party : ℕ) → party ≢ i → IsStill party s) (s ≡ s0)) (sym is) (quiet.0, quiet.1, short)
+stays_end None result s0 s i before some quiet short stays is =
+    subst (λ (r : Within). EndsWithin r (λ _. IsQuiet s0 × IsQuiet s × HasShortWays s) (IsQuiet s0 → (party : ℕ) → party ≢ i → IsStill party s) (s ≡ s0)) (sym is) (λ was. stays refl was some)
 
 -- what is left of the budget
 pub spent_ends : (T : Type 0) (answer : Option T) (to : T → Whole) (result : Within) (before after : ℕ) → 0 < before → (answer ≡ None → after ≡ 0) → ComesTo answer (λ given. result ≡ within.Answered (to given)) (result ≡ within.Cut)

@@ -1,5 +1,5 @@
 -- A whole turn of the updater with nothing else in flight.
-use Rattle.std.proofs.Common.{◌+◌, ◌≡◌, ◌≢◌, ℕ, ◌/◌, ◌%◌, ◌<◌, ◌≤◌, ◌^◌, ◌⊎◌, inl, inr, ⊎_elim, cond, List, set, refl}
+use Rattle.std.proofs.Common.{◌+◌, ◌≡◌, ◌≢◌, ◌==◌, ℕ, ◌/◌, ◌%◌, ◌<◌, ◌≤◌, ◌^◌, ◌⊎◌, inl, inr, ⊎_elim, cond, List, set, refl}
 use Rattle.std.proofs.Common.{sym, ap, ◌∙◌, subst, arith}
 use Rattle.std.specs.Prelude.{Option, Some, None, true, false}
 use Rattle.std.proofs.lemmas.Bool.{cases_eq, ne_eqb}
@@ -37,7 +37,7 @@ use Rattle.index_image_law.specs.index_layer_law.specs.Layers.{Layered, IsLayere
 use Rattle.index_image_law.specs.index_layer_law.specs.Laws.{IsAtRest, LeavesNodes, turned}
 use Rattle.lone_hops_law.specs.lone_updater_law.specs.Laws.{LoneTurning, GoesOn}
 use Rattle.lone_hops_law.specs.lone_updater_law.specs.LoneTurns.{line_state, frees_node, status_then, AreEmptyOrReady}
-use Rattle.lone_hops_law.specs.lone_updater_law.specs.LoneTurns.{IsIdle, IsLoneTurn}
+use Rattle.lone_hops_law.specs.lone_updater_law.specs.LoneTurns.{IsIdle, IsLoneTurn, stamp_in}
 use Rattle.pm_words.specs.declared.layout.Layout.{Layout}
 use Rattle.pm_words.specs.Offsets.{state_offset}
 use Rattle.index_law.specs.Facts.{Facts}
@@ -58,6 +58,7 @@ use Rattle.index_core.proofs.Layering.{turn_of, rest_turns, at_rest}
 use Rattle.index_core.proofs.Lists.{map_there, set_twice}
 use Rattle.index_core.proofs.Quiet.{idle_lines, none_now, quiet_parties}
 use Rattle.index_core.proofs.MachineLaw.{none_weigh}
+use Rattle.index_core.proofs.Retrying.{stamped_are_gone}
 use Rattle.index_core.proofs.Turning.{layered_is, parties_same, turns_keep}
 
 -- An index with nothing in flight is idle for a turn.
@@ -171,6 +172,21 @@ was_gone w stamp release n = elim (frees_node w stamp release n) as (λ b. cond 
   | true ↦ λ is. absurd (let no : free_status ≡ gone_status = is in omega arith)
   | false ↦ λ is. is
 ]
+
+-- Each node's stamp is as it was, or no greater than the one that it gives.
+lone_turn_stamps : (s s' : Index) (stamp release : ℕ) (answer : Turned) → IsLoneTurn (layered s) stamp release answer (layered s')
+    → (n : ℕ) → n < s.layout.nodes → (stamp_in (world s') n ≡ stamp_in (world s) n) ⊎ (stamp_in (world s') n ≤ stamp)
+lone_turn_stamps s s' stamp release answer lone n here = ⊎_elim
+    (λ (none : stamp_in (world s') n ≡ 0). inr (omega arith))
+    (λ (some_stamp : stamp_in (world s') n ≢ 0).
+    let left = lone.stamps n here (stamped_are_gone s' lone.idle.layered n some_stamp) in
+    ⊎_elim
+    (λ (bare : stamp_in (world s) n ≡ 0).
+    let given : stamp_in (world s') n ≡ stamp = left ∙ ap (λ (m : ℕ). cond (m == 0) stamp m) bare in inr (omega arith))
+    (λ (had : stamp_in (world s) n ≢ 0).
+    inl (left ∙ ap (λ b. cond b stamp (stamp_in (world s) n)) (ne_eqb (stamp_in (world s) n) 0 had)))
+    (cases_eq (stamp_in (world s) n) 0))
+    (cases_eq (stamp_in (world s') n) 0)
 
 lone_turn_weighs : (s s' : Index) (stamp release : ℕ) (answer : Turned) → IsLoneTurn (layered s) stamp release answer (layered s') → s'.layout ≡ s.layout → weight_of s' ≤ weight_of s
 lone_turn_weighs s s' stamp release answer lone layout =
@@ -385,7 +401,7 @@ module _ (s0 s s' : Index) (i stamp release : ℕ) (o : LoneTurn s0 s i stamp re
             answer,
             (let one : r ≡ reply.Turned answer = cc in one),
             (let same = left_is ∙ (λ k. record s0 { words = s'.words; states = states k }) in
-                record { lone = stands; is = same; weighs = lone_turn_weighs s0 s' stamp release answer stands (ap (λ (v : Index). v.layout) same) }),
+                record { lone = stands; is = same; stamps = lone_turn_stamps s0 s' stamp release answer stands; weighs = lone_turn_weighs s0 s' stamp release answer stands (ap (λ (v : Index). v.layout) same) }),
             quiet_then after,
           )
 

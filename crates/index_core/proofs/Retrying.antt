@@ -352,17 +352,10 @@ module _ (s s1 s2 : Index) (i : ℕ) (c : CoreCall) (answer : Once Placed) (turn
 
   -- stamps are 1 at most, or as they were
   stamps2 : KeepsStamps s s2
-  stamps2 n here =
-      let within : n < s1.layout.nodes = subst (λ (l : Layout). n < l.nodes) (sym t.layout) here in
-      ⊎_elim
-      (λ (none : stamp_in (world s2) n ≡ 0). inr (omega arith))
-      (λ (some_stamp : stamp_in (world s2) n ≢ 0).
-      let left = u.lone.stamps n within (stamped_are_gone s2 u.lone.idle.layered n some_stamp) in
-      ⊎_elim
-      (λ (bare : stamp_in (world s1) n ≡ 0). inr (let low = is_low (world s1) n (omega arith) in omega arith))
-      (λ (had : stamp_in (world s1) n ≢ 0). inl (left ∙ ap (λ b. cond b 1 (stamp_in (world s1) n)) (ne_eqb (stamp_in (world s1) n) 0 had) ∙ stamp1 n))
-      (cases_eq (stamp_in (world s1) n) 0))
-      (cases_eq (stamp_in (world s2) n) 0)
+  stamps2 n here = ⊎_elim
+      (λ (kept : stamp_in (world s2) n ≡ stamp_in (world s1) n). inl (kept ∙ stamp1 n))
+      (λ (low : stamp_in (world s2) n ≤ 1). inr low)
+      (u.stamps n (subst (λ (l : Layout). n < l.nodes) (sym t.layout) here))
 
   same_locks : locks_left s2 ≡ locks_left s1
   same_locks = ap locks_left u.is ∙ (λ k. Rattle.lone_hops_law.specs.lone_call_law.specs.Locks.fewest_locks s1.generation (λ n. (version_in_record n) k) s1.layout.nodes)

@@ -160,6 +160,9 @@ TermsMayBeSet = (s : Index) (party : ℕ) (state : PartyState) (old_stamp old_re
 pub record TurnsAlone (old : Index) (stamp release : ℕ) (answer : Turned) (new : Index) : Type 0 where
   pub lone : IsLoneTurn (layered old) stamp release answer (layered new)
   pub is : new ≡ record old { words = new.words }
+  -- each node's stamp is as it was, or no greater than the one that the turn gives
+  pub stamps : (n : ℕ) → n < old.layout.nodes →
+      (stamp_in (world new) n ≡ stamp_in (world old) n) ⊎ (stamp_in (world new) n ≤ stamp)
   pub weighs : weight_of new ≤ weight_of old  -- what it made FREE weighs nothing any more
 
 -- A whole call is answered as a turn of the updater is, and this holds of what that has done.

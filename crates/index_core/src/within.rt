@@ -14,7 +14,7 @@ ghost use Rattle.index_core.specs.declared.party.Within.TheVariants as Within;
 ghost use Rattle.index_core.specs.CoreCalls.{IfRecheck, IfTurn, MayBegin, MayStart, count_of, most_writes};
 ghost use Rattle.index_core.specs.Costs.{WithMost, turn_actions};
 ghost use Rattle.index_core.specs.Indexes.{IsIndex};
-ghost use Rattle.index_core.specs.Lone.{IsQuiet, IsStill, part_whole, whole_of};
+ghost use Rattle.index_core.specs.Lone.{HasShortWays, IsQuiet, IsStill, part_whole, whole_of};
 ghost use Rattle.index_core.specs.Rechecks.{CutsRecheckOff, RechecksAlone, same_whole};
 ghost use Rattle.index_core.specs.Turns.{IsTurnedAnd, StartsTurn, TurnsAlone};
 ghost use Rattle.index_law.specs.Facts.{version_in};
@@ -39,7 +39,7 @@ impl Core {
     ///
     /// A turn of another party may have stopped under the updater lock: beside it each turn is `Cut`, and each call
     /// that wants one. So a turn is `Turned`, and a put `Full`, only with nothing else in flight; and where a turn is
-    /// `Cut` there, others may still make their calls beside it.
+    /// `Cut` there, others may still make their calls beside it. Behind a turn that is `Turned` all ways are short.
     ///
     /// On an index whose ways are short a call that needs no turn makes no more than `most_actions`, whatever it is
     /// answered, and is cut off only with a budget below that; so is a turn of the updater with one below
@@ -62,7 +62,7 @@ impl Core {
             IfTurn call (λ stamp release. CutsTurnOff self.old caller self.new))
             (self.new ≡ self.old) }
         ensures turn_stays { IfTurn call (λ stamp release. EndsWithin result
-            (λ whole. IsQuiet self.old × IsQuiet self.new)
+            (λ whole. IsQuiet self.old × IsQuiet self.new × HasShortWays self.new)
             (IsQuiet self.old → (party : ℕ) → party ≢ caller → IsStill party self.new)
             (self.new ≡ self.old)) }
         ensures rechecks { IfRecheck call (λ node version. EndsWithin result
@@ -202,6 +202,7 @@ impl Core {
         ensures turns { ComesTo result (λ turned. TurnsAlone self.old stamp release turned self.new)
             (CutsTurnOff self.old party self.new) }
         ensures quiet { IfSome result (λ _. IsQuiet self.old × IsQuiet self.new) }
+        ensures short { IfSome result (λ _. HasShortWays self.new) }
         ensures stays { result ≡ None → IsQuiet self.old → 0 < budget.old →
             (caller : ℕ) → caller ≢ party → IsStill caller self.new }
         ensures spent { result ≡ None → budget.new ≡ 0 }

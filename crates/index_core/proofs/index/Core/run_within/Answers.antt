@@ -63,7 +63,7 @@ pub returns-in-Turn-clause-turn_stays : goal.returns-in-Turn-clause-turn_stays
 returns-in-Turn-clause-turn_stays g c =
     let some : 0 < c.args.budget.now = omega (arith, c.if-budget-eq0.false) in
     a_turn c.args.call _ c.in-Turn.stamp c.in-Turn.release c.in-Turn.is
-    (stays_end c.turn_within.result c.within_turn.result c.args.self.now c.turn_within.new.self c.args.caller c.args.budget.now some c.turn_within.ensures.quiet c.turn_within.ensures.stays c.within_turn.ensures)
+    (stays_end c.turn_within.result c.within_turn.result c.args.self.now c.turn_within.new.self c.args.caller c.args.budget.now some c.turn_within.ensures.quiet c.turn_within.ensures.short c.turn_within.ensures.stays c.within_turn.ensures)
 
 pub returns-in-Part-clause-in_time : goal.returns-in-Part-clause-in_time
 returns-in-Part-clause-in_time g c = λ may short none.

@@ -2,6 +2,7 @@ use Rattle.std.proofs.Common.{refl, ◌∙◌, ap, arith}
 use Rattle.std.specs.Prelude.{Some}
 use Rattle.updater.specs.declared.making.TurnReply.{TurnReply}
 use Rattle.index_core.proofs.Waiting.{turns_again, turns_begin_so, turns_cut, turns_end_so, turns_flies, turns_go_so, turns_late, turns_stay, turns_still}
+use Rattle.index_core.proofs.Retrying.{turned_short}
 use Rattle.index_core.proofs.index.Core.turn_within.Goals as goal
 
 pub tries-init : goal.tries-init
@@ -44,6 +45,12 @@ returns-in-Some-Turned-clause-quiet g c =
     let ended = turns_end_so c.args.self.now c.tries.self c.args.party c.args.stamp c.args.release c.args.steps.now c.tries.steps c.tries.invariant.0 c.step_turn.new.self c.step_turn.result c.step_turn.ensures.stepped c.step_turn.ensures.index
     c.in-Some-Turned.turned (c.in-Some-Turned.is ∙ ap (λ (r : TurnReply). Some r) c.in-Some-Turned.field-0-is) in
     (ended.1, ended.2)
+
+pub returns-in-Some-Turned-clause-short : goal.returns-in-Some-Turned-clause-short
+returns-in-Some-Turned-clause-short g c =
+    let ended = turns_end_so c.args.self.now c.tries.self c.args.party c.args.stamp c.args.release c.args.steps.now c.tries.steps c.tries.invariant.0 c.step_turn.new.self c.step_turn.result c.step_turn.ensures.stepped c.step_turn.ensures.index
+    c.in-Some-Turned.turned (c.in-Some-Turned.is ∙ ap (λ (r : TurnReply). Some r) c.in-Some-Turned.field-0-is) in
+    turned_short c.args.self.now c.step_turn.new.self c.args.stamp c.args.release c.in-Some-Turned.turned ended.0 c.step_turn.ensures.index ended.2
 
 pub returns-in-Some-Turned-clause-in_time : goal.returns-in-Some-Turned-clause-in_time
 returns-in-Some-Turned-clause-in_time g c = λ quiet.
