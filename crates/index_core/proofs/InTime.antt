@@ -30,7 +30,7 @@ use Rattle.lone_hops_law.proofs.Short.{short_stays}
 use Rattle.index_core.specs.declared.party.CoreCall.{CoreCall}
 use Rattle.index_core.specs.declared.party.CoreCall.TheVariants as call
 use Rattle.index_core.specs.CoreCalls.{limit_of, op_of}
-use Rattle.index_core.specs.Costs.{behind_actions, look_actions, most_actions, room_actions}
+use Rattle.index_core.specs.Costs.{TriesWithin, behind_actions, look_actions, most_actions, room_actions}
 use Rattle.index_core.specs.Indexes.{Index, IsIndex, world}
 use Rattle.index_core.specs.Lone.{HasNoCalls, HasShortWays, TriesAlone, needs_split}
 use Rattle.index_core.specs.PartyStates.{party_of}
@@ -233,3 +233,9 @@ pub again_so : (T : Type 0) (s0 s1 s : Index) (i : ℕ) (c : CoreCall) (first an
 again_so T s0 s1 s i c first answer result budget left1 left before steps1 steps after is idle t one spent same made two short =
     again_in_time T s0 s1 i c first result budget left1 before steps1 after is idle t (sym (ap needs_split same.1) ∙ made) one
     (subst (λ (q : Index × ℕ × ℕ). TriesInTime q.0 c result q.2 q.1 after) (λ k. (same.0 k, same.2 k, same.3 k)) two) spent short
+
+-- so where both were answered
+pub again_acts : (s0 s1 : Index) (i : ℕ) (c : CoreCall) (first then : Once Placed) (before between after : ℕ) → IsIndex s1 → HasNoCalls s1 → TriesAlone s0 i c s1 first → needs_split first ≡ true → before ≤ between
+    → TriesWithin s0 c before between → TriesWithin s1 c between after → HasShortWays s0 → after ≤ before + most_actions s0.layout c (ready_lines (world s0))
+again_acts s0 s1 i c first then before between after is idle t again later one two short =
+    again_in_time (Once Placed) s0 s1 i c first (Some then) (between - before) 0 before between after is idle t again one two (omega (arith, later)) short

@@ -8,7 +8,8 @@ use Rattle.index_core.specs.Bursts.{BurstsTo, TurnsAlong, at_first, one_more}
 use Rattle.index_core.specs.Costs.{TriesWithin}
 use Rattle.index_core.specs.Indexes.{Index}
 use Rattle.index_core.specs.Lone.{IsQuiet, LoseAtMost, TriesAlone, locks_left}
-use Rattle.index_core.proofs.Costs.{costs_end, first_left, tries_within}
+use Rattle.index_core.proofs.Costs.{first_left}
+use Rattle.index_core.proofs.InTime.{end_in_time}
 use Rattle.index_core.proofs.Tries.{Lone, cost_at, left_at, lone_costs, lone_each, lone_goes, lone_locks, lone_none}
 use Rattle.index_core.proofs.Tries.{lone_quiet, lone_tries, spare_left}
 
@@ -34,7 +35,7 @@ pub record TryEnds (s0 s : Index) (i : ℕ) (c : CoreCall) (answer : Once Placed
   pub spare : s0.spare + length s0.history ≤ s.spare + length s.history
   pub each_lock : LoseAtMost 1 s0 s
   pub locks : locks_left s0 ≤ locks_left s + 1
-  pub events : TriesWithin s0 c answer before after
+  pub events : TriesWithin s0 c before after
 
 module _ (s0 s s' : Index) (i : ℕ) (c : CoreCall) (result : Option (Once Placed)) (begun ended : ℕ)
     (o : Lone s0 s i c) (b : BurstsTo s i s' result begun ended) where
@@ -62,7 +63,6 @@ module _ (s0 s s' : Index) (i : ℕ) (c : CoreCall) (result : Option (Once Place
         spare = spare_left s0 b.last s' i c l b.turn.room (lone_none s0 b.last s' i c result l b.turn answer answered);
         each_lock = lone_each s0 b.last s' i c result l b.turn answer answered;
         locks = lone_locks s0 b.last s' i c result l b.turn answer answered;
-        events = tries_within s0 c answer before (begun + b.turns) ended (cost_at b.last i)
-            (omega (arith, within, was.cost)) (omega (arith, b.steps))
-            (costs_end s0 b.last s' i c result l b.turn answer answered);
+        events = end_in_time s0 b.last i c l 0 before (begun + b.turns) ended (omega (arith, within, was.cost))
+            (omega (arith, b.steps)) answer;
       }

@@ -2,15 +2,12 @@
 use Rattle.std.specs.Prelude.{ℕ, ◌+◌, ◌*◌, ◌≤◌}
 use Rattle.pm_words.specs.Layouts.{IsLayout}
 use Rattle.pm_words.specs.declared.layout.Layout.{Layout}
-use Rattle.call_stages.specs.declared.once.Once.{Once}
-use Rattle.call_stages.specs.declared.once.Once.TheVariants as once
-use Rattle.call_stages.specs.declared.once.Placed.{Placed}
+use Rattle.lone_hops_law.specs.lone_call_law.specs.LoneCalls.{FindsFull}
 use Rattle.lone_hops_law.specs.lone_updater_law.specs.CallLogs.{ready_lines}
 use Rattle.node_ops.specs.search_layer.specs.Floors.{floor_most}
 use Rattle.index_core.specs.declared.party.CoreCall.{CoreCall}
 use Rattle.index_core.specs.declared.party.CoreCall.TheVariants as call
-use Rattle.index_core.specs.declared.party.Whole.{Whole}
-use Rattle.index_core.specs.declared.party.Whole.TheVariants as whole
+use Rattle.index_core.specs.CoreCalls.{op_of}
 use Rattle.index_core.specs.Indexes.{Index, world}
 use Rattle.index_core.specs.Lone.{HasShortWays, NeedsNoTurn}
 
@@ -42,14 +39,6 @@ try_actions put l (call.Part low count) = list_actions l
 try_actions put l (call.Recheck node version) = 1
 try_actions put l (call.Turn stamp release) = 1
 
--- A put that isn't answered that it took place may have split its node.
-abbrev pub put_actions : Once Placed → ℕ
-put_actions (once.Done placed) = fill_actions
-put_actions _ = split_actions
-
-abbrev pub other_actions : Layout → CoreCall → Once Placed → ℕ
-other_actions l c answer = try_actions (put_actions answer) l c
-
 -- Those of any such try, whatever it is answered; and where a put's node has room for its name, so that it isn't split.
 abbrev pub behind_actions : Layout → CoreCall → ℕ
 behind_actions l c = try_actions split_actions l c
@@ -73,28 +62,20 @@ most_actions l (call.Turn stamp release) lines = look_actions l lines + 1
 abbrev pub turn_actions : Layout → ℕ
 turn_actions l = 120000 * (8 * l.callers) + 6 * l.nodes
 
--- It isn't answered that a node is worn.
-abbrev pub IsUnworn : Once Placed → Type 0
-IsUnworn (once.Worn node word) = ⊥
-IsUnworn _ = Unit {0}
-
-abbrev pub IsUnwornWhole : Whole → Type 0
-IsUnwornWhole (whole.Worn node word) = ⊥
-IsUnwornWhole _ = Unit {0}
-
--- One try, which has counted from the first number of actions to the second.
-abbrev pub TriesWithin : Index → CoreCall → Once Placed → ℕ → ℕ → Type 0
-TriesWithin s c answer before after = HasShortWays s → IsUnworn answer →
-    after ≤ before + (look_actions s.layout (ready_lines (world s)) + other_actions s.layout c answer)
-
--- A whole call.
-abbrev pub ActsWithin : Index → ℕ → CoreCall → Whole → ℕ → ℕ → Type 0
-ActsWithin s caller c result before after = HasShortWays s → NeedsNoTurn caller c s → IsUnwornWhole result →
-    after ≤ before + most_actions s.layout c (ready_lines (world s))
+-- One try, whatever it is answered, which has counted from the first number of actions to the second.
+abbrev pub TriesWithin : Index → CoreCall → ℕ → ℕ → Type 0
+TriesWithin s c before after = HasShortWays s →
+    (after ≤ before + (look_actions s.layout (ready_lines (world s)) + behind_actions s.layout c)) ×
+    (¬ FindsFull (world s) (op_of c) →
+    after ≤ before + (look_actions s.layout (ready_lines (world s)) + room_actions s.layout c))
 
 -- This holds of the most actions that the call makes, if it needs no turn and the index has short ways.
 abbrev pub WithMost : Index → ℕ → CoreCall → (ℕ → Type 0) → Type 0
 WithMost s caller c P = HasShortWays s → NeedsNoTurn caller c s → P (most_actions s.layout c (ready_lines (world s)))
+
+-- So a whole call, whatever it is answered.
+abbrev pub ActsWithin : Index → ℕ → CoreCall → ℕ → ℕ → Type 0
+ActsWithin s caller c before after = WithMost s caller c (λ most. after ≤ before + most)
 
 -- In plain numbers, for any layout: at most 16384 for a get or a part of a scan, 65536 for a put or a delete, and 32 or
 -- 64 more for each line that is READY.

@@ -44,9 +44,9 @@ impl Core {
     /// state changes.
     ///
     /// It makes at least one step, which `steps` counts, as do the calls below. On an index whose ways are short a call
-    /// that needs no turn, and isn't answered that a node is worn, makes no more than `most_actions`: on any layout
-    /// some 14,100 for a get and 58,400 for a put, and ten or twenty more for each log line that is READY. A turn makes
-    /// at most `turn_actions`, and a recheck two.
+    /// that needs no turn makes no more than `most_actions`, whatever it is answered: on any layout some 14,100 for a
+    /// get and 58,400 for a put, and ten or twenty more for each log line that is READY. A turn makes at most
+    /// `turn_actions`, and a recheck two.
     pub fn run_alone<L: Ledger>(
         &mut self,
         caller: u64,
@@ -66,7 +66,7 @@ impl Core {
         ensures each_lock { MayBegin call → TakesEachLock caller call self.old self.new }
         ensures locks { MayBegin call → TakesLocks caller call self.old self.new }
         ensures acts { steps.old < steps.new }
-        ensures events { MayBegin call → ActsWithin self.old caller call result steps.old steps.new }
+        ensures events { MayBegin call → ActsWithin self.old caller call steps.old steps.new }
         ensures turn_events { IfTurn call (λ stamp release. steps.new ≤ steps.old + turn_actions self.old.layout) }
         ensures recheck_events { IfRecheck call (λ node version. steps.new ≡ steps.old + 2) }
         ensures index { IsIndex self.new }
@@ -104,7 +104,7 @@ impl Core {
         ensures each_lock { TakesEachLock caller call self.old self.new }
         ensures locks { TakesLocks caller call self.old self.new }
         ensures acts { steps.old < steps.new }
-        ensures events { ActsWithin self.old caller call (whole_of result) steps.old steps.new }
+        ensures events { ActsWithin self.old caller call steps.old steps.new }
         ensures index { IsIndex self.new }
     {
         let mut answer = self.try_alone(caller, &call, steps);
@@ -142,7 +142,7 @@ impl Core {
         ensures each_lock { LoseAtMost 1 self.old self.new }
         ensures locks { locks_left self.old ≤ locks_left self.new + 1 }
         ensures acts { steps.old < steps.new }
-        ensures events { ActsWithin self.old caller (CoreCall.Part low count) (part_whole result) steps.old steps.new }
+        ensures events { ActsWithin self.old caller (CoreCall.Part low count) steps.old steps.new }
         ensures index { IsIndex self.new }
     {
         let Ok(()) = self.start_name(caller, CoreCall::Part { low, count }) else {
@@ -200,7 +200,7 @@ impl Core {
         ensures each_lock { LoseAtMost 1 self.old self.new }
         ensures locks { locks_left self.old ≤ locks_left self.new + 1 }
         ensures acts { steps.old < steps.new }
-        ensures events { TriesWithin self.old call.now result steps.old steps.new }
+        ensures events { TriesWithin self.old call.now steps.old steps.new }
         ensures index { IsIndex self.new }
     {
         let Ok(()) = self.start_name(caller, *call) else {

@@ -1,12 +1,14 @@
 use Rattle.std.proofs.Common.{◌≡◌, ◌⊎◌, inl, inr, ℕ, ◌+◌, ◌<◌, ◌≤◌, length, true, false, sym, ap, ◌∙◌, subst, arith}
+use Rattle.std.specs.Prelude.{Some}
 use Rattle.call_stages.specs.declared.once.Once.{Once}
 use Rattle.call_stages.specs.declared.once.Placed.{Placed}
 use Rattle.pm_words.specs.declared.layout.Layout.{Layout}
 use Rattle.index_core.specs.Indexes.{Index, IsIndex}
 use Rattle.index_core.specs.Costs.{ActsWithin, TriesWithin}
-use Rattle.index_core.specs.Lone.{HasNoCalls, IsQuiet, IsWholeAnswer, NeedsNoTurn, TriesAlone, lacks_line, lacks_node, needs_split, whole_of}
+use Rattle.index_core.specs.Lone.{HasNoCalls, IsQuiet, NeedsNoTurn, lacks_line, lacks_node, needs_split, whole_of}
 use Rattle.index_core.proofs.Quiet.{quiet_is_still}
-use Rattle.index_core.proofs.Costs.{needs_none, split_acts, tries_are_whole}
+use Rattle.index_core.proofs.Costs.{needs_none}
+use Rattle.index_core.proofs.InTime.{again_acts, try_in_time}
 use Rattle.index_core.proofs.Alone.{ran_runs, ran_each, ran_locks, full_runs, full_again, counted_each, counted_locks, count_quiet}
 use Rattle.index_core.proofs.Retrying.{HasItsLine, HasItsNode, RanAll, tried_first, line_at_once, line_behind_turn, node_at_once, node_behind_turn, node_history, node_layout, ran_once, ran_twice}
 use Rattle.index_core.proofs.index.Core.name_alone.Goals as goal
@@ -200,10 +202,10 @@ abbrev FirstTry : (g : _) → After-needs_split g → Type 0
 FirstTry g c = (c.if-lacks_node.self ≡ c.try_alone-answer.new.self) × (c.if-lacks_node.answer ≡ c.try_alone-answer.result) × (c.if-lacks_node.steps ≡ c.try_alone-answer.new.steps)
 
 -- the call is as it was, or was made again
-abbrev MadeAgain : (g : _) → After-needs_split g → Index → Once Placed → ℕ → Type 0
-MadeAgain g c s answer steps =
-    ((answer ≡ c.if-lacks_node.answer) × (steps ≡ c.if-lacks_node.steps))
-    ⊎ ((needs_split c.if-lacks_node.answer ≡ true) × TriesWithin c.if-lacks_node.self c.args.call answer c.if-lacks_node.steps steps)
+abbrev MadeAgain : (g : _) → After-needs_split g → ℕ → Type 0
+MadeAgain g c steps =
+    (steps ≡ c.if-lacks_node.steps)
+    ⊎ ((needs_split c.if-lacks_node.answer ≡ true) × TriesWithin c.if-lacks_node.self c.args.call c.if-lacks_node.steps steps)
 
 -- a call that needs no turn has made one try so far
 at_first : (g : _) (c : After-needs_split g) → NeedsNoTurn c.args.caller c.args.call c.args.self.now → FirstTry g c
@@ -222,35 +224,33 @@ at_first g c none = elim c.if-lacks_node.branch [
     ]
 
 -- and what it has made is few, whether it splits its node, and is made again, or not
-few_acts : (g : _) (c : After-needs_split g) (s : Index) (answer : Once Placed) (tries steps : ℕ) → IsWholeAnswer tries c.args.self.now c.args.caller c.args.call s (whole_of answer)
-    → MadeAgain g c s answer steps → ActsWithin c.args.self.now c.args.caller c.args.call (whole_of answer) c.args.steps.now steps
-few_acts g c s answer tries steps cause (inl same) short none unworn =
+few_acts : (g : _) (c : After-needs_split g) (answer : Once Placed) (steps : ℕ) → MadeAgain g c steps → ActsWithin c.args.self.now c.args.caller c.args.call c.args.steps.now steps
+few_acts g c answer steps (inl same) short none =
     let at = at_first g c none in
-    subst (λ (q : Once Placed × ℕ). ActsWithin c.args.self.now c.args.caller c.args.call (whole_of q.0) c.args.steps.now q.1) (λ k. (sym (same.0 ∙ at.1) k, sym (same.1 ∙ at.2) k))
-    (tries_are_whole c.args.self.now c.args.caller c.args.call c.try_alone-answer.result c.args.steps.now c.try_alone-answer.new.steps c.try_alone-answer.ensures.events) short none unworn
-few_acts g c s answer tries steps cause (inr again) short none unworn =
+    let few = try_in_time (Once Placed) c.args.self.now c.args.call (Some answer) 0 c.args.steps.now c.try_alone-answer.new.steps short c.try_alone-answer.ensures.events in
+    omega (arith, few, same, at.2)
+few_acts g c answer steps (inr again) short none =
     let at = at_first g c none in
     let first = c.try_alone-answer.ensures in
-    split_acts c.args.self.now c.if-lacks_node.self s c.args.caller c.args.call c.if-lacks_node.answer answer tries c.args.steps.now c.if-lacks_node.steps steps
-    (subst (λ (q : Index × Once Placed). TriesAlone c.args.self.now c.args.caller c.args.call q.0 q.1) (λ k. (sym at.0 k, sym at.1 k)) first.tries) again.0 cause none
-    (subst (λ (q : Once Placed × ℕ). TriesWithin c.args.self.now c.args.call q.0 c.args.steps.now q.1) (λ k. (sym at.1 k, sym at.2 k)) first.events) again.1 short unworn
+    let acts : c.args.steps.now < c.try_alone-answer.new.steps = first.acts in
+    again_acts c.args.self.now c.try_alone-answer.new.self c.args.caller c.args.call c.try_alone-answer.result answer c.args.steps.now c.try_alone-answer.new.steps steps
+    first.index first.quiet.calls first.tries (sym (ap needs_split at.1) ∙ again.0) (omega (arith, acts)) first.events
+    (subst (λ (q : Index × ℕ). TriesWithin q.0 c.args.call q.1 steps) (λ k. (at.0 k, at.2 k)) again.1) short
 
 pub returns-in-Again-clause-events : goal.returns-in-Again-clause-events
 returns-in-Again-clause-events g c =
-    let all = full_ran g c in
     let here = (goal.at.returns-in-Again-clause-runs g c).After-needs_split in
     let split = sym c.needs_split.ensures in
-    few_acts g here c.if-needs_split.self c.if-needs_split.answer all.tries c.if-needs_split.steps all.ran.cause (elim c.if-needs_split.branch [
-      | then-needs_split w ↦ inr (split ∙ w.if-needs_split.true, subst (λ (q : Once Placed × ℕ). TriesWithin here.if-lacks_node.self here.args.call q.0 here.if-lacks_node.steps q.1) (λ k. (sym w.answer-is k, sym w.steps-is k)) w.try_alone-answer-then-needs_split.ensures.events)
-      | else-needs_split w ↦ inl (w.answer-is, w.steps-is)
+    few_acts g here c.if-needs_split.answer c.if-needs_split.steps (elim c.if-needs_split.branch [
+      | then-needs_split w ↦ inr (split ∙ w.if-needs_split.true, subst (TriesWithin here.if-lacks_node.self here.args.call here.if-lacks_node.steps) (sym w.steps-is) w.try_alone-answer-then-needs_split.ensures.events)
+      | else-needs_split w ↦ inl w.steps-is
     ])
 
 pub returns-in_default-clause-events : goal.returns-in_default-clause-events
 returns-in_default-clause-events g c =
-    let all = other_ran g c in
     let here = (goal.at.returns-in_default-clause-runs g c).After-needs_split in
     let split = sym c.needs_split.ensures in
-    few_acts g here c.if-needs_split.self c.if-needs_split.answer all.tries c.if-needs_split.steps all.ran.cause (elim c.if-needs_split.branch [
-      | then-needs_split w ↦ inr (split ∙ w.if-needs_split.true, subst (λ (q : Once Placed × ℕ). TriesWithin here.if-lacks_node.self here.args.call q.0 here.if-lacks_node.steps q.1) (λ k. (sym w.answer-is k, sym w.steps-is k)) w.try_alone-answer-then-needs_split.ensures.events)
-      | else-needs_split w ↦ inl (w.answer-is, w.steps-is)
+    few_acts g here c.if-needs_split.answer c.if-needs_split.steps (elim c.if-needs_split.branch [
+      | then-needs_split w ↦ inr (split ∙ w.if-needs_split.true, subst (TriesWithin here.if-lacks_node.self here.args.call here.if-lacks_node.steps) (sym w.steps-is) w.try_alone-answer-then-needs_split.ensures.events)
+      | else-needs_split w ↦ inl w.steps-is
     ])

@@ -1,17 +1,17 @@
 use Rattle.std.proofs.Common.{suc, ◌≤◌, refl, sym, subst, arith}
+use Rattle.std.specs.Prelude.{Some}
 use Rattle.call_stages.specs.declared.once.Once.{Once}
 use Rattle.node_ops.specs.declared.part.PartWords.{PartWords}
 use Rattle.index_core.specs.Lone.{RunsAlone, part_whole}
 use Rattle.index_core.specs.declared.party.CoreCall.TheVariants as call
 use Rattle.call_stages.specs.declared.once.Once.TheVariants as once
-use Rattle.node_ops.specs.PartSteps.{early_of, words_placed}
-use Rattle.index_core.specs.Costs.{ActsWithin}
 use Rattle.index_core.proofs.Bursting.{turns_on}
 use Rattle.index_core.proofs.Busy.{quiet_is_idle}
-use Rattle.index_core.proofs.Costs.{cost_begins, costs_end, early_unworn, part_acts, tries_within}
+use Rattle.index_core.proofs.Costs.{cost_begins}
+use Rattle.index_core.proofs.InTime.{end_in_time, try_in_time}
 use Rattle.index_core.proofs.Quiet.{quiet_is_still}
-use Rattle.index_core.proofs.PartTries.{part_ends, part_is_early, part_last, part_stops}
-use Rattle.index_core.proofs.Tries.{Lone, cost_at, left_at, lone_costs, lone_start, lone_flies, lone_goes}
+use Rattle.index_core.proofs.PartTries.{part_ends, part_is_early, part_stops}
+use Rattle.index_core.proofs.Tries.{Lone, left_at, lone_costs, lone_start, lone_flies, lone_goes}
 use Rattle.index_core.proofs.index.Core.part_alone.Goals as goal
 use Rattle.index_core.proofs.index.Core.part_alone.Goals.{In_default-step_call}
 
@@ -43,11 +43,9 @@ returns-then-has_listed g c =
       each_lock = e.each_lock;
       locks = e.locks;
       acts = omega (arith, t.tick, c.steps.invariant.1);
-      events = part_acts c.args.self.now c.args.caller c.args.low c.args.count (once.Done (words_placed c.listing-words.result)) (once.Done c.listing-words.result) c.args.steps.now c.step_call.new.steps
-          (tries_within c.args.self.now (call.Part c.args.low c.args.count) (once.Done (words_placed c.listing-words.result)) c.args.steps.now c.steps.steps c.step_call.new.steps (cost_at c.steps.self c.args.caller) c.steps.invariant.2 t.tick
-          (costs_end c.args.self.now c.steps.self c.step_call.new.self c.args.caller (call.Part c.args.low c.args.count) c.step_call.result c.steps.invariant.0 (turns_on t.turned t.index t.spare.all) (once.Done (words_placed c.listing-words.result))
-          (part_last c.args.self.now c.steps.self c.step_call.new.self c.args.caller c.args.low c.args.count c.step_call.result c.steps.invariant.0 t.turned t.index t.spare.all c.listing-words.result c.listing-words.ensures)))
-          (λ _. tt);
+      events = λ short none.
+          try_in_time (Once PartWords) c.args.self.now (call.Part c.args.low c.args.count) (Some (once.Done c.listing-words.result)) 0 c.args.steps.now c.step_call.new.steps short
+          (end_in_time c.args.self.now c.steps.self c.args.caller (call.Part c.args.low c.args.count) c.steps.invariant.0 0 c.args.steps.now c.steps.steps c.step_call.new.steps c.steps.invariant.2 t.tick (once.Done c.listing-words.result));
       index = t.index;
     }
 
@@ -69,11 +67,9 @@ returns-in-Some g c =
       each_lock = e.each_lock;
       locks = e.locks;
       acts = omega (arith, t.tick, c.steps.invariant.1);
-      events = subst (λ (r : Once PartWords). ActsWithin c.args.self.now c.args.caller (call.Part c.args.low c.args.count) (part_whole r) c.args.steps.now c.step_call-in-steps.new.steps) (sym c.early.ensures)
-          (part_acts c.args.self.now c.args.caller c.args.low c.args.count c.in-Some.answer (early_of c.in-Some.answer) c.args.steps.now c.step_call-in-steps.new.steps
-          (tries_within c.args.self.now (call.Part c.args.low c.args.count) c.in-Some.answer c.args.steps.now c.steps.steps c.step_call-in-steps.new.steps (cost_at c.steps.self c.args.caller) c.steps.invariant.2 t.tick
-          (costs_end c.args.self.now c.steps.self c.step_call-in-steps.new.self c.args.caller (call.Part c.args.low c.args.count) c.step_call-in-steps.result c.steps.invariant.0 (turns_on t.turned t.index t.spare.all) c.in-Some.answer c.in-Some.is))
-          (early_unworn c.in-Some.answer));
+      events = λ short none.
+          try_in_time (Once PartWords) c.args.self.now (call.Part c.args.low c.args.count) (Some c.early.result) 0 c.args.steps.now c.step_call-in-steps.new.steps short
+          (end_in_time c.args.self.now c.steps.self c.args.caller (call.Part c.args.low c.args.count) c.steps.invariant.0 0 c.args.steps.now c.steps.steps c.step_call-in-steps.new.steps c.steps.invariant.2 t.tick c.early.result);
       index = t.index;
     }
 

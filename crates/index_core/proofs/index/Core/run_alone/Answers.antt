@@ -1,6 +1,5 @@
 use Rattle.std.proofs.Common.{sym, subst}
 use Rattle.index_core.specs.declared.party.Whole.{Whole}
-use Rattle.index_core.specs.Costs.{ActsWithin}
 use Rattle.index_core.specs.Lone.{RunsAlone}
 use Rattle.index_core.proofs.Either.{no_recheck, no_turn}
 use Rattle.index_core.proofs.index.Core.run_alone.Goals as goal
@@ -15,7 +14,7 @@ pub returns-in_default-clause-short : goal.returns-in_default-clause-short
 returns-in_default-clause-short g c = no_turn c.args.call _ c.in_default.not-Turn
 
 pub returns-in_default-clause-events : goal.returns-in_default-clause-events
-returns-in_default-clause-events g c = λ _. subst (λ (r : Whole). ActsWithin c.args.self.now c.args.caller c.args.call r c.args.steps.now c.name_alone.new.steps) (sym c.of.ensures) c.name_alone.ensures.events
+returns-in_default-clause-events g c = λ _. c.name_alone.ensures.events
 
 pub returns-in_default-clause-rechecks : goal.returns-in_default-clause-rechecks
 returns-in_default-clause-rechecks g c = no_recheck c.args.call _ c.in_default.not-Recheck
