@@ -33,7 +33,7 @@ use Rattle.call_stages.specs.declared.once.Placed.{Placed}
 use Rattle.node_ops.specs.Asked.{name_asked}
 use Rattle.index_core.specs.Indexes.{Index}
 use Rattle.index_core.specs.LegalRounds.{placed_record, record_told, record_of, records_of, callers_placed, LegalHistoryIsLegalRound, LegalHistoryKeepsLimit}
-use Rattle.index_core.specs.Lone.{IsQuiet}
+use Rattle.index_core.specs.Lone.{HasNoCalls}
 use Rattle.index_core.specs.Schedules.{BegunCall, AnsweredCall, IsNext, IsLegalAnswer, IsPlacedCall, StandsAt, interval_of, IsAnsweredWrite, IsWriteInFlight, CarryLimit, IsLegalHistory}
 use Rattle.index_core.proofs.Flights.{answered_begun}
 use Rattle.index_core.proofs.Limits.{write_end, first_there}
@@ -243,8 +243,8 @@ module _ (initial : Index) (begun : List BegunCall) (calls : List AnsweredCall) 
       omega arith
 
   -- each write of the history is told by a call, once none is in flight
-  told-here : IsQuiet s → (place : ℕ) (write : Write) → slice_get s.history place ≡ Some write → Contains (filter_map write_told calls) (place, write)
-  told-here quiet place write stands =
+  told-here : HasNoCalls s → (place : ℕ) (write : Write) → slice_get s.history place ≡ Some write → Contains (filter_map write_told calls) (place, write)
+  told-here idle place write stands =
       ⊎_elim
       (λ (w : IsAnsweredWrite calls place write).
       let told : record_of w.answered ≡ Some (placed_record w.answered.call w.placed) = ap (record_told w.answered.call) w.answer in
@@ -253,17 +253,17 @@ module _ (initial : Index) (begun : List BegunCall) (calls : List AnsweredCall) 
       ∙ ap (option_map (λ (change : Change). (w.placed.place, record { caller = w.answered.call.caller; index = w.answered.call.index; change = change }))) (asked-is w.answered.call.op ∙ w.change)
       ∙ (λ i. Some (w.place i, record { caller = sym w.caller i; index = sym w.index i; change = write.change })) in
       gives-here write_told calls w.number w.answered (place, write) w.there is)
-      (λ (w : IsWriteInFlight s.states place write). absurd (let both : None ≡ Some w.machine = sym (quiet.calls w.party w.state w.there) ∙ w.flies in cc))
+      (λ (w : IsWriteInFlight s.states place write). absurd (let both : None ≡ Some w.machine = sym (idle w.party w.state w.there) ∙ w.flies in cc))
       (legal.writes place write stands)
 
-  by-place : IsQuiet s → IsPermutation (placed_writes (records_of calls)) (enumerate_from 0 s.history)
-  by-place quiet =
+  by-place : HasNoCalls s → IsPermutation (placed_writes (records_of calls)) (enumerate_from 0 s.history)
+  by-place idle =
       let Stands : ℕ × Write → Type 0 = λ x. slice_get s.history x.0 ≡ Some x.1 in
       subst (λ (xs : List (ℕ × Write)). IsPermutation xs (enumerate_from 0 s.history)) (sym (gives-twice record_of placed_write calls))
       (permuted (filter_map write_told calls) (enumerate_from 0 s.history) (gives-apart write_told calls places-apart) (numbered-apart 0 s.history)
       (λ x. (
         λ has. let by = given-by write_told calls x has in numbered-there s.history x.0 x.1 (stands-there by.0 by.1 x by.2 by.3).2,
-        λ has. told-here quiet x.0 x.1 (numbered-from s.history x.0 x.1 has),
+        λ has. told-here idle x.0 x.1 (numbered-from s.history x.0 x.1 has),
       )))
 
   -- what holds of the record of each call that took place holds of each record
@@ -299,7 +299,7 @@ module _ (initial : Index) (begun : List BegunCall) (calls : List AnsweredCall) 
       apart)
       (cases_order by_r.0 by_t.0)))
 
-  module _ (limit : ℕ) (quiet : IsQuiet s) (carry : CarryLimit limit begun) where
+  module _ (limit : ℕ) (idle : HasNoCalls s) (carry : CarryLimit limit begun) where
     -- a call that wrote began below the limit, and ended past its place
     pub wrote-below : (place : ℕ) (write : Write) (w : IsAnsweredWrite calls place write) → (w.answered.call.since < limit) × (w.answered.call.since ≤ place) × (place < w.answered.until)
     wrote-below place write w =
@@ -321,7 +321,7 @@ module _ (initial : Index) (begun : List BegunCall) (calls : List AnsweredCall) 
     pub wrote : (place : ℕ) (write : Write) → slice_get s.history place ≡ Some write → IsAnsweredWrite calls place write
     wrote place write stands =
         ⊎_elim (λ (w : IsAnsweredWrite calls place write). w)
-        (λ (w : IsWriteInFlight s.states place write). absurd (let both : None ≡ Some w.machine = sym (quiet.calls w.party w.state w.there) ∙ w.flies in cc))
+        (λ (w : IsWriteInFlight s.states place write). absurd (let both : None ≡ Some w.machine = sym (idle w.party w.state w.there) ∙ w.flies in cc))
         (legal.writes place write stands)
 
     -- whose caller has a record
@@ -359,9 +359,9 @@ module _ (initial : Index) (begun : List BegunCall) (calls : List AnsweredCall) 
         done-place a b e = cc
 
 pub legal_history_is_legal_round : LegalHistoryIsLegalRound
-legal_history_is_legal_round initial begun calls s limit legal quiet keeps = record {
+legal_history_is_legal_round initial begun calls s limit legal idle keeps = record {
   each_call = IsPermutation-refl (map call_of (records_of calls));
-  by_place = by-place initial begun calls s legal quiet;
+  by_place = by-place initial begun calls s legal idle;
   answers = each-record initial begun calls s legal (λ r. IsAnswer (map_of initial.base) s.history limit r.op r.reply)
       (λ i c placed is. answer-of (map_of initial.base) s.history limit c.call.op placed is.took.old);
   within = each-record initial begun calls s legal (λ r. IfSome (interval r) (λ i. i.end ≤ length s.history))
@@ -371,10 +371,10 @@ legal_history_is_legal_round initial begun calls s limit legal quiet keeps = rec
 }
 
 pub legal_history_keeps_limit : LegalHistoryKeepsLimit
-legal_history_keeps_limit initial begun calls s limit legal quiet carry =
-    let wrote-it = wrote initial begun calls s legal limit quiet carry in
-    let below = wrote-below initial begun calls s legal limit quiet carry in
+legal_history_keeps_limit initial begun calls s limit legal idle carry =
+    let wrote-it = wrote initial begun calls s legal limit idle carry in
+    let below = wrote-below initial begun calls s legal limit idle carry in
     late_writes_are_few limit (callers_placed calls) s.history
     (λ many. let first = first_there s.history many in let began = (below 0 first.0 (wrote-it 0 first.0 first.1)).0 in omega arith)
-    (λ place write stands. wrote-recorded initial begun calls s legal limit quiet carry place write (wrote-it place write stands))
-    (wrote-once initial begun calls s legal limit quiet carry)
+    (λ place write stands. wrote-recorded initial begun calls s legal limit idle carry place write (wrote-it place write stands))
+    (wrote-once initial begun calls s legal limit idle carry)

@@ -35,7 +35,7 @@ use Rattle.node_ops.specs.Endings.{IsPutOp}
 use Rattle.node_ops.specs.declared.part.PartWords.{PartWords}
 use Rattle.index_core.specs.Indexes.{Index}
 use Rattle.index_core.specs.LegalRounds.{placed_record, record_told, record_of}
-use Rattle.index_core.specs.Lone.{IsQuiet}
+use Rattle.index_core.specs.Lone.{HasNoCalls}
 use Rattle.index_core.specs.Schedules.{BegunCall, AnsweredCall, IsNext, IsLegalAnswer, IsSpentCall, IsTurnedBack, PartLists, CallLists, IsListing, IsAnsweredWrite, CarryLimit, IsLegalHistory}
 use Rattle.index_core.specs.ToldRounds.{Told, replied_record, IsToldOf, IsToldCall, part_told, IsScanCall, AreScanCalls, IsToldScan, AreTold, records_told, CarryOneLimit, LegalHistoryIsToldRound}
 use Rattle.index_core.specs.ToldRounds.IsToldOf.{took_place, was_spent, was_full}
@@ -418,7 +418,7 @@ module _ (initial : Index) (begun : List BegunCall) (calls : List AnsweredCall) 
         absurd (let clash : ◌≡◌ {A = Option Change} None (Some write.change) = sym reads.3 ∙ ap (λ (c : AnsweredCall). change_of c.call.op) one ∙ w.change in cc))
         (are.each found.0 found.1 found.2)
 
-    module _ (limit : ℕ) (quiet : IsQuiet s) (carry : CarryOneLimit limit begun) where
+    module _ (limit : ℕ) (idle : HasNoCalls s) (carry : CarryOneLimit limit begun) where
       carry-limit : CarryLimit limit begun
       carry-limit = All-weaker (λ (c : BegunCall). c.limit ≡ option_map (λ (change : Change). limit) (change_of c.op)) (λ (c : BegunCall). IfSome (change_of c.op) (λ change. c.limit ≡ Some limit))
           (λ c is. so c.limit (change_of c.op) is) begun carry
@@ -437,7 +437,7 @@ module _ (initial : Index) (begun : List BegunCall) (calls : List AnsweredCall) 
                 let tells = tells-write by.1 x (are.each by.0 by.1 by.2) by.3 in
                 numbered-there s.history x.0 x.1 (stands-there initial begun calls s legal tells.number tells.answered x tells.there tells.told).2,
             λ has.
-                let here = told-write x.0 x.1 (wrote initial begun calls s legal limit quiet carry-limit x.0 x.1 (numbered-from s.history x.0 x.1 has)) in
+                let here = told-write x.0 x.1 (wrote initial begun calls s legal limit idle carry-limit x.0 x.1 (numbered-from s.history x.0 x.1 has)) in
                 gives-here write_of told here.at here.by x here.there here.tells,
           )))
 
@@ -527,23 +527,23 @@ module _ (initial : Index) (begun : List BegunCall) (calls : List AnsweredCall) 
 
       recorded : (place : ℕ) (write : Write) → slice_get s.history place ≡ Some write → Contains (map (λ (c : Call). c.caller) (map call_of (records_told told))) write.caller
       recorded place write stands =
-          let here = told-write place write (wrote initial begun calls s legal limit quiet carry-limit place write stands) in
+          let here = told-write place write (wrote initial begun calls s legal limit idle carry-limit place write stands) in
           let mapped : Contains (map call_of (records_told told)) (call_of here.by.what) = contains-map call_of (records_told told) here.by.what (told-here told here.at here.by here.there) in
           subst (Contains (map (λ (c : Call). c.caller) (map call_of (records_told told)))) here.by_caller (contains-map (λ (c : Call). c.caller) (map call_of (records_told told)) (call_of here.by.what) mapped)
 
 pub legal_history_is_told_round : LegalHistoryIsToldRound
-legal_history_is_told_round first begun calls s limit told legal quiet carry are =
-    let carries = carry-limit first begun calls s legal told are limit quiet carry in
-    let wrote-it = wrote first begun calls s legal limit quiet carries in
-    let below = wrote-below first begun calls s legal limit quiet carries in
+legal_history_is_told_round first begun calls s limit told legal idle carry are =
+    let carries = carry-limit first begun calls s legal told are limit idle carry in
+    let wrote-it = wrote first begun calls s legal limit idle carries in
+    let below = wrote-below first begun calls s legal limit idle carries in
     record {
       each_call = IsPermutation-refl (map call_of (records_told told));
-      by_place = by-place-told first begun calls s legal told are limit quiet carry;
-      answers = all-told (λ r. IsAnswer (map_of first.base) s.history limit r.op r.reply) told (λ j t there. told-answers first begun calls s legal told are limit quiet carry t (are.each j t there));
+      by_place = by-place-told first begun calls s legal told are limit idle carry;
+      answers = all-told (λ r. IsAnswer (map_of first.base) s.history limit r.op r.reply) told (λ j t there. told-answers first begun calls s legal told are limit idle carry t (are.each j t there));
       within = all-told (λ r. IfSome (interval r) (λ i. i.end ≤ length s.history)) told (λ j t there. some-within first begun calls s legal t (interval t.what) (spans first begun calls s legal t (are.each j t there)));
-      in_order = in-order-told first begun calls s legal told are limit quiet carry;
+      in_order = in-order-told first begun calls s legal told are limit idle carry;
       in_time = late_writes_are_few limit (map (λ (c : Call). c.caller) (map call_of (records_told told))) s.history
           (λ many. let early = first_there s.history many in let began = (below 0 early.0 (wrote-it 0 early.0 early.1)).0 in omega arith)
-          (recorded first begun calls s legal told are limit quiet carry)
-          (wrote-once first begun calls s legal limit quiet carries);
+          (recorded first begun calls s legal told are limit idle carry)
+          (wrote-once first begun calls s legal limit idle carries);
     }

@@ -11,7 +11,7 @@ use Rattle.call_stages.specs.declared.once.Once.{Once}
 use Rattle.call_stages.specs.declared.once.Once.TheVariants as once
 use Rattle.call_stages.specs.declared.once.Placed.{Placed}
 use Rattle.index_core.specs.Indexes.{Index}
-use Rattle.index_core.specs.Lone.{IsQuiet}
+use Rattle.index_core.specs.Lone.{HasNoCalls}
 use Rattle.index_core.specs.Schedules.{BegunCall, AnsweredCall, CarryLimit, IsLegalHistory}
 
 -- The record of a call that was answered with this old number and this place.
@@ -43,12 +43,12 @@ callers_placed calls = map (λ c. c.caller) (map call_of (records_of calls))
 -- limit that the places of the history keep,
 abbrev pub LegalHistoryIsLegalRound : Type 0
 LegalHistoryIsLegalRound = (first : Index) (begun : List BegunCall) (calls : List AnsweredCall) (s : Index)
-    (limit : ℕ) → IsLegalHistory first begun calls s → IsQuiet s →
+    (limit : ℕ) → IsLegalHistory first begun calls s → HasNoCalls s →
     PlacesKeepLimit limit (callers_placed calls) s.history →
     IsLegalRound (map_of first.base) (map call_of (records_of calls)) limit (records_of calls) s.history
 
 -- and they keep the one that all puts and deletes had.
 abbrev pub LegalHistoryKeepsLimit : Type 0
 LegalHistoryKeepsLimit = (first : Index) (begun : List BegunCall) (calls : List AnsweredCall) (s : Index)
-    (limit : ℕ) → IsLegalHistory first begun calls s → IsQuiet s → CarryLimit limit begun →
+    (limit : ℕ) → IsLegalHistory first begun calls s → HasNoCalls s → CarryLimit limit begun →
     PlacesKeepLimit limit (callers_placed calls) s.history

@@ -20,7 +20,7 @@ use Rattle.node_ops.specs.declared.part.PartWords.{PartWords}
 use Rattle.node_ops.specs.Parts.{pairs_of}
 use Rattle.index_core.specs.Indexes.{Index}
 use Rattle.index_core.specs.LegalRounds.{placed_record}
-use Rattle.index_core.specs.Lone.{IsQuiet}
+use Rattle.index_core.specs.Lone.{HasNoCalls}
 use Rattle.index_core.specs.Schedules.{BegunCall, AnsweredCall, IsLegalHistory}
 
 -- A record, and the numbers of the answered calls that it tells of, in their order.
@@ -116,6 +116,6 @@ CarryOneLimit limit begun = All (λ c. c.limit ≡ option_map (λ change. limit)
 -- Once no call is in flight, what is told so is a legal round under that limit, whose writes are the history.
 abbrev pub LegalHistoryIsToldRound : Type 0
 LegalHistoryIsToldRound = (first : Index) (begun : List BegunCall) (calls : List AnsweredCall) (s : Index)
-    (limit : ℕ) (told : List Told) → IsLegalHistory first begun calls s → IsQuiet s → CarryOneLimit limit begun →
+    (limit : ℕ) (told : List Told) → IsLegalHistory first begun calls s → HasNoCalls s → CarryOneLimit limit begun →
     AreTold calls told →
     IsLegalRound (map_of first.base) (map call_of (records_told told)) limit (records_told told) s.history
