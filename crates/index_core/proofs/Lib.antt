@@ -13,6 +13,7 @@ pub mod PartFacts
 pub mod Ranges
 pub mod Freeing
 pub mod GetLoads
+pub mod UnwornReads
 pub mod Stepping
 pub mod Reading
 pub mod Crashing

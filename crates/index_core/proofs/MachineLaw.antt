@@ -56,6 +56,7 @@ use Rattle.index_core.proofs.Stepping.{may_do, step_facts, start_keeps, reindex_
 use Rattle.node_ops.specs.Endings.{GoesOn}
 use Rattle.node_ops.proofs.Endings.{turns_keep_place, last_counts_nothing}
 use Rattle.index_core.proofs.Endings.{EndsWith, ends_with}
+use Rattle.index_core.proofs.UnwornReads.{worn_if_writes}
 
 -- what a sound machine asks names a place that an action may name
 ready_to : (l : Layout) (g : ℕ) (m : Running) → 0 < l.nodes → Sound l g m → IsWithin l (stage_of m) → IsReady l g m
@@ -127,6 +128,7 @@ machine_law s i e m is there flies =
       counts = step.counts;
       lists = step.lists;
       says = says_of s.layout s.generation (facts (world new)) e m (told s m) of step.fits step.owns (step.legal s.spare);
+      worn = worn_if_writes m (told s m) step.fits;
       legal = step.legal s.spare;
       hears = step.hears;
       no_epoch = step_is_no_epoch step.is_step;

@@ -1,5 +1,5 @@
 -- What an answer says of the map and the history.
-use Rattle.std.specs.Prelude.{◌≡◌, ℕ, ◌<◌, ◌≤◌, List, length, slice_get, Option, Some, None, IfSome, IsSomeAnd}
+use Rattle.std.specs.Prelude.{◌≡◌, ◌≢◌, ℕ, ◌<◌, ◌≤◌, List, length, slice_get, Option, Some, None, IfSome, IsSomeAnd}
 use Rattle.std.specs.FinMap.{len}
 use Rattle.pm_words.specs.declared.again.Again.TheVariants.{NoFree}
 use Rattle.cat_history.specs.Maps.{Map, at}
@@ -56,6 +56,11 @@ IsAnswerOf slots base history state op limit (once.Spent clock) = WasReached sta
 IsAnswerOf slots base history state op limit (once.Worn node word) = Unit {0}
 IsAnswerOf slots base history state op limit (once.Again why) =
     why ≡ NoFree → IsPutOp op × FoundNoRoom slots base history state.since (length history) (name_asked op)
+
+-- Only a put or a delete is answered that its node is worn.
+abbrev pub WornIfWrites : NameOp → Option (Once Placed) → Type 0
+WornIfWrites op (Some (once.Worn node word)) = change_of op ≢ None
+WornIfWrites op _ = Unit {0}
 
 -- What a step of it is answered, if it is.
 abbrev pub SaysOf : ℕ → Map → List Write → PartyState → NameOp → Option ℕ → Option (Once Placed) → Type 0

@@ -40,7 +40,7 @@ use Rattle.permutation_law.specs.Permuted.{Permuted, IsPermuted}
 use Rattle.index_core.specs.declared.party.CoreCall.{CoreCall}
 use Rattle.index_core.specs.declared.party.PartyState.{PartyState}
 use Rattle.index_core.specs.declared.party.Stepped.{Stepped}
-use Rattle.index_core.specs.Answers.{SaysOf}
+use Rattle.index_core.specs.Answers.{SaysOf, WornIfWrites}
 use Rattle.index_core.specs.Heard.{HearsOn}
 use Rattle.index_core.specs.CoreCalls.{machine_of, op_of}
 use Rattle.index_core.specs.Listings.{ListsAt}
@@ -259,6 +259,7 @@ pub record TurnsTo (old : Index) (party : ℕ) (new : Index) (result : Option (O
   -- an answer is the map's, a write that took place stands in the history, and a refusal has its cause
   pub says : SaysOf new.layout.slots (map_of new.base) new.history state (op_in machine) (running_call machine).limit
       result
+  pub worn : WornIfWrites (op_in machine) result
   -- where it has a listing, and is told its version word again, that is the map's as it was at its place
   pub lists : ListsAt new.layout (facts (world new)) machine (told old machine)
   -- it has fewer actions left

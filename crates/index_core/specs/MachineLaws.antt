@@ -30,7 +30,7 @@ use Rattle.index_law.specs.Worlds.{facts}
 use Rattle.index_law.specs.Weights.{weight_sum}
 use Rattle.index_core.specs.declared.party.CoreCall.{CoreCall}
 use Rattle.index_core.specs.declared.party.PartyState.{PartyState}
-use Rattle.index_core.specs.Answers.{SaysOf}
+use Rattle.index_core.specs.Answers.{SaysOf, WornIfWrites}
 use Rattle.index_core.specs.Heard.{HearsOn}
 use Rattle.index_core.specs.Listings.{ListsAt}
 use Rattle.index_core.specs.CoreCalls.{machine_of}
@@ -102,6 +102,7 @@ pub record MachineLaw (s : Index) (party : ℕ) (state : PartyState) (machine : 
   pub says : SaysOf s.layout.slots (map_of s.base) (stepped_index s party state machine s.spare).history state
       (op_in machine) (running_call machine).limit
       (reply_of (running_turned machine (told s machine)))
+  pub worn : WornIfWrites (op_in machine) (reply_of (running_turned machine (told s machine)))
   -- an answer is legal in the words of stages, too: the version word that turned it back or was worn
   pub legal : IsLegal s.layout s.generation (facts (world (stepped_index s party state machine s.spare))) state.caller
       state.index state.since (stage_of machine) (reply_of (running_turned machine (told s machine)))

@@ -17,7 +17,7 @@ use Rattle.index_core.specs.declared.party.PartyState.{PartyState}
 use Rattle.call_stages.specs.declared.once.Once.{Once}
 use Rattle.call_stages.specs.declared.once.Placed.{Placed}
 use Rattle.index_core.specs.Listings.{ListsAt}
-use Rattle.index_core.specs.Answers.{SaysOf}
+use Rattle.index_core.specs.Answers.{SaysOf, WornIfWrites}
 use Rattle.index_core.specs.Heard.{HearsOn}
 use Rattle.index_core.specs.PartyStates.{state_after, owed}
 use Rattle.pm_words.specs.declared.action.Action.{Action}
@@ -30,6 +30,7 @@ use Rattle.index_core.proofs.Lists.{read_is}
 use Rattle.index_core.proofs.PartyPlaces.{holds_in, told_of}
 use Rattle.index_core.proofs.Reading.{Reads, reads, Leaves, leaves}
 use Rattle.index_core.proofs.Stepping.{adds_if_counts, count_room}
+use Rattle.index_core.proofs.UnwornReads.{worn_if_writes}
 use Rattle.index_core.proofs.index.Core.step_call.Goals.{After-running-machine}
 use Rattle.index_core.proofs.index.Core.step_call.Goals as goal
 
@@ -160,6 +161,7 @@ returns-clause-turned g c =
       says = subst (λ (r : Option (Once Placed)). SaysOf new.layout.slots (map_of new.base) new.history e (op_in m) (running_call m).limit r) (sym (answers_at g c))
           (subst (λ (v : Index). SaysOf v.layout.slots (map_of v.base) v.history e (op_in m) (running_call m).limit (reply_of (running_turned m (told s m)))) (sym (left.same n))
           (says_of s.layout s.generation (facts (world (stepped_index s i e m n))) e m (told s m) at.of at.sound.here at.facts.owns (at.facts.legal n)));
+      worn = subst (WornIfWrites (op_in m)) (sym (answers_at g c)) (worn_if_writes m (told s m) at.facts.fits);
       lists = subst (λ (v : Index × Index). ListsAt v.0.layout (facts (world v.0)) m (told v.1 m)) (λ k. (sym (left.same n) k, c.self.view_is k)) at.facts.lists;
       fewer = subst (λ (v : Index). GoesBelow running_left (running_left m) (running_turned m (told v m))) c.self.view_is
           (subst (λ (n : ℕ). GoesBelow running_left (running_left m) (running_turned m n)) (told_at g c)
