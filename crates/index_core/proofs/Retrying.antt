@@ -48,7 +48,7 @@ use Rattle.updater.specs.declared.terms.Turned.{Turned}
 use Rattle.index_core.specs.declared.party.PartyState.{PartyState}
 use Rattle.index_core.specs.declared.party.CoreCall.{CoreCall}
 use Rattle.index_core.specs.declared.party.CoreCall.TheVariants as call
-use Rattle.index_core.specs.CoreCalls.{op_of, limit_of, count_of}
+use Rattle.index_core.specs.CoreCalls.{IsGetCall, op_of, limit_of, count_of}
 use Rattle.index_core.specs.PartyStates.{party_of}
 use Rattle.lone_hops_law.proofs.Short.{empty_is_short}
 use Rattle.index_core.specs.Indexes.{Index, IsIndex, layered, map_of_index, world}
@@ -822,7 +822,7 @@ tried_takes s0 s i c answer tries t = of t.before tries t.begun t.each t.locks
     of v n at_first each locks = (each, locks)
     of v n (behind_turn o sweeps) each locks = ((λ k. let a = o.each k in let b = each k in omega (arith, a, b)), (let a = o.locks in omega (arith, a, locks)))
 
--- one that was turned back, or has split its node, is made again
+-- one that was turned back, or has split its node, is made again, and so is no get
 tried_is_again : (s0 s : Index) (i : ℕ) (c : CoreCall) (answer : Once Placed) (tries : ℕ) → Tried s0 s i c answer tries → Lacks answer ⊎ (needs_split answer ≡ true) → IsMadeAgain i c s0
 tried_is_again s0 s i c answer tries t back = of t.before tries t.begun t.index_before t.still_before.calls t.last
   where
@@ -832,6 +832,15 @@ tried_is_again s0 s i c answer tries t back = of t.before tries t.begun t.index_
         (λ (split : needs_split answer ≡ true). full_again_if s0 i c (rests s0 is idle) (split_is_full (world s0) (world s) c (party_of u.state) answer u.answered split))
         back
     of v n (behind_turn o sweeps) is idle u = o.waits.again
+
+pub again_is_no_get : (s0 s : Index) (i : ℕ) (c : CoreCall) (answer : Once Placed) (tries : ℕ) → Tried s0 s i c answer tries → Lacks answer ⊎ (needs_split answer ≡ true) → IsGetCall c → ⊥
+again_is_no_get s0 s i c answer tries t back get = gets_once i s0 c get (tried_is_again s0 s i c answer tries t back)
+
+pub line_is_no_get : (s0 s : Index) (i : ℕ) (c : CoreCall) (answer : Once Placed) → HasItsLine s0 s i c answer → lacks_node answer ≡ true → IsGetCall c → ⊥
+line_is_no_get s0 s i c answer h lacks = again_is_no_get s0 s i c answer h.tries h.tried (inl (inr lacks))
+
+pub node_is_no_get : (s0 s : Index) (i : ℕ) (c : CoreCall) (answer : Once Placed) → HasItsNode s0 s i c answer → needs_split answer ≡ true → IsGetCall c → ⊥
+node_is_no_get s0 s i c answer h split = again_is_no_get s0 s i c answer h.tries h.tried (inr split)
 
 -- So a call that is cut off behind such tries, and takes one lock of each node more, takes no more than an answered one.
 module _ (s0 s s' : Index) (i : ℕ) (c : CoreCall) (answer : Once Placed) (each : LoseAtMost 1 s s') (locks : locks_left s ≤ locks_left s' + 1) where

@@ -11,9 +11,9 @@ ghost use Rattle.std.specs.Prelude.{◌≡◌, ◌≢◌, ◌+◌, ◌<◌, ◌�
 ghost use Rattle.index_core.specs.declared.party.CoreCall.TheVariants as CoreCall;
 ghost use Rattle.index_core.specs.declared.party.Whole.TheVariants as Whole;
 ghost use Rattle.index_core.specs.declared.party.Within.TheVariants as Within;
-ghost use Rattle.index_core.specs.CoreCalls.{IfRecheck, IfTurn, MayBegin, MayStart, count_of, most_writes};
+ghost use Rattle.index_core.specs.CoreCalls.{IfRecheck, IfTurn, IsGetCall, MayBegin, MayStart, count_of, most_writes};
 ghost use Rattle.index_core.specs.Costs.{WithMost, turn_actions};
-ghost use Rattle.index_core.specs.Indexes.{IsIndex};
+ghost use Rattle.index_core.specs.Indexes.{IsIndex, KeepsWords};
 ghost use Rattle.index_core.specs.Lone.{HasShortWays, IsQuiet, IsStill, part_whole, whole_of};
 ghost use Rattle.index_core.specs.Rechecks.{CutsRecheckOff, RechecksAlone, same_whole};
 ghost use Rattle.index_core.specs.Turns.{IsTurnedAnd, StartsTurn, TurnsAlone};
@@ -35,7 +35,8 @@ impl Core {
     /// A whole call of a party, with no other in flight, as `run_alone` makes it, within a budget of events, of which
     /// it takes one for each that it makes. It is `Unstarted` exactly where the budget was 0, and then nothing changes.
     /// It is `Cut` only where the budget is used up: then the call is in flight, or a turn of the updater is that it
-    /// wanted, by the same party, and it has taken no more locks than one that is answered.
+    /// wanted, by the same party, and it has taken no more locks than one that is answered. A get changes no word,
+    /// whatever it comes to.
     ///
     /// A turn of another party may have stopped under the updater lock: beside it each turn is `Cut`, and each call
     /// that wants one. So a turn is `Turned`, and a put `Full`, only with nothing else in flight; and where a turn is
@@ -69,6 +70,7 @@ impl Core {
             (λ whole. RechecksAlone self.old node version self.new whole)
             (CutsRecheckOff self.old caller node version self.new)
             (self.new ≡ self.old)) }
+        ensures reads { IsGetCall call → KeepsWords self.old self.new }
         ensures budget { EndsWithin result (λ whole. 0 < budget.old) ((0 < budget.old) ×
             (budget.new ≡ 0)) (budget.old ≡ 0) }
         ensures events { steps.new + budget.new ≡ steps.old + budget.old }
@@ -114,6 +116,7 @@ impl Core {
         requires still { IsStill caller self.old }
         ensures runs { ComesTo result (λ answer. RanAlone self.old caller call self.new (whole_of answer))
             (CutsOff self.old caller call self.new) }
+        ensures reads { IsGetCall call → KeepsWords self.old self.new }
         ensures spent { result ≡ None → budget.new ≡ 0 }
         ensures events { steps.new + budget.new ≡ steps.old + budget.old }
         ensures in_time { WithMost self.old caller call (ComesInTime result budget.old steps.old steps.new) }
@@ -279,6 +282,7 @@ impl Core {
         requires still { IsStill caller self.old }
         ensures tries { ComesTo result (λ answer. TriedAlone self.old caller call.now self.new answer)
             (CutsTryOff self.old caller call.now self.new) }
+        ensures reads { IsGetCall call.now → KeepsWords self.old self.new }
         ensures spent { result ≡ None → budget.new ≡ 0 }
         ensures events { steps.new + budget.new ≡ steps.old + budget.old }
         ensures in_time { TriesInTime self.old call.now result budget.old steps.old steps.new }

@@ -8,13 +8,14 @@ use Rattle.index_core.specs.Costs.{most_actions}
 use Rattle.index_core.specs.CoreCalls.{count_of}
 use Rattle.index_core.specs.Indexes.{Index, IsIndex, world}
 use Rattle.index_core.specs.Lone.{HasNoCalls, HasShortWays, NeedsNoTurn, TriesAlone, lacks_line, lacks_node, needs_split, whole_of}
-use Rattle.index_core.specs.Withins.{TriedAlone, TriesInTime}
+use Rattle.index_core.specs.Withins.{RanAlone, TriedAlone, TriesInTime}
 use Rattle.index_core.specs.declared.party.CoreCall.{CoreCall}
 use Rattle.index_core.proofs.Alone.{ran_runs, ran_each, ran_locks, full_runs, full_again, counted_each, counted_locks}
 use Rattle.index_core.proofs.Alone.{ran_quiet, ran_still}
 use Rattle.index_core.proofs.Retrying.{HasItsLine, HasItsNode, RanAll, Tried, tried_first, line_at_once, line_behind_turn}
 use Rattle.index_core.proofs.Retrying.{node_at_once, node_behind_turn, answered_at_once, ran_once, ran_twice}
 use Rattle.index_core.proofs.Retrying.{takes_behind_line, takes_behind_node, takes_behind_split, twice_answered}
+use Rattle.index_core.proofs.Retrying.{again_is_no_get, line_is_no_get, node_is_no_get}
 use Rattle.index_core.proofs.Withins.{Stood, stood_first, stood_behind, stood_again, stood_spare, cut_behind}
 use Rattle.index_core.proofs.Withins.{back_line, back_node, back_split}
 use Rattle.index_core.proofs.Costs.{needs_none}
@@ -277,6 +278,32 @@ returns-in-Again-clause-runs g c =
       locks = counted_locks s0 c.if-needs_split.self i d c.count_call.new.self c.count_call.ensures.counts (ran_locks _ _ _ _ _ all.tries all.ran all.few);
     }
 
+-- a get isn't made again
+pub returns-in_default-try_behind_turn_within-clause-reads : goal.returns-in_default-try_behind_turn_within-clause-reads
+returns-in_default-try_behind_turn_within-clause-reads g c = λ get.
+    let lacks = sym c.lacks_line.ensures ∙ c.if-lacks_line.true in
+    let one = first g (goal.at.returns-in_default-try_behind_turn_within-clause-reads g c).After-lacks_line in
+    absurd (again_is_no_get c.args.self.now c.try_within.new.self c.args.caller c.args.call c.in-Some.answer 0 one.1 (inl (inl lacks)) get)
+
+pub returns-in_default-try_behind_turn_within-2-clause-reads : goal.returns-in_default-try_behind_turn_within-2-clause-reads
+returns-in_default-try_behind_turn_within-2-clause-reads g c = λ get.
+    let at = goal.at.returns-in_default-try_behind_turn_within-2-clause-reads g c in
+    let lacks = sym c.lacks_node.ensures ∙ c.if-lacks_node.true in
+    let one = line g at.After-lacks_node (first g at.After-lacks_line) in
+    absurd (line_is_no_get c.args.self.now c.if-lacks_line.self c.args.caller c.args.call c.if-lacks_line.answer one.1 lacks get)
+
+pub returns-in_default-try_within-clause-reads : goal.returns-in_default-try_within-clause-reads
+returns-in_default-try_within-clause-reads g c = λ get.
+    let at = goal.at.returns-in_default-try_within-clause-reads g c in
+    let split = sym c.needs_split.ensures ∙ c.if-needs_split.true in
+    let one = node g at.After-needs_split (line g at.After-lacks_node (first g at.After-lacks_line)) in
+    absurd (node_is_no_get c.args.self.now c.if-lacks_node.self c.args.caller c.args.call c.if-lacks_node.answer one.1 split get)
+
+pub returns-in-Again-clause-reads : goal.returns-in-Again-clause-reads
+returns-in-Again-clause-reads g c = λ get.
+    let ran : RanAlone c.args.self.now c.args.caller c.args.call c.count_call.new.self (whole_of c.if-needs_split.answer) = returns-in-Again-clause-runs g c in
+    (ran.runs.reads get).words
+
 pub returns-in_default-try_within-clause-events : goal.returns-in_default-try_within-clause-events
 returns-in_default-try_within-clause-events g c =
     let at = goal.at.returns-in_default-try_within-clause-events g c in
@@ -347,6 +374,7 @@ returns-in_default-answer g c =
         each_lock = ran_each _ _ _ _ _ all.tries all.ran all.few;
         locks = ran_locks _ _ _ _ _ all.tries all.ran all.few;
       };
+      reads = λ get. (runs.reads get).words;
       spent = λ none. cc;
       events = events_last s0 _ _ i d _ _ _ _ _ _ _ (node_events g at.After-needs_split (line_events g at.After-lacks_node)) last;
       in_time = λ short none.

@@ -27,6 +27,9 @@ pub returns-then-budget-eq0-clause-in_time : goal.returns-then-budget-eq0-clause
 returns-then-budget-eq0-clause-in_time g c =
     cut_in_time (Once Placed) c.args.self.now c.steps.self c.args.caller c.args.call.now c.steps.invariant.0 c.args.budget.now c.args.steps.now c.steps.steps c.steps.invariant.2 (omega (arith, c.steps.invariant.1, c.if-budget-eq0.true))
 
+pub returns-then-budget-eq0-clause-reads : goal.returns-then-budget-eq0-clause-reads
+returns-then-budget-eq0-clause-reads g c = c.steps.invariant.0.reads
+
 pub step_call-requires : goal.step_call-requires
 step_call-requires g c = record { flies = lone_flies _ _ _ _ c.steps.invariant.0 }
 
@@ -43,6 +46,11 @@ returns-in-Some-clause-tries g c =
       each_lock = lone_each c.args.self.now c.steps.self c.step_call.new.self c.args.caller c.args.call.now c.step_call.result o (turns_on t.turned t.index t.spare.all) c.in-Some.answer c.in-Some.is;
       locks = lone_locks c.args.self.now c.steps.self c.step_call.new.self c.args.caller c.args.call.now c.step_call.result o (turns_on t.turned t.index t.spare.all) c.in-Some.answer c.in-Some.is;
     }
+
+pub returns-in-Some-clause-reads : goal.returns-in-Some-clause-reads
+returns-in-Some-clause-reads g c =
+    let t = c.step_call.ensures in
+    (lone_tries c.args.self.now c.steps.self c.step_call.new.self c.args.caller c.args.call.now c.step_call.result c.steps.invariant.0 (turns_on t.turned t.index t.spare.all) c.in-Some.answer c.in-Some.is).reads
 
 pub returns-in-Some-clause-in_time : goal.returns-in-Some-clause-in_time
 returns-in-Some-clause-in_time g c =
