@@ -46,6 +46,13 @@ AppendsPart-kept a b c text done rest split h kept more =
     let front : done ≡ take (length done) text = sym (ap (take (length done)) split ∙ take-append_seam done rest) in
     (length done, omega (arith, ap length split, length-append done rest), subst (Appends a c) front (Appends-kept a b c done h kept))
 
+-- what stays steady over two stretches of calls does so over both
+pub steady-on : (a b c : Type 0) (p q r : ℕ) → (a → b × (q ≡ p)) → (b → c × (r ≡ q)) → a → c × (r ≡ p)
+steady-on a b c p q r first second calm =
+    let then = first calm in
+    let end = second then.0 in
+    (end.0, end.1 ∙ then.1)
+
 -- what holds holds of an `Err`
 pub OnErr-holds : {T E : Type 0} (r : Result T E) (P : Type 0) → P → OnErr r P
 OnErr-holds (Ok value) P p = tt

@@ -47,6 +47,8 @@ impl<R: Read> Source for Counted<R> {
 
     ghost faults = { λ s. s.1 };
 
+    ghost steady = { λ _. ⊥ };
+
     fn read(&mut self, into: &mut [u8]) -> Result<usize, Failed> {
         match self.inner.read(into) {
             Ok(taken) => Ok(taken),
@@ -62,6 +64,8 @@ impl<W: Write> Sink for Counted<W> {
     ghost written = { λ s. W.contents s.0 };
 
     ghost faults = { λ s. s.1 };
+
+    ghost steady = { λ _. ⊥ };
 
     fn write(&mut self, piece: &[u8]) -> Result<usize, WriteFault> {
         match self.inner.write(piece) {
@@ -79,6 +83,8 @@ impl<R: Files + AllocGlobal> Shelf for Counted<R> {
     ghost files = { λ _. None };
 
     ghost faults = { λ s. s.1 };
+
+    ghost steady = { λ _. ⊥ };
 
     fn load(&mut self, name: &str) -> Result<Option<Vec<u8>>, LoadFault> {
         match read_file(&self.inner, name) {

@@ -61,6 +61,8 @@ impl Source for MemorySource {
 
     ghost faults = { λ s. s.plan.faults };
 
+    ghost steady = { λ s. s.plan.failing ≡ [] };
+
     fn read(&mut self, into: &mut [u8]) -> Result<usize, Failed>
         ensures fails { IsErr result ↔ IsNextToFail self.old.plan }
         ensures count { IfOk result (λ taken. taken ≡ min (min (length into.old) self.old.largest)
@@ -136,6 +138,8 @@ impl Sink for MemorySink {
     ghost written = { λ s. Some s.written };
 
     ghost faults = { λ s. s.plan.faults };
+
+    ghost steady = { λ s. s.plan.failing ≡ [] };
 
     fn write(&mut self, piece: &[u8]) -> Result<usize, WriteFault>
         ensures fails { (result ≡ Err OutsideFault.Failed) ↔ IsNextToFail self.old.plan }

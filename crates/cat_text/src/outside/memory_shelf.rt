@@ -1,5 +1,5 @@
 //! A shelf in memory, whose calls fail by a plan.
-ghost use Rattle.std.specs.Prelude.{◌≡◌, ◌≢◌, ◌↔◌, Some, IfOk, OnOk, OnErr};
+ghost use Rattle.std.specs.Prelude.{◌≡◌, ◌≢◌, ◌↔◌, [], Some, IfOk, OnOk, OnErr};
 ghost use Rattle.std.specs.FinMap.{empty, get, insert};
 ghost use Rattle.cat_text.specs.OutsideMemory.{IsNextToFail, after_call, after_fault};
 ghost use Rattle.cat_text.specs.Shelves.{content};
@@ -53,6 +53,8 @@ impl Shelf for MemoryShelf {
     ghost files = { λ s. Some s.files };
 
     ghost faults = { λ s. s.plan.faults };
+
+    ghost steady = { λ s. s.plan.failing ≡ [] };
 
     fn load(&mut self, name: &str) -> Result<Option<Vec<u8>>, LoadFault>
         ensures fails { (result ≡ Err OutsideFault.Failed) ↔ IsNextToFail self.old.plan }

@@ -13,11 +13,13 @@ pub type SaveFault = OutsideFault;
 /// Files by name.
 ///
 /// `files` is the bytes of each file by its name, for a shelf that tells them; such a shelf tells them after each call
-/// too. `faults` counts the calls that failed.
+/// too. `faults` counts the calls that failed, and `steady` says that none of those to come is to fail.
 pub trait Shelf {
     ghost files: { Self → Option FileMap };
 
     ghost faults: { Self → ℕ };
+
+    ghost steady: { Self → Type 0 };
 
     /// The bytes of the file of this name; None where there is no such file. The files stay as they are, whatever the
     /// answer is.
@@ -26,7 +28,8 @@ pub trait Shelf {
         ensures keeps { KeepsFiles (files self.old) (files self.new) }
 
         ensures counted { result ≡ Err OutsideFault.Failed → faults self.old < faults self.new }
-        ensures never_falls { faults self.old ≤ faults self.new };
+        ensures never_falls { faults self.old ≤ faults self.new }
+        ensures stays_steady { steady self.old → steady self.new × (faults self.new ≡ faults self.old) };
 
     /// Gives the file of this name these bytes, and makes it where there is none. No other file changes, whatever the
     /// answer is.
@@ -38,5 +41,6 @@ pub trait Shelf {
         ensures no_memory { result ≡ Err OutsideFault.NoMemory → KeepsFiles (files self.old) (files self.new) }
 
         ensures counted { result ≡ Err OutsideFault.Failed → faults self.old < faults self.new }
-        ensures never_falls { faults self.old ≤ faults self.new };
+        ensures never_falls { faults self.old ≤ faults self.new }
+        ensures stays_steady { steady self.old → steady self.new × (faults self.new ≡ faults self.old) };
 }

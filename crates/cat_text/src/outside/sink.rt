@@ -11,11 +11,14 @@ pub type WriteFault = OutsideFault;
 /// Bytes that are written in order.
 ///
 /// `written` is the bytes that the sink has taken, where it tells them; such a sink tells them
-/// after each call too. `faults` counts the calls that failed.
+/// after each call too. `faults` counts the calls that failed, and `steady` says that none of those
+/// to come is to fail.
 pub trait Sink {
     ghost written: { Self → Option (List ℕ) };
 
     ghost faults: { Self → ℕ };
+
+    ghost steady: { Self → Type 0 };
 
     /// Takes bytes from the front of the piece, and answers how many: at least one, where the
     /// piece has one.
@@ -26,7 +29,8 @@ pub trait Sink {
 
         ensures keeps { OnErr result (Keeps (written self.old) (written self.new)) }
         ensures counted { result ≡ Err OutsideFault.Failed → faults self.old < faults self.new }
-        ensures never_falls { faults self.old ≤ faults self.new };
+        ensures never_falls { faults self.old ≤ faults self.new }
+        ensures stays_steady { steady self.old → steady self.new × (faults self.new ≡ faults self.old) };
 }
 
 /// Writes a whole text, in as many writes as the sink needs. After an error the sink has a front
@@ -36,6 +40,7 @@ pub fn write_whole<K: Sink>(sink: &mut K, text: &[u8]) -> Result<(), WriteFault>
     ensures part { OnErr result (AppendsPart (K.written sink.old) (K.written sink.new) text.now) }
     ensures failed { result ≡ Err OutsideFault.Failed → K.faults sink.old < K.faults sink.new }
     ensures never_falls { K.faults sink.old ≤ K.faults sink.new }
+    ensures stays_steady { K.steady sink.old → K.steady sink.new × (K.faults sink.new ≡ K.faults sink.old) }
 {
     let mut rest = text;
     while !rest.is_empty() {

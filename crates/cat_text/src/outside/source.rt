@@ -16,11 +16,14 @@ pub struct Failed;
 /// Bytes that are read in order, once.
 ///
 /// `left` is the bytes that reads have yet to give, for a source that tells them; such a source
-/// tells them after each call too. `faults` counts the calls that failed.
+/// tells them after each call too. `faults` counts the calls that failed, and `steady` says that
+/// none of those to come is to fail.
 pub trait Source {
     ghost left: { Self → Option (List ℕ) };
 
     ghost faults: { Self → ℕ };
+
+    ghost steady: { Self → Type 0 };
 
     /// Takes bytes from the front of those that are left into the front of the piece, and answers
     /// how many. It takes none only at the end, or where the piece has no room.
@@ -31,7 +34,8 @@ pub trait Source {
 
         ensures keeps { OnErr result (Keeps (left self.old) (left self.new)) }
         ensures counted { OnErr result (faults self.old < faults self.new) }
-        ensures never_falls { faults self.old ≤ faults self.new };
+        ensures never_falls { faults self.old ≤ faults self.new }
+        ensures stays_steady { steady self.old → steady self.new × (faults self.new ≡ faults self.old) };
 }
 
 /// Why a source was not read whole.
@@ -62,6 +66,7 @@ pub fn read_whole<S: Source>(
     // Whatever the answer.
     ensures takes { ConsumesAtMost (most + 1) (S.left source.old) (S.left source.new) }
     ensures never_falls { S.faults source.old ≤ S.faults source.new }
+    ensures stays_steady { S.steady source.old → S.steady source.new × (S.faults source.new ≡ S.faults source.old) }
 {
     let Ok(mut piece) = vec![in alloc; 0u8; PIECE_BYTES] else {
         return Err(ReadFault::NoMemory);
@@ -92,6 +97,7 @@ fn read_piece<S: Source>(
     ensures failed { result ≡ Err ReadFault.Failed → S.faults source.old < S.faults source.new }
     ensures unbounded { result ≢ Err ReadFault.TooLong }
     ensures never_falls { S.faults source.old ≤ S.faults source.new }
+    ensures stays_steady { S.steady source.old → S.steady source.new × (S.faults source.new ≡ S.faults source.old) }
 {
     let asked = piece.len().min(room);
     let Ok(taken) = source.read(&mut piece[..asked]) else {

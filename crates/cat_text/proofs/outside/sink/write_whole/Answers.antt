@@ -1,7 +1,7 @@
 use Rattle.std.proofs.Common.{◌≡◌, ℕ, ◌-◌, List, ◌++◌, rules, arith, length, take, drop, sym, ap, ◌∙◌, append_assoc, take-append-drop}
 use Rattle.std.proofs.lemmas.List.{take_rest}
 use Rattle.std.proofs.KnownBytes.{Appends-trans}
-use Rattle.cat_text.proofs.OutsideLemmas.{AppendsPart-kept, OnErr-holds}
+use Rattle.cat_text.proofs.OutsideLemmas.{AppendsPart-kept, OnErr-holds, steady-on}
 use Rattle.cat_text.proofs.outside.sink.write_whole.Goals as goal
 
 -- n more bytes are done, and the rest begins after them
@@ -19,6 +19,7 @@ loop-rest-preserved g c =
     let written = c.in_ok-taken.ensures in (
       (done ++ take n rest, moves_front _ done rest n split, Appends-trans _ _ _ _ _ appended written.appends),
       omega (arith, written.never_falls, c.loop-rest.invariant.1),
+      steady-on _ _ _ _ _ _ c.loop-rest.invariant.2 written.stays_steady,
     )
 
 pub returns-in_err-taken-clause-part : goal.returns-in_err-taken-clause-part

@@ -7,6 +7,7 @@ abbrev pub invariant-loop-rest : goal.invariant-loop-rest
 invariant-loop-rest g l =
     ((done : List ℕ) × (l.fn.text ≡ done ++ l.rest) × Appends (g.K.Sink.written l.fn.sink) (g.K.Sink.written l.sink) done)
     × (g.K.Sink.faults l.fn.sink ≤ g.K.Sink.faults l.sink)
+    × (g.K.Sink.steady l.fn.sink → g.K.Sink.steady l.sink × (g.K.Sink.faults l.sink ≡ g.K.Sink.faults l.fn.sink))
 
 abbrev pub decreases-loop-rest : goal.decreases-loop-rest
 decreases-loop-rest g l = length l.rest

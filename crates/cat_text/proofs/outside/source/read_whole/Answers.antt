@@ -1,10 +1,10 @@
-use Rattle.std.proofs.Common.{arith}
+use Rattle.std.proofs.Common.{arith, refl}
 use Rattle.std.proofs.KnownBytes.{Consumes-nil}
-use Rattle.cat_text.proofs.OutsideLemmas.{Consumes-moved, length-moved, ConsumesAtMost-more, Consumes-whole, Consumes-nothing_left, Consumes-longer}
+use Rattle.cat_text.proofs.OutsideLemmas.{Consumes-moved, length-moved, steady-on, ConsumesAtMost-more, Consumes-whole, Consumes-nothing_left, Consumes-longer}
 use Rattle.cat_text.proofs.outside.source.read_whole.Goals as goal
 
 pub loop-text-init : goal.loop-text-init
-loop-text-init g c = (rw c.new-text.ensures.items (Consumes-nil _), omega arith, omega (arith, c.new-text.ensures.len), c.in-Ok.ensures.len)
+loop-text-init g c = (rw c.new-text.ensures.items (Consumes-nil _), omega arith, omega (arith, c.new-text.ensures.len), c.in-Ok.ensures.len, λ calm. (calm, refl))
 
 pub returns-in_err-taken-clause-takes : goal.returns-in_err-taken-clause-takes
 returns-in_err-taken-clause-takes g c =
@@ -35,7 +35,14 @@ loop-text-preserved g c =
       omega (arith, c.in_ok-taken.ensures.never_falls, c.loop-text.invariant.1),
       omega (arith, length-moved _ _ _ _ _ moved, c.in_ok-taken.ensures.within, c.loop-text.text.ok, c.read_piece.new.text.ok),
       c.loop-text.invariant.3,
+      steady-on _ _ _ _ _ _ c.loop-text.invariant.4 c.in_ok-taken.ensures.stays_steady,
     )
 
 pub returns-clause-too_long : goal.returns-clause-too_long
 returns-clause-too_long g c = λ _. Consumes-longer _ _ _ _ c.loop-text.invariant.0 (omega (arith, c.loop-text.text.ok))
+
+pub returns-in_err-taken-clause-stays_steady : goal.returns-in_err-taken-clause-stays_steady
+returns-in_err-taken-clause-stays_steady g c = steady-on _ _ _ _ _ _ c.loop-text.invariant.4 c.in_err-taken.ensures.stays_steady
+
+pub returns-then-taken-eq0-clause-stays_steady : goal.returns-then-taken-eq0-clause-stays_steady
+returns-then-taken-eq0-clause-stays_steady g c = steady-on _ _ _ _ _ _ c.loop-text.invariant.4 c.in_ok-taken.ensures.stays_steady

@@ -9,6 +9,7 @@ invariant-loop-text g l =
     × (g.S.Source.faults l.fn.source ≤ g.S.Source.faults l.source)
     × (vec_len l.text ≤ l.most + 1)
     × (vec_len l.piece ≡ 65536)
+    × (g.S.Source.steady l.fn.source → g.S.Source.steady l.source × (g.S.Source.faults l.source ≡ g.S.Source.faults l.fn.source))
 
 abbrev pub decreases-loop-text : goal.decreases-loop-text
 decreases-loop-text g l = l.most + 1 - vec_len l.text
