@@ -20,7 +20,7 @@ use Rattle.cat_script.specs.declared.script.Script.{Script}
 use Rattle.cat_script.specs.declared.script.ScriptLine.{ScriptLine}
 use Rattle.pm_words.specs.declared.layout.Layout.{Layout}
 use Rattle.cat_text.specs.Outside.{AppendsPart}
-use Rattle.catalog_cli.specs.Headline.{IsFileCause}
+use Rattle.catalog_cli.specs.Headline.{BlamesNoSteady, IsFileCause}
 use Rattle.catalog_cli.specs.Files.{FormatsSome, ListsSome, NamesFile, RunsScript}
 use Rattle.catalog_cli.specs.Headline.{ReadsScript, NamesCommand, LeavesShelf, LeavesSink, IsRefusalOf, IsScriptCause, IsCauseOf, HasNoReport, HasNoText, IsOfWords, Seen, TellsRefusal, FinishesAccepted, FinishesGenerated, PlaysScript, ReadsSome, GeneratesSome, PlaysSome, Prints, PrintsAll, PrintsPart, ReachesFile, ReadsFile, IsFileCause}
 use Rattle.catalog_cli.specs.Reports.{IsAccepted, HasFault, IsRefusedBy}
@@ -437,6 +437,15 @@ pub usage-exactly : (words : List (List ℕ)) (told : Seen) (writes writes' : �
     (answer ≡ status.Usage) ↔ ((command : Command) → ¬ IsCommand words command)
 usage-exactly words told writes writes' answer cause =
     (λ is. subst (IsCauseOf words told writes writes') is cause, of-no-form words told writes writes' answer cause)
+
+-- what is blamed had a call that failed, so it wasn't steady
+pub blames-no-steady : (source source' sink sink' shelf shelf' : Type 0) (words : List (List ℕ)) (told : Seen) (writes writes' : ℕ) (answer : Status) → (source → source' × (told.reads' ≡ told.reads)) →
+    (sink → sink' × (writes' ≡ writes)) → (shelf → shelf' × (told.shelves' ≡ told.shelves)) →
+    IsCauseOf words told writes writes' answer → BlamesNoSteady source sink shelf answer
+blames-no-steady source source' sink sink' shelf shelf' words told writes writes' status.Read reads write loads cause = λ calm. let same = (reads calm).1 in let rose = cause.1 in omega (arith, rose, same)
+blames-no-steady source source' sink sink' shelf shelf' words told writes writes' status.Write reads write loads cause = λ calm. let same = (write calm).1 in let rose = cause.1 in omega (arith, rose, same)
+blames-no-steady source source' sink sink' shelf shelf' words told writes writes' status.Shelf reads write loads cause = λ calm. let same = (loads calm).1 in let rose = cause.1 in omega (arith, rose, same)
+blames-no-steady source source' sink sink' shelf shelf' words told writes writes' _ reads write loads cause = tt
 
 -- ---- what is printed
 

@@ -285,6 +285,13 @@ IsCauseOf words told writes writes' status.Shelf =
 IsCauseOf words told writes writes' status.NoMemory = NamesCommand words
 IsCauseOf words told writes writes' (status.Image refusal) = IsFileCause words told.left told.files refusal
 
+-- The status blames no source, sink or shelf of which this holds.
+abbrev pub BlamesNoSteady : (source sink shelf : Type 0) → Status → Type 0
+BlamesNoSteady source sink shelf status.Read = ¬ source
+BlamesNoSteady source sink shelf status.Write = ¬ sink
+BlamesNoSteady source sink shelf status.Shelf = ¬ shelf
+BlamesNoSteady source sink shelf other = Unit {0}
+
 -- Why a command has nothing to print.
 abbrev pub HasNoText : List (List ℕ) → Seen → Status → Type 0
 HasNoText words told status.Done = ⊥

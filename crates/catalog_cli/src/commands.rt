@@ -5,9 +5,9 @@ ghost use Rattle.std.specs.String.{string_bytes};
 ghost use Rattle.cat_command.specs.Commands.{IsCommand};
 ghost use Rattle.cat_command.specs.declared.command.Command.{Command};
 ghost use Rattle.cat_text.specs.Outside.{ConsumesAtMost};
-ghost use Rattle.catalog_cli.specs.Headline.{HasNoReport, HasNoText, IsAfterReading, IsCauseOf, IsOfWords, IsRunOf};
-ghost use Rattle.catalog_cli.specs.Headline.{LeavesFiles, LeavesShelf, LeavesSink, PlaysSome, Prints, ReadsSome};
-ghost use Rattle.catalog_cli.specs.Headline.{WritesNothing, seen};
+ghost use Rattle.catalog_cli.specs.Headline.{BlamesNoSteady, HasNoReport, HasNoText, IsAfterReading, IsCauseOf};
+ghost use Rattle.catalog_cli.specs.Headline.{IsOfWords, IsRunOf, LeavesFiles, LeavesShelf, LeavesSink, PlaysSome};
+ghost use Rattle.catalog_cli.specs.Headline.{Prints, ReadsSome, WritesNothing, seen};
 ghost use Rattle.catalog_cli.specs.Refused.{IsOfNoCommand};
 ghost use Rattle.catalog_cli.specs.Reports.{IsReportOf, empty_opening};
 ghost use Rattle.catalog_cli.specs.Runs.{AreBytesLeft};
@@ -80,6 +80,13 @@ pub fn catalog<R: Threads + Wait + Sync, S: Source, K: Sink, H: Shelf, G: Gate>(
     ensures source_never_falls { S.faults script.old ≤ S.faults script.new }
     ensures sink_never_falls { K.faults out.old ≤ K.faults out.new }
     ensures shelf_never_falls { H.faults shelf.old ≤ H.faults shelf.new }
+
+    // What is steady stays so, and no call of it fails: no status says that it did.
+    ensures source_stays_steady { S.steady script.old →
+        S.steady script.new × (S.faults script.new ≡ S.faults script.old) }
+    ensures sink_stays_steady { K.steady out.old → K.steady out.new × (K.faults out.new ≡ K.faults out.old) }
+    ensures shelf_stays_steady { H.steady shelf.old → H.steady shelf.new × (H.faults shelf.new ≡ H.faults shelf.old) }
+    ensures blames { BlamesNoSteady (S.steady script.old) (K.steady out.old) (H.steady shelf.old) result }
 {
     run_command(rt, alloc, words, script, out, shelf, gate)
 }
@@ -113,6 +120,10 @@ fn run_command<R: Threads + Wait + Sync, S: Source, K: Sink, H: Shelf, G: Gate>(
     ensures source_never_falls { S.faults script.old ≤ S.faults script.new }
     ensures sink_never_falls { K.faults out.old ≤ K.faults out.new }
     ensures shelf_never_falls { H.faults shelf.old ≤ H.faults shelf.new }
+    ensures source_stays_steady { S.steady script.old →
+        S.steady script.new × (S.faults script.new ≡ S.faults script.old) }
+    ensures sink_stays_steady { K.steady out.old → K.steady out.new × (K.faults out.new ≡ K.faults out.old) }
+    ensures shelf_stays_steady { H.steady shelf.old → H.steady shelf.new × (H.faults shelf.new ≡ H.faults shelf.old) }
 {
     match text_of(rt, alloc, words, script, shelf, gate) {
         Err(status) => status,
@@ -155,6 +166,8 @@ fn text_of<R: Threads + Wait + Sync, S: Source, H: Shelf, G: Gate>(
     ensures takes { ConsumesAtMost (MOST_BYTES + 1) (S.left script.old) (S.left script.new) }
     ensures never_falls { S.faults script.old ≤ S.faults script.new }
     ensures shelf_never_falls { H.faults shelf.old ≤ H.faults shelf.new }
+    ensures stays_steady { S.steady script.old → S.steady script.new × (S.faults script.new ≡ S.faults script.old) }
+    ensures shelf_stays_steady { H.steady shelf.old → H.steady shelf.new × (H.faults shelf.new ≡ H.faults shelf.old) }
 {
     match asked_command(words)? {
         Command::Play { layout } => report_of(rt, alloc, layout, script, gate),
@@ -196,6 +209,7 @@ fn report_of<R: Threads + Wait + Sync, S: Source, G: Gate>(
         IfSome (S.left script.old) (λ _. S.left script.new ≡ Some [])) }
     ensures takes { ConsumesAtMost (MOST_BYTES + 1) (S.left script.old) (S.left script.new) }
     ensures never_falls { S.faults script.old ≤ S.faults script.new }
+    ensures stays_steady { S.steady script.old → S.steady script.new × (S.faults script.new ≡ S.faults script.old) }
     ensures refusal { IfErr result (HasNoReport layout.callers (S.left script.old) (S.faults script.old)
         (S.faults script.new)) }
 {

@@ -39,6 +39,7 @@ pub(crate) fn format_file<H: Shelf>(
     ensures refused { IfErr result (IsFormatRefused (H.files shelf.old) (H.files shelf.new) (H.faults shelf.old)
         (H.faults shelf.new) name.now layout) }
     ensures never_falls { H.faults shelf.old ≤ H.faults shelf.new }
+    ensures stays_steady { H.steady shelf.old → H.steady shelf.new × (H.faults shelf.new ≡ H.faults shelf.old) }
 {
     let line = print_formatted(alloc, layout)?;
     let bytes = Image::fresh(alloc, layout)?.write(alloc)?;
@@ -63,6 +64,7 @@ pub(crate) fn list_words<H: Shelf>(
         name.now) }
     ensures keeps { KeepsFiles (H.files shelf.old) (H.files shelf.new) }
     ensures never_falls { H.faults shelf.old ≤ H.faults shelf.new }
+    ensures stays_steady { H.steady shelf.old → H.steady shelf.new × (H.faults shelf.new ≡ H.faults shelf.old) }
 {
     let image = load_image(alloc, shelf, name)?;
     let text = print_words(alloc, &image, from, count)?;
@@ -80,6 +82,7 @@ pub(crate) fn load_image<H: Shelf>(
         name.now) }
     ensures keeps { KeepsFiles (H.files shelf.old) (H.files shelf.new) }
     ensures never_falls { H.faults shelf.old ≤ H.faults shelf.new }
+    ensures stays_steady { H.steady shelf.old → H.steady shelf.new × (H.faults shelf.new ≡ H.faults shelf.old) }
 {
     let Some(bytes) = shelf.load(name)? else {
         return Err(Status::Image(ImageRefusal::Missing));
@@ -99,6 +102,7 @@ pub(crate) fn save_image<H: Shelf>(
     ensures refused { IfErr result (IsSaveRefused (H.files shelf.old) (H.files shelf.new) (H.faults shelf.old)
         (H.faults shelf.new) name.now image.now) }
     ensures never_falls { H.faults shelf.old ≤ H.faults shelf.new }
+    ensures stays_steady { H.steady shelf.old → H.steady shelf.new × (H.faults shelf.new ≡ H.faults shelf.old) }
 {
     let bytes = image.write(alloc)?;
     shelf.save(name, &bytes)?;

@@ -35,6 +35,7 @@ pub(crate) fn read_source<S: Source>(alloc: Global, source: &mut S) -> Result<Sc
         IfSome (S.left source.old) (λ _. S.left source.new ≡ Some [])) }
     ensures takes { ConsumesAtMost (MOST_BYTES + 1) (S.left source.old) (S.left source.new) }
     ensures never_falls { S.faults source.old ≤ S.faults source.new }
+    ensures stays_steady { S.steady source.old → S.steady source.new × (S.faults source.new ≡ S.faults source.old) }
 {
     let bytes = read_whole(alloc, source, MOST_BYTES)?;
     let script = read_script(alloc, &bytes)?;

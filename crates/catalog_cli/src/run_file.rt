@@ -53,6 +53,8 @@ pub(crate) fn run_file<R: Threads + Wait + Sync, S: Source, H: Shelf, G: Gate>(
     ensures takes { ConsumesAtMost (MOST_BYTES + 1) (S.left source.old) (S.left source.new) }
     ensures never_falls { S.faults source.old ≤ S.faults source.new }
     ensures shelf_never_falls { H.faults shelf.old ≤ H.faults shelf.new }
+    ensures stays_steady { S.steady source.old → S.steady source.new × (S.faults source.new ≡ S.faults source.old) }
+    ensures shelf_stays_steady { H.steady shelf.old → H.steady shelf.new × (H.faults shelf.new ≡ H.faults shelf.old) }
 {
     let script = read_source(alloc, source)?;
     let image = load_image(alloc, shelf, name)?;

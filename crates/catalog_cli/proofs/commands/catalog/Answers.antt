@@ -1,5 +1,5 @@
 use Rattle.catalog_cli.proofs.FileOutcomes.{finishes-on-file, tells-file, tells-run}
-use Rattle.catalog_cli.proofs.Outcomes.{tells, finishes, finishes-generated, usage-exactly}
+use Rattle.catalog_cli.proofs.Outcomes.{blames-no-steady, tells, finishes, finishes-generated, usage-exactly}
 use Rattle.catalog_cli.specs.Headline.{Seen, seen}
 use Rattle.catalog_cli.proofs.commands.catalog.Goals as goal
 
@@ -26,3 +26,8 @@ returns-clause-run g c =
       file_refused = tells-file _ (told g c) _ _ _ _ ran.result ran.ensures.sink cause;
       file_done = finishes-on-file _ (told g c) _ _ ran.result cause;
     }
+
+pub returns-clause-blames : goal.returns-clause-blames
+returns-clause-blames g c =
+    let ran = c.run_command in
+    blames-no-steady _ _ _ _ _ _ _ (told g c) _ _ ran.result ran.ensures.source_stays_steady ran.ensures.sink_stays_steady ran.ensures.shelf_stays_steady ran.ensures.cause
