@@ -9,6 +9,10 @@ use Rattle.index_core.specs.PartyStates.{next_index}
 use Rattle.pac_index.specs.declared.caller.Caller.{Caller}
 use Rattle.pac_index.specs.declared.caller.CutCall.{CutCall}
 use Rattle.pac_index.specs.declared.rule.Member.{Member}
+use Rattle.pac_index.specs.declared.tried.Tried.{Tried}
+use Rattle.pac_index.specs.declared.tried.Tried.TheVariants as tried
+use Rattle.pac_index.specs.declared.tried.TriedTurn.{TriedTurn}
+use Rattle.pac_index.specs.declared.tried.TriedTurn.TheVariants as turn
 use Rattle.pac_index.specs.Budgets.{CutsOff, Pays, StopsAt, place_in}
 use Rattle.pac_index.specs.Callers.{IsAtRest, seen_by, spare_of}
 use Rattle.pac_index.specs.Calls.{counted_index, own_at}
@@ -44,6 +48,14 @@ pub record IsCutTry (call : CoreCall) (old new : Caller) : Type 0 where
   pub index : new.index ≡ old.index
   pub cut : (new ≡ old) ⊎ StopsTry call old new
   pub spare : spare_of old ≤ spare_of new + length (own_cut old call new)
+
+-- A caller without a step left is answered that its try was cut off, and nothing of it changes.
+abbrev pub IsStoppedTry : {T : Type 0} → Caller → Tried T → Caller → Type 0
+IsStoppedTry old answer new = old.left ≡ Some 0 → (answer ≡ tried.Cut) × (new ≡ old)
+
+-- So it is with a try of a turn.
+abbrev pub IsStoppedTurn : Caller → TriedTurn → Caller → Type 0
+IsStoppedTurn old answer new = old.left ≡ Some 0 → (answer ≡ turn.Cut) × (new ≡ old)
 
 -- What a call leaves of its caller that has ended, and isn't made again.
 pub record HasEnded (holds : Member → Member → Type 0) (old new : Caller) : Type 0 where

@@ -9,7 +9,7 @@ ghost use Rattle.pm_words.specs.declared.again.Again.TheVariants as again;
 ghost use Rattle.call_stages.specs.declared.once.Once.TheVariants as once;
 ghost use Rattle.index_core.specs.MachineLaws.{place_told};
 ghost use Rattle.pac_index.specs.declared.tried.Tried.TheVariants as tried;
-ghost use Rattle.pac_index.specs.Cuts.{HasPaid};
+ghost use Rattle.pac_index.specs.Cuts.{HasPaid, IsStoppedTry};
 ghost use Rattle.pac_index.specs.Calls.{own_at, counted_index};
 ghost use Rattle.pac_index.specs.Callers.{IsCallerOf, MayCall, StaysCaller, spare_of, pairs};
 ghost use Rattle.pac_index.specs.Outcomes.{PartTryComesTo, TryComesTo, TryTakesSpare};
@@ -49,6 +49,7 @@ impl Shared {
         ensures stays { StaysCaller self.now caller.old caller.new }
         ensures tried { TryComesTo (call.Put name.now value limit) caller.old result caller.new }
         ensures paid { HasPaid caller.old caller.new }
+        ensures stopped { IsStoppedTry caller.old result caller.new }
         ensures spare { TryTakesSpare (call.Put name.now value limit) caller.old result caller.new }
     {
         let name = *name;
@@ -61,6 +62,7 @@ impl Shared {
         ensures stays { StaysCaller self.now caller.old caller.new }
         ensures tried { TryComesTo (call.Get name.now) caller.old result caller.new }
         ensures paid { HasPaid caller.old caller.new }
+        ensures stopped { IsStoppedTry caller.old result caller.new }
         ensures spare { spare_of caller.old ≤ spare_of caller.new }
     {
         self.try_call(caller, CoreCall::Get { name: *name }, &OpenGate)
@@ -75,6 +77,7 @@ impl Shared {
         ensures stays { StaysCaller self.now caller.old caller.new }
         ensures tried { TryComesTo (call.Del name.now limit) caller.old result caller.new }
         ensures paid { HasPaid caller.old caller.new }
+        ensures stopped { IsStoppedTry caller.old result caller.new }
         ensures spare { TryTakesSpare (call.Del name.now limit) caller.old result caller.new }
     {
         let name = *name;
@@ -89,6 +92,7 @@ impl Shared {
         ensures stays { StaysCaller self.now caller.old caller.new }
         ensures tried { PartTryComesTo low.now count caller.old result caller.new }
         ensures paid { HasPaid caller.old caller.new }
+        ensures stopped { IsStoppedTry caller.old result caller.new }
         ensures spare { spare_of caller.old ≤ spare_of caller.new }
     {
         let mut pace = Pace::begin(&OpenGate, caller, caller.index);
@@ -103,6 +107,7 @@ impl Shared {
         ensures stays { StaysCaller self.now caller.old caller.new }
         ensures tried { TryComesTo call caller.old result caller.new }
         ensures paid { HasPaid caller.old caller.new }
+        ensures stopped { IsStoppedTry caller.old result caller.new }
         ensures spare { TryTakesSpare call caller.old result caller.new }
     {
         let mut pace = Pace::begin(gate, caller, caller.index);
@@ -123,6 +128,7 @@ impl Shared {
         ensures stays { StaysCaller self.now caller.old caller.new }
         ensures tried { TryComesTo call.now caller.old result caller.new }
         ensures paid { HasPaid caller.old caller.new }
+        ensures stopped { IsStoppedTry caller.old result caller.new }
         ensures spare { TryTakesSpare call.now caller.old result caller.new }
     {
         if caller.is_spent() {
@@ -184,6 +190,7 @@ impl Shared {
         ensures stays { StaysCaller self.now caller.old caller.new }
         ensures tried { PartTryComesTo low count caller.old result caller.new }
         ensures paid { HasPaid caller.old caller.new }
+        ensures stopped { IsStoppedTry caller.old result caller.new }
         ensures spare { spare_of caller.old ≤ spare_of caller.new }
     {
         if caller.is_spent() {

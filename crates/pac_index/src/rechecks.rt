@@ -4,7 +4,7 @@ ghost use Rattle.std.specs.Prelude.{◌≡◌, ◌≢◌, ◌<◌, Some};
 ghost use Rattle.epochs.specs.Seats.{Holds};
 ghost use Rattle.pac_index.specs.Kept.{IsLone, party};
 ghost use Rattle.pac_index.specs.Budgets.{Pays};
-ghost use Rattle.pac_index.specs.Cuts.{HasPaid};
+ghost use Rattle.pac_index.specs.Cuts.{HasPaid, IsStoppedTry};
 ghost use Rattle.pac_index.specs.Calls.{OnTried};
 ghost use Rattle.pac_index.specs.Callers.{IsAtRest, MayCall, StaysCaller};
 ghost use Rattle.pac_index.specs.CutRechecks.{HasLookedOnce, IsCutRecheck};
@@ -41,6 +41,7 @@ impl Shared {
         ensures tried { OnTried result (λ answer. Pinned (Rechecked node version) caller.old answer caller.new)
             (IsCutRecheck caller.old caller.new) }
         ensures paid { HasPaid caller.old caller.new }
+        ensures stopped { IsStoppedTry caller.old result caller.new }
     {
         if caller.is_spent() {
             return Tried::Cut;

@@ -8,7 +8,7 @@ ghost use Rattle.epochs.specs.Kept.{first_epoch, last_epoch};
 ghost use Rattle.epochs.specs.Seats.{IsSeatOf, known_by};
 ghost use Rattle.pac_index.specs.Kept.{IsLone, party};
 ghost use Rattle.pac_index.specs.Budgets.{Pays};
-ghost use Rattle.pac_index.specs.Cuts.{HasPaid};
+ghost use Rattle.pac_index.specs.Cuts.{HasPaid, IsStoppedTurn};
 ghost use Rattle.pac_index.specs.Callers.{HasMadeNone, IsCallerOf, StaysCaller};
 ghost use Rattle.pac_index.specs.CutTurns.{TurnStops};
 ghost use Rattle.pac_index.specs.Outcomes.{TurnTryComesTo, TurnTryRests};
@@ -42,6 +42,7 @@ impl Shared {
         ensures rests { TurnTryRests result caller.new }
         ensures told { TurnTryComesTo self.now.epochs.parties caller.old result caller.new }
         ensures paid { HasPaid caller.old caller.new }
+        ensures stopped { IsStoppedTurn caller.old result caller.new }
     {
         let mut pace = Pace::begin(&OpenGate, caller, caller.index);
         self.try_turn(caller, &mut pace)
@@ -57,6 +58,7 @@ impl Shared {
         ensures rests { TurnTryRests result caller.new }
         ensures told { TurnTryComesTo self.now.epochs.parties caller.old result caller.new }
         ensures paid { HasPaid caller.old caller.new }
+        ensures stopped { IsStoppedTurn caller.old result caller.new }
     {
         let mut pace = Pace::begin(gate, caller, turn);
         self.try_turn(caller, &mut pace)
@@ -70,6 +72,7 @@ impl Shared {
         ensures rests { TurnTryRests result caller.new }
         ensures told { TurnTryComesTo self.now.epochs.parties caller.old result caller.new }
         ensures paid { HasPaid caller.old caller.new }
+        ensures stopped { IsStoppedTurn caller.old result caller.new }
     {
         if caller.is_spent() {
             return TriedTurn::Cut;
