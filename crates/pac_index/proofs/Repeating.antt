@@ -39,7 +39,7 @@ use Rattle.pac_index.specs.CutTurns.{IsCutTurn, IsCutTurnTry, StopsDated, StopsU
 use Rattle.pac_index.specs.Pinned.{Pinned, PinMoved, WasPinned}
 use Rattle.pac_index.specs.Ends.{ended_of, ended_by, turn_ended_by, DoesNothing, EachIs, OnDone, IsTry, HasOnlyRead, AtLast, TurnedBack}
 use Rattle.pac_index.specs.Ends.EachIs.{no_step, one_more}
-use Rattle.pac_index.specs.Outcomes.{OnceComesTo, RepeatComesTo, TurnComesTo, TurnTryComesTo, TurnTryRests}
+use Rattle.pac_index.specs.Outcomes.{OnceComesTo, RepeatComesTo, TryComesTo, TryTakesSpare, TurnComesTo, TurnTryComesTo, TurnTryRests}
 use Rattle.pac_index.specs.Turns.{noted_in, FoundHeld, MadeTurn, TurnAnswers, TurnHeld}
 use Rattle.epochs.specs.Kept.{first_epoch}
 use Rattle.epochs.specs.declared.rule.PinMember.{PinMember}
@@ -254,6 +254,15 @@ cut_ended back c old b a still number less tries is = record {
 -- What the loop of tries keeps of its caller.
 abbrev pub TriedSoFar : Shared → (Member → Member → Type 0) → Caller → Caller → Type 0
 TriedSoFar s back_step old now = IsCallerOf s now × (now.number ≡ old.number) × (spare_of old ≤ spare_of now) × Tries back_step old.index (seen_by old) now.index (seen_by now) × StillOrRests old now × HasPaid old now
+
+-- a get takes no room
+reads_none : (caller index : ℕ) (place : Option ℕ) → length (own_at caller index None place) ≡ 0
+reads_none caller index None = refl
+reads_none caller index (Some place) = refl
+
+pub gets_spare : (name : List ℕ) (b a : Caller) (t : Tried Placed) → TryComesTo (call.Get name) b t a → TryTakesSpare (call.Get name) b t a → spare_of b ≤ spare_of a
+gets_spare name b a (tried.Answered answer) is fits = let none = reads_none b.number b.index (place_told None answer) in omega arith
+gets_spare name b a tried.Cut is fits = let none = reads_none b.number b.index (place_in a.cut) in let less = is.spare in omega arith
 
 pub tries_start : (s : Shared) (back_step : Member → Member → Type 0) (old : Caller) → IsCallerOf s old → TriedSoFar s back_step old old
 tries_start s back_step old is = (is, refl, omega arith, tries_begin back_step old.index (seen_by old), inl refl, pays_nothing old.left (seen_by old).taken)

@@ -162,22 +162,6 @@ impl Shared {
         }
     }
 
-    /// One try of a get, of a whole call that goes at this pace.
-    pub(crate) fn try_get<G: Gate>(
-        &self,
-        caller: &mut Caller,
-        name: Name,
-        pace: &mut Pace<'_, G>,
-    ) -> Tried<Placed>
-        requires may { MayCall self.now caller.old }
-        ensures stays { StaysCaller self.now caller.old caller.new }
-        ensures tried { TryComesTo (call.Get name) caller.old result caller.new }
-        ensures paid { HasPaid caller.old caller.new }
-        ensures spare { spare_of caller.old ≤ spare_of caller.new }
-    {
-        self.try_at_pace(caller, &CoreCall::Get { name }, pace)
-    }
-
     /// One try of a part of a range scan, of a whole call that goes at this pace, under a pin of its own.
     pub(crate) fn try_part<G: Gate>(
         &self,
@@ -314,9 +298,7 @@ impl Caller {
             index: self.index,
             change,
         };
-        let Ok(()) = self.kept.push(PlacedWrite { place, write }) else {
-            unreachable!()
-        };
+        self.kept.push_reserved(PlacedWrite { place, write });
     }
 }
 

@@ -53,7 +53,7 @@ fn all_cuts(alloc: Global, callers: &[Caller]) -> Result<Vec<Option<CutCall>>, N
 {
     let mut cuts = Vec::with_capacity(alloc, callers.len())?;
     for number in 0..callers.len() {
-        cuts.push(callers[number].cut)?;
+        cuts.push_reserved(callers[number].cut);
     }
     Ok(cuts)
 }

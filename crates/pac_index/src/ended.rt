@@ -5,7 +5,7 @@ use call_stages::Once;
 use updater::Turned;
 
 /// What a call comes to that is made again while it is turned back.
-#[derive(Clone, Copy, PartialEq, Eq, Debug)]
+#[derive(Drop)]
 pub enum Ended<T> {
     Done(T),
     /// A put found no room.

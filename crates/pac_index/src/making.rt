@@ -72,7 +72,7 @@ impl Shared {
             let pins = seats.remove(0);
             let kept = Vec::new(alloc);
             let rooms = Rooms::new();
-            callers.push(Caller {
+            callers.push_reserved(Caller {
                 seat,
                 pins,
                 number,
@@ -81,7 +81,7 @@ impl Shared {
                 cut: None,
                 kept,
                 rooms,
-            })?;
+            });
         }
         Ok(callers)
     }

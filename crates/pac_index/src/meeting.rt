@@ -104,7 +104,7 @@ pub(crate) fn read_words(
 {
     let mut words = Vec::with_capacity(alloc, count)?;
     for address in 0..count {
-        words.push(closed.word(address))?;
+        words.push_reserved(closed.word(address));
     }
     Ok(words)
 }
@@ -115,14 +115,14 @@ fn idle_states(alloc: Global, callers: &[Caller]) -> Result<Vec<PartyState>, NoM
 {
     let mut states = Vec::with_capacity(alloc, callers.len())?;
     for number in 0..callers.len() {
-        states.push(PartyState {
+        states.push_reserved(PartyState {
             caller: number as u64,
             index: callers[number].index,
             since: 0,
             machine: Flight::idle(),
             turn: None,
             recheck: None,
-        })?;
+        });
     }
     Ok(states)
 }

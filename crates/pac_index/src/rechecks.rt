@@ -14,7 +14,6 @@ ghost use Rattle.pac_index.specs.Rechecked.{Rechecked};
 use crate::budget::{pay, pay_one};
 use crate::caller::Caller;
 use crate::calls::turned_back;
-use crate::gate::{Gate, OpenGate, Pace};
 use crate::rule::{ChecksNode, FirstRecheckStep, LastRecheckStep, Members};
 use crate::shared::Shared;
 use crate::tried::Tried;
@@ -46,12 +45,11 @@ impl Shared {
         if caller.is_spent() {
             return Tried::Cut;
         }
-        let mut pace = Pace::begin(&OpenGate, caller, caller.index);
         let pin = match self.epochs.pin_once(&mut caller.pins) {
             Ok(pin) => pin,
             Err(moved) => return turned_back(moved),
         };
-        let tried = self.run_recheck::<Brand, OpenGate>(
+        let tried = self.run_recheck::<Brand>(
             &mut caller.seat,
             caller.number,
             node,
@@ -59,15 +57,14 @@ impl Shared {
             &caller.pins,
             &pin,
             &mut caller.left,
-            &mut pace,
         );
         self.epochs.unpin(&mut caller.pins, pin);
         tried
     }
 
     /// A recheck by the seat's party, from its first step to its answer, or until it has no step left before its last
-    /// one, with the gate before each step. Its pin is held meanwhile.
-    fn run_recheck<N: ChecksNode, G: Gate>(
+    /// one. Its pin is held meanwhile.
+    fn run_recheck<N: ChecksNode>(
         &self,
         seat: &mut Seat<(), Members>,
         number: u64,
@@ -76,7 +73,6 @@ impl Shared {
         pins: &EpochSeat,
         pin: &Pin,
         left: &mut Option<u64>,
-        pace: &mut Pace<'_, G>,
     ) -> Tried<Same>
         requires pinned { Holds pins.now pin.now }
         requires table { seat.old.table_id ≡ self.now.table.shared.table_id }
@@ -96,7 +92,6 @@ impl Shared {
         let first = Recheck::new(view, node, version);
         let dates = first.action();
         pay_one(left);
-        pace.step();
         let clock = self.act::<FirstRecheckStep>(seat, dates);
         let Turn::Go(last) = first.resume(clock) else {
             unreachable!()
@@ -105,7 +100,6 @@ impl Shared {
             return Tried::Cut;
         }
         let checks = last.action();
-        pace.step();
         let found = self.act::<LastRecheckStep<N>>(seat, checks);
         let Turn::Done(answer) = last.resume(found) else {
             unreachable!()

@@ -11,6 +11,7 @@ use crate::gate::{Gate, OpenGate, Pace};
 use crate::shared::Shared;
 use call_stages::Placed;
 use cat_key::Name;
+use index_core::CoreCall;
 use node_ops::PartWords;
 use std::sync::Wait;
 use std::thread::yield_now;
@@ -44,8 +45,9 @@ impl Shared {
         ensures spare { spare_of caller.old ≤ spare_of caller.new }
     {
         let mut pace = Pace::begin(gate, caller, caller.index);
+        let call = CoreCall::Get { name };
         for _ in rt.forever() {
-            if let Some(ended) = self.try_get(caller, name, &mut pace).ended() {
+            if let Some(ended) = self.try_at_pace(caller, &call, &mut pace).ended() {
                 return ended;
             }
             yield_now();

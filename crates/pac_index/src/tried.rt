@@ -5,7 +5,7 @@ use epochs::Advance;
 use updater::Turned;
 
 /// What a try comes to.
-#[derive(Clone, Copy, PartialEq, Eq, Debug)]
+#[derive(Drop)]
 pub enum Tried<T> {
     Answered(Once<T>),
     /// The caller had no step left before one that the try still had to make.
@@ -13,7 +13,7 @@ pub enum Tried<T> {
 }
 
 /// What a try of a turn of the updater comes to.
-#[derive(Clone, Copy, PartialEq, Eq, Debug)]
+#[derive(Clone, Copy)]
 pub enum TriedTurn {
     /// It was made, with the stamp `epoch` for merged nodes, behind a try to advance the epoch that was answered
     /// `advanced`.

@@ -1,4 +1,4 @@
-use Rattle.std.proofs.Common.{◌≡◌, ℕ, ◌<◌, ◌+◌, List, [], drop, suc, sym, ap, ◌∙◌, subst, arith, refl}
+use Rattle.std.proofs.Common.{◌≡◌, ℕ, ◌<◌, ◌≤◌, ◌+◌, List, [], drop, suc, sym, ap, ◌∙◌, subst, arith, refl}
 use Rattle.std.specs.Prelude.{None}
 use Rattle.pm_words.specs.Locations.{Clock}
 use Rattle.pm_words.proofs.Apart.{addresses_within}
@@ -32,7 +32,9 @@ loop-number-preserved c =
     let hands = handed s i c.loop-number.callers.items d less inv.2 inv.3 (split.3 ∙ inv.0) (split.4 ∙ ap (λ (v : List Member). (first_of v, [])) (ap (λ q. q.0) inv.1)) refl refl refl refl c.new-kept.ensures.items (c.requires.seats.0.each i pins next) (ap (λ (m : PinMember). m.pin) (c.requires.seats.1 i pins next)) (c.requires.seats.0.numbers i pins next) in (
       split.0 ∙ inv.0,
       split.2 ∙ (λ k. (rest_of (inv.1 k).0, (inv.1 k).1)) ∙ ap (λ (v : List Member). (v, [])) (left_first s i less ∙ ap (λ (n : ℕ). drop n (first_view s.about)) (let e : suc i ≡ i + 1 = omega arith in e)),
-      subst (HasCallers s (i + 1)) (sym c.in_ok-push.ensures.items) hands.0,
-      subst AreNew (sym c.in_ok-push.ensures.items) hands.1,
+      subst (HasCallers s (i + 1)) (sym c.push_reserved.ensures.items) hands.0,
+      subst AreNew (sym c.push_reserved.ensures.items) hands.1,
       c.remove-pins.ensures.items ∙ fewer_seats c.args.seats.items i c.loop-number.seats.items inv.4,
+      c.push_reserved.ensures.len ∙ ap (λ (n : ℕ). n + 1) inv.5,
+      subst (λ (n : ℕ). parties_of s.about.layout ≤ n) (sym c.push_reserved.ensures.capacity) inv.6,
     )
