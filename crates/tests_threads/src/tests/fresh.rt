@@ -36,3 +36,18 @@ pub(crate) fn take_last(shared: &Shared, callers: &mut Vec<Caller>) -> Caller
     };
     caller
 }
+
+/// A caller behind those before it.
+pub(crate) fn put_back(
+    shared: &Shared,
+    callers: &mut Vec<Caller>,
+    caller: Caller,
+) -> Result<(), NoMemory>
+    requires callers { HasCallers shared.now (length callers.old.items) callers.old.items }
+    requires caller { IsCallerOf shared.now caller × (caller.number ≡ length callers.old.items) }
+    ensures { IfOk result (λ _. HasCallers shared.now (length callers.new.items) callers.new.items ×
+        (length callers.new.items ≡ length callers.old.items + 1)) }
+{
+    callers.push(caller)?;
+    Ok(())
+}

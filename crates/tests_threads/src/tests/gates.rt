@@ -4,10 +4,10 @@ ghost use Rattle.std.specs.Prelude.{◌≡◌};
 ghost use Rattle.pm_words.specs.Layouts.{IsLayout};
 ghost use Rattle.pac_index.specs.Callers.{MayCall, StaysCaller};
 
-use super::fresh::{LIMIT, fresh, take_last};
+use super::fresh::{LIMIT, fresh, put_back, take_last};
 use super::watch::Watch;
 use cat_key::Name;
-use pac_index::{Caller, Ended, Shared};
+use pac_index::{Caller, Ended, Shared, have_steps};
 use pm_words::{Layout, NoMemory};
 use recovery::index_core::CoreCall;
 use std::alloc::Global;
@@ -16,7 +16,7 @@ use std::test::Fail;
 
 /// How a put ends.
 #[derive(Clone, Copy, PartialEq)]
-enum End {
+pub(crate) enum End {
     Placed(u64),
     Full,
     Other,
@@ -43,7 +43,7 @@ fn put<R: Wait>(rt: &R, shared: &Shared, caller: &mut Caller, letter: u8, gate: 
 }
 
 /// How puts of five names and of the first one again end.
-fn puts<R: Wait>(rt: &R, shared: &Shared, caller: &mut Caller, gate: &Watch) -> [End; 6]
+pub(crate) fn puts<R: Wait>(rt: &R, shared: &Shared, caller: &mut Caller, gate: &Watch) -> [End; 6]
     requires { MayCall shared.now caller.old }
     ensures { StaysCaller shared.now caller.old caller.new }
 {
@@ -57,36 +57,51 @@ fn puts<R: Wait>(rt: &R, shared: &Shared, caller: &mut Caller, gate: &Watch) -> 
     ]
 }
 
-/// The same on a fresh index, and the index of the call behind them.
+/// The same on a fresh index, which is closed behind them: how they end, how many writes its history has, and the index
+/// of the last one's call. None where a caller is spent.
 fn ends<R: Wait>(
     rt: &R,
     alloc: Global,
     layout: Layout,
     gate: &Watch,
-) -> Result<([End; 6], u64), NoMemory>
+) -> Result<Option<([End; 6], usize, u64)>, NoMemory>
     requires layout { IsLayout layout }
+    requires one { layout.callers ≡ 1 }
 {
     let core = fresh(alloc, layout)?;
     let (shared, mut callers) = Shared::new(alloc, core)?;
-    take_last(&shared, &mut callers);
+    let updater = take_last(&shared, &mut callers);
     let mut caller = take_last(&shared, &mut callers);
     let ends = puts(rt, &shared, &mut caller, gate);
-    Ok((ends, caller.index()))
+    put_back(&shared, &mut callers, caller)?;
+    put_back(&shared, &mut callers, updater)?;
+    if !have_steps(callers.as_slice()) {
+        return Ok(None);
+    }
+    let core = shared.close(alloc, callers)?;
+    let history = core.history();
+    Ok(
+        history
+            .last()
+            .map(|write| (ends, history.len(), write.index)),
+    )
 }
 
 /// A gate is told of all steps of a whole put, over its four tries and a turn behind each. On one node of four slots the
 /// fifth name finds no room: a try takes 5 steps for the floor, 6 for the walk and 31 for the rest, and a turn with
 /// nothing to do takes the lock, loads the states of 8 lines and the status of the node twice, and gives the lock back.
-/// A put that ends full is a call as any other: it has an index of its own, and places nothing. The sixth one is of the
-/// first name again, and takes 5, 6 and 34 steps.
+/// A put that ends full is a call as any other: it has an index of its own, and places nothing, so the history behind
+/// them has five writes, the last of the call of index 5. That one is of the first name again, and takes 5, 6 and 34
+/// steps.
 #[test]
 fn a_gate_sees_each_step_of_a_whole_put(rt: HostRuntime) -> Result<(), Fail> {
     let gate = Watch::new();
-    let (ends, index) = ends(&rt, rt.alloc(), Layout::new(1, 4, 1)?, &gate)?;
+    let ends = ends(&rt, rt.alloc(), Layout::new(1, 4, 1)?, &gate)?;
     let [zero, one, two, three, again] = [0, 1, 2, 3, 4].map(End::Placed);
-    assert!(rt; ends == [zero, one, two, three, End::Full, again]);
+    let told = [zero, one, two, three, End::Full, again];
+    assert!(rt; ends == Some((told, 5, 5)));
     let (tried, turned) = (5 + 6 + 31, 1 + 8 + 1 + 1 + 1);
     let steps = gate.counts();
-    assert!(rt; index == 6 && gate.is_in_order() && steps == [5 + 6 + 34, 4 * (tried + turned)]);
+    assert!(rt; gate.is_in_order() && steps == [5 + 6 + 34, 4 * (tried + turned)]);
     Ok(())
 }
