@@ -4,6 +4,7 @@ pub mod PartRuns
 pub mod Known
 pub mod Allowed
 pub mod Looking
+pub mod Stepping
 pub mod TurnSteps
 pub mod Statuses
 pub mod TurnRunning

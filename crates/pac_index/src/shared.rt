@@ -149,7 +149,10 @@ impl Shared {
                     place: machine.place(),
                 };
             }
-            answer = self.go_on(seat, machine, pace);
+            // As `go_on`, without the call, which takes a twelfth of the time of a step.
+            pace.step();
+            let got = self.act::<NextStep>(seat, machine.action());
+            answer = machine.advance(got);
         }
     }
 
