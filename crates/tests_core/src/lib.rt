@@ -1,9 +1,8 @@
 //! Tests of the core of the index, and of images that are opened as one, in a crate of their own, so that those are
 //! proved once.
 //!
-//! What a public call answers alone is proved, and so it is tried once here. These tests are of what no clause says:
-//! calls that are drawn beside a slow model, calls of two callers at each step of the other, crashes after each step,
-//! images of which a word is changed, and how many events calls take.
+//! What calls answer is proved, and looked at on the program. These tests are of what neither shows: tries that are
+//! turned back, stores in their order, rechecks, the end of the generations, and images of which a word is changed.
 #![tactic(auto)]
 
 #[cfg(test)]

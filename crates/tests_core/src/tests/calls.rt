@@ -1,4 +1,4 @@
-//! What the tests share: names by their numbers, calls, and the plain map of a history.
+//! What the tests share: names by their numbers, indexes to begin with, and calls.
 
 ghost use Rattle.std.specs.Prelude.{◌≡◌, ℕ, ◌<◌, ◌≤◌, IfSome, IsTrue};
 ghost use Rattle.pm_words.specs.declared.layout.Layout.{Layout as IndexLayout};
@@ -6,23 +6,16 @@ ghost use Rattle.recovery.specs.index_core.specs.CoreCalls.{MayStart, most_write
 ghost use Rattle.recovery.specs.index_core.specs.Indexes.{Index, IsBusy};
 ghost use Rattle.recovery.specs.index_core.specs.Lone.{IsQuiet, MayRunAlone};
 
-use call_stages::Once;
-use cat_history::Change;
 use cat_key::Name;
-use node_ops::PartWords;
 use pm_words::{Layout, Steps};
 use recovery::index_core::{Core, CoreCall, CoreReply, Stepped, Whole};
 use recovery::open_fresh;
 use std::alloc::Global;
 use std::marker::Brand;
 use std::sync::ledger::{Blank, Ledger};
-use updater::TurnReply;
 
 /// How many callers the indexes of these tests have.
 const CALLERS: u64 = 4;
-
-/// How many names they have, but for those of events and of drawn calls.
-pub(super) const NAMES: u64 = 12;
 
 /// No call or turn has as many steps.
 pub(super) const MANY: u64 = 10_000;
@@ -80,19 +73,6 @@ fn call_of(asked: Asked) -> CoreCall
     }
 }
 
-/// An index without names.
-pub(super) fn fresh(alloc: Global, nodes: u64, slots: u64) -> Option<Core>
-    ensures { IfSome result IsQuiet }
-{
-    let Ok(layout) = Layout::new(nodes, slots, CALLERS) else {
-        return None;
-    };
-    match open_fresh(alloc, layout) {
-        Ok(core) => Some(core),
-        Err(_) => None,
-    }
-}
-
 /// A whole call of caller 0, with nothing else in flight. It is answered `Full` where there is no memory.
 pub(super) fn alone(core: &mut Core, asked: Asked) -> Whole
     requires { IsQuiet core.old }
@@ -119,21 +99,24 @@ fn alone_on<L: Ledger>(core: &mut Core, asked: Asked, blank: Blank) -> Whole
 }
 
 /// An index to begin with: how many nodes of four slots it has, how many names are put, each with its number as its
-/// value, and which are deleted then, a bit for each.
+/// value, and which of the first twelve are deleted then, from the last one on, a bit for each; and whether a turn of
+/// the updater is made between.
 #[derive(Clone, Copy)]
 pub(super) struct Scene {
     pub nodes: u64,
     pub names: u64,
     pub without: u64,
+    pub turned: bool,
 }
 
 impl Scene {
-    /// An index of so many nodes, with so many names but for these.
+    /// An index of so many nodes, with so many names but for these, without a turn.
     pub(super) fn new(nodes: u64, names: u64, without: u64) -> Scene {
         Scene {
             nodes,
             names,
             without,
+            turned: false,
         }
     }
 }
@@ -142,12 +125,15 @@ impl Scene {
 pub(super) fn made(alloc: Global, scene: Scene) -> Option<Core>
     ensures { IfSome result IsQuiet }
 {
-    match fresh(alloc, scene.nodes, 4) {
-        Some(mut core) => {
+    let Ok(layout) = Layout::new(scene.nodes, 4, CALLERS) else {
+        return None;
+    };
+    match open_fresh(alloc, layout) {
+        Ok(mut core) => {
             fill(&mut core, scene);
             Some(core)
         }
-        None => None,
+        Err(_) => None,
     }
 }
 
@@ -158,9 +144,13 @@ fn fill(core: &mut Core, scene: Scene)
     for number in 0..scene.names {
         alone(core, Asked::Put(number, number));
     }
-    for other in 0..NAMES {
-        if scene.without >> other & 1 == 1 {
-            alone(core, Asked::Del(other));
+    if scene.turned {
+        alone(core, Asked::Turn(1));
+    }
+    for other in 0..12 {
+        let number = 11 - other;
+        if scene.without >> number & 1 == 1 {
+            alone(core, Asked::Del(number));
         }
     }
 }
@@ -203,86 +193,4 @@ fn run_on<L: Ledger>(core: &mut Core, party: u64, most: u64, blank: Blank) -> Op
         }
     }
     None
-}
-
-/// What the plain map has of a name after so many writes of the history.
-pub(super) fn number_at(core: &Core, number: u64, place: u64) -> Option<u64> {
-    let wanted = name_of(number);
-    let mut found = None;
-    for write in core.history().iter().take(place as usize) {
-        match &write.change {
-            Change::Put { name, value } => {
-                if *name == wanted {
-                    found = Some(*value);
-                }
-            }
-            Change::Del { name } => {
-                if *name == wanted {
-                    found = None;
-                }
-            }
-        }
-    }
-    found
-}
-
-/// What it has of each name after all of them.
-pub(super) fn map_of(core: &Core) -> [Option<u64>; 12] {
-    let mut map = [None; 12];
-    for number in 0..NAMES {
-        map[number as usize] = number_at(core, number, u64::MAX);
-    }
-    map
-}
-
-/// Whether a name is past those that a part may list.
-fn is_past(words: &PartWords, name: &Name) -> bool {
-    match words.high {
-        Some(high) => *name >= high,
-        None => false,
-    }
-}
-
-/// Whether a part from the name of this number on, of so many names, lists those that the plain map has at the part's
-/// place, up to its high name.
-fn is_listed(core: &Core, low: u64, count: u64, words: &PartWords) -> bool {
-    let mut listed = 0;
-    for number in low..NAMES {
-        let name = name_of(number);
-        if listed >= count || is_past(words, &name) {
-            break;
-        }
-        if let Some(value) = number_at(core, number, words.place) {
-            let [first, second, third] = name.words();
-            if words.entries.get(listed as usize) != Some(&[first, second, third, value]) {
-                return false;
-            }
-            listed += 1;
-        }
-    }
-    words.len == listed && words.old == number_at(core, low, words.place)
-}
-
-/// Whether an answer has a place from this one on, and is what the plain map has there; None where the call is to be
-/// made again.
-pub(super) fn is_legal(core: &Core, asked: Asked, since: u64, reply: &CoreReply) -> Option<bool> {
-    match reply {
-        CoreReply::Placed(Once::Done(placed)) => {
-            let number = match asked {
-                Asked::Put(number, _) => number,
-                Asked::Get(number) => number,
-                Asked::Del(number) => number,
-                _ => return Some(false),
-            };
-            Some(placed.place >= since && placed.old == number_at(core, number, placed.place))
-        }
-        CoreReply::Part(Once::Done(words)) => {
-            let Asked::Part(low, count) = asked else {
-                return Some(false);
-            };
-            Some(words.place >= since && is_listed(core, low, count, words))
-        }
-        CoreReply::Turn(TurnReply::Turned(_)) => Some(true),
-        _ => None,
-    }
 }

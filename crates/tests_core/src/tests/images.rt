@@ -5,21 +5,13 @@ ghost use Rattle.recovery.specs.index_core.specs.Lone.{IsQuiet};
 
 use super::calls::{Asked, Scene, alone, made, name_of};
 use image_layer_rules::first_broken_of_all;
-use pm_words::{Image, ImageFault};
+use image_rules::Broken;
+use pm_words::Image;
+use pm_words::offsets::header;
 use recovery::index_core::Core;
 use recovery::{OpenFault, recover};
 use std::alloc::Global;
 use std::test::Fail;
-
-/// How bytes end that are opened.
-#[derive(Drop, PartialEq)]
-enum End {
-    /// They are no image.
-    Unread(ImageFault),
-    Refused(OpenFault),
-    /// So many names, and the sum of their numbers; whether it takes one name more.
-    Opened([u64; 2], bool),
-}
 
 /// How many names an index has, with the sum of their numbers.
 fn sum(alloc: Global, core: &Core) -> [u64; 2] {
@@ -35,40 +27,16 @@ fn sum(alloc: Global, core: &Core) -> [u64; 2] {
     }
 }
 
-/// Whether it takes the name of number 11, with the number 120.
-fn takes_one(alloc: Global, core: &mut Core) -> bool
+/// Whether an index has so many names with this sum, and takes the name of number 11, with the number 120.
+fn is_played(alloc: Global, core: &mut Core, told: [u64; 2]) -> bool
     requires { IsQuiet core.old }
 {
-    let [names, numbers] = sum(alloc, core);
+    if sum(alloc, core) != told {
+        return false;
+    }
+    let [names, numbers] = told;
     alone(core, Asked::Put(11, 120));
     sum(alloc, core) == [names.wrapping_add(1), numbers.wrapping_add(120)]
-}
-
-/// How bytes end.
-fn end_of(alloc: Global, bytes: &[u8]) -> End {
-    let image = match Image::read(alloc, bytes) {
-        Ok(image) => image,
-        Err(fault) => return End::Unread(fault),
-    };
-    match recover(alloc, image) {
-        Ok(mut core) => End::Opened(sum(alloc, &core), takes_one(alloc, &mut core)),
-        Err(fault) => End::Refused(fault),
-    }
-}
-
-/// How bytes have to end, by the rules and by a slow reading.
-fn wanted(alloc: Global, bytes: &[u8]) -> End {
-    let image = match Image::read(alloc, bytes) {
-        Ok(image) => image,
-        Err(fault) => return End::Unread(fault),
-    };
-    match first_broken_of_all(&image) {
-        Some(broken) => End::Refused(OpenFault::Damaged {
-            rule: broken.rule,
-            word: broken.word,
-        }),
-        None => End::Opened(told_slowly(bytes), true),
-    }
 }
 
 /// A word of an image's bytes.
@@ -104,46 +72,50 @@ fn with_one(told: [u64; 2], number: u64) -> [u64; 2] {
 }
 
 /// Sets a word of bytes to a value.
-fn set_word(bytes: &mut [u8], word: u64, value: u64) {
+pub(super) fn set_word(bytes: &mut [u8], word: u64, value: u64) {
     let (words, _) = bytes.as_chunks_mut::<8>();
     if let Some(found) = words.get_mut(word as usize) {
         *found = value.to_le_bytes();
     }
 }
 
-/// How bytes end, and how they have to end, where a word has this value, which is set back then.
-fn ends_with(alloc: Global, bytes: &mut [u8], word: u64, value: u64) -> (End, End) {
-    let before = word_in(bytes, word);
-    set_word(bytes, word, value);
-    let ends = (end_of(alloc, bytes), wanted(alloc, bytes));
-    set_word(bytes, word, before);
-    ends
+/// Whether bytes of an image are opened, with the names of a slow reading, and take one name more; or else are refused
+/// for the rule that is told as the first broken one.
+fn is_right(alloc: Global, bytes: &[u8]) -> Option<bool> {
+    let image = Image::read(alloc, bytes).ok()?;
+    let broken = first_broken_of_all(&image);
+    match recover(alloc, image) {
+        Ok(mut core) => {
+            Some(broken.is_none() && is_played(alloc, &mut core, told_slowly(bytes)))
+        }
+        Err(OpenFault::Damaged { rule, word }) => Some(broken == Some(Broken { rule, word })),
+        Err(_) => None,
+    }
 }
 
-/// The bytes of a catalogue of two nodes of four slots with five names: two stand in node 0, three in node 1, and the
+/// The bytes that a crash leaves of a catalogue of two nodes of four slots with five names: two stand in node 0, three in node 1, and the
 /// log line of the split is READY.
-fn catalogue(alloc: Global) -> Option<Vec<u8>> {
+pub(super) fn catalogue(alloc: Global) -> Option<Vec<u8>> {
     match made(alloc, Scene::new(2, 5, 0)) {
-        Some(core) => core.image(alloc).ok()?.write(alloc).ok(),
+        Some(core) => core.crash().image.write(alloc).ok(),
         None => None,
     }
 }
 
-/// The first word of a catalogue that doesn't end as it has to with this value. Of its cells, to which the root doesn't
-/// lead, few are tried.
+/// The first word of a catalogue, behind its layout, with which it isn't right where that has this value. Of its cells,
+/// to which the root doesn't lead, few are tried.
 fn first_wrong(alloc: Global, value: u64) -> Option<u64> {
     let Some(mut bytes) = catalogue(alloc) else {
         return Some(0);
     };
-    let words = bytes.len() as u64 / 8;
-    for word in 0..words {
-        // the magic, the format and the layout
-        let unread = word < 5 && value != word_in(&bytes, word);
+    for word in header::GENERATION..bytes.len() as u64 / 8 {
         if word < 384 || word % 97 == 0 {
-            let (found, wanted) = ends_with(alloc, &mut bytes, word, value);
-            if found != wanted || matches!(found, End::Unread(_)) != unread {
+            let before = word_in(&bytes, word);
+            set_word(&mut bytes, word, value);
+            if is_right(alloc, bytes.as_slice()) != Some(true) {
                 return Some(word);
             }
+            set_word(&mut bytes, word, before);
         }
     }
     None
