@@ -3,4 +3,3 @@
 mod outside;
 mod readings;
 mod saving;
-mod scripts;
