@@ -1,10 +1,8 @@
 //! The tests, by what they are of.
 
-mod bytes;
-mod histories;
+mod images;
+mod layouts;
 mod locks;
-mod maps;
 mod members;
-mod memory;
 mod names;
-mod slots;
+mod nodes;

@@ -1,9 +1,0 @@
-//! The tests, by what they are of.
-
-mod images;
-mod layers;
-mod marks;
-mod pairs;
-mod recoveries;
-mod rules;
-mod trees;

@@ -1,0 +1,4 @@
+//! Machines on the words of nodes and of the search layer, their actions counted by hand.
+
+mod changes;
+mod permutations;
