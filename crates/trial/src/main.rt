@@ -1,12 +1,13 @@
-//! `trial`: what the scripts need that try how files are saved (`tools/check-saves`), and time the bytes of an image
-//! (`bench/image-bytes`), the rules of a sound one (`bench/sound-image`), a long report (`bench/reading`) and a long
-//! round that is judged (`bench/judging`).
+//! `trial`: what the scripts need that try how files are saved (`tools/check-saves`) and rounds judged
+//! (`tools/check-judge`), and time the bytes of an image (`bench/image-bytes`), the rules of a sound one
+//! (`bench/sound-image`), a long report (`bench/reading`) and a long round that is judged (`bench/judging`).
 #![tactic(auto)]
 
 mod bytes;
 mod reports;
 mod rounds;
 mod sound;
+mod told;
 
 use anyhow::{Result, anyhow, bail};
 use bytes::time_bytes;
@@ -17,9 +18,14 @@ use sound::time_sound;
 use std::alloc::AllocGlobal;
 use std::env;
 use std::rt::Files;
+use told::judge_told;
 
 const USAGE: &str =
-    "usage: trial bytes|sound|read|reading|save FILE|judge CALLS|judging CALLS|all FILE CALLS";
+    "usage: trial bytes|sound|read|reading|told|save FILE|judge CALLS|judging CALLS|all FILE CALLS";
+
+/// A round of a put and a get, as lines.
+const ROUND: &[u8] =
+    b"asked 0 0 97 1\nasked 0 1 97\ntold 0 0 0 97 1\ntold 0 1 1 97 0 0 1 2\njoin 9 1 1\n";
 
 /// The most bytes of standard input that are read.
 const MOST_BYTES: usize = 1 << 26;
@@ -37,14 +43,15 @@ fn main(rt: HostRuntime) -> Result<()> {
     }
 }
 
-/// What one word says: times, of the image or the report on standard input where it is about one; or a report that is
-/// read once.
+/// What one word says: times, of the image or the report on standard input where it is about one; a report that is read
+/// once; or rounds there that are told and judged.
 fn one_word(rt: HostRuntime, verb: &str) -> Result<()> {
     match verb {
         "bytes" => time_bytes(&rt),
         "sound" => time_sound(&rt, &input(rt)?),
         "read" => read_once(&rt, &input(rt)?),
         "reading" => time_reading(&rt, &input(rt)?),
+        "told" => judge_told(&rt, &input(rt)?),
         _ => bail!("{USAGE}"),
     }
 }
@@ -59,12 +66,13 @@ fn two_words(rt: HostRuntime, verb: &str, word: &str) -> Result<()> {
     }
 }
 
-/// The report on standard input saved and read, and a round of so many calls judged, once each.
+/// The report on standard input saved and read, and a round of so many calls and one that is told judged, once each.
 fn once_each(rt: HostRuntime, file: &str, calls: &str) -> Result<()> {
     let bytes = input(rt)?;
     save(&rt, file, &bytes)?;
     read_once(&rt, &bytes)?;
-    judge_once(&rt, number(calls)?)
+    judge_once(&rt, number(calls)?)?;
+    judge_told(&rt, ROUND)
 }
 
 /// A number of the words.
