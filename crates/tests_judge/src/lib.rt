@@ -1,5 +1,0 @@
-//! Tests of the judge of rounds: `transcript`.
-#![tactic(auto)]
-
-#[cfg(test)]
-mod tests;
