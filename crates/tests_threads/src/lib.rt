@@ -1,5 +1,7 @@
-//! Tests of the calls of callers on threads, made by one of them, of turns and epochs, and of pins and release numbers on
-//! threads. What callers on threads are answered beside each other is looked at by rounds (`tools/check-rounds`).
+//! Tests of the program's top call and of the index on threads below it: an outside in memory whose calls fail or move
+//! few bytes, callers that a gate holds or counts, one caller alone, and pins and advances of the epoch. What words and
+//! scripts come to stands in examples/cases; what callers are answered beside each other is looked at by rounds
+//! (`tools/check-rounds`).
 #![tactic(auto)]
 
 #[cfg(test)]

@@ -1,8 +1,10 @@
 //! The tests, by what they are of.
 
 mod alone;
+mod calls;
+mod faults;
 mod fresh;
 mod gates;
+mod held;
 mod releases;
-mod turns;
-mod watch;
+mod running;

@@ -2,17 +2,14 @@
 
 ghost use Rattle.std.specs.Prelude.{◌≡◌, ◌+◌, ◌<◌, [], length, IfOk};
 ghost use Rattle.pm_words.specs.Layouts.{IsLayout};
-ghost use Rattle.recovery.specs.index_core.specs.Lone.{IsQuiet};
+ghost use Rattle.pac_index.specs.index_core.specs.Lone.{IsQuiet};
 ghost use Rattle.pac_index.specs.Callers.{HasCallers, IsCallerOf};
 
+use catalog_cli::recovery::open_fresh;
+use pac_index::index_core::Core;
 use pac_index::{Caller, Shared};
 use pm_words::{Layout, NoMemory};
-use recovery::index_core::Core;
-use recovery::open_fresh;
 use std::alloc::Global;
-
-/// No history here is as long.
-pub(crate) const LIMIT: u64 = 1 << 62;
 
 /// A fresh index.
 pub(crate) fn fresh(alloc: Global, layout: Layout) -> Result<Core, NoMemory>
@@ -35,19 +32,4 @@ pub(crate) fn take_last(shared: &Shared, callers: &mut Vec<Caller>) -> Caller
         unreachable!()
     };
     caller
-}
-
-/// A caller behind those before it.
-pub(crate) fn put_back(
-    shared: &Shared,
-    callers: &mut Vec<Caller>,
-    caller: Caller,
-) -> Result<(), NoMemory>
-    requires callers { HasCallers shared.now (length callers.old.items) callers.old.items }
-    requires caller { IsCallerOf shared.now caller × (caller.number ≡ length callers.old.items) }
-    ensures { IfOk result (λ _. HasCallers shared.now (length callers.new.items) callers.new.items ×
-        (length callers.new.items ≡ length callers.old.items + 1)) }
-{
-    callers.push(caller)?;
-    Ok(())
 }

@@ -1,107 +1,166 @@
-//! Whole puts of one caller on one node of four slots, step by step as a gate sees them.
+//! Gates that hold callers until calls of theirs have met, and one that counts calls and steps.
 
-ghost use Rattle.std.specs.Prelude.{◌≡◌};
-ghost use Rattle.pm_words.specs.Layouts.{IsLayout};
-ghost use Rattle.pac_index.specs.Callers.{MayCall, StaysCaller};
+use pac_index::Gate;
+use std::sync::atomic::{AtomicBool, AtomicU64, Ordering};
+use std::thread::yield_now;
 
-use super::fresh::{LIMIT, fresh, put_back, take_last};
-use super::watch::Watch;
-use cat_key::Name;
-use pac_index::{Caller, Ended, Shared, have_steps};
-use pm_words::{Layout, NoMemory};
-use recovery::index_core::CoreCall;
-use std::alloc::Global;
-use std::sync::Wait;
-use std::test::Fail;
+/// For how many turns a gate holds a caller at most.
+const TURNS: u64 = 10_000_000;
 
-/// How a put ends.
-#[derive(Clone, Copy, PartialEq)]
-pub(crate) enum End {
-    Placed(u64),
-    Full,
-    Other,
-}
-
-/// How a put of a name of one letter ends.
-fn put<R: Wait>(rt: &R, shared: &Shared, caller: &mut Caller, letter: u8, gate: &Watch) -> End
-    requires { MayCall shared.now caller.old }
-    ensures { StaysCaller shared.now caller.old caller.new }
-{
-    let (Ok(name), Ok(())) = (Name::read(&[letter]), caller.reserve(1)) else {
-        return End::Other;
-    };
-    let call = CoreCall::Put {
-        name,
-        value: 7,
-        limit: LIMIT,
-    };
-    match shared.write(rt, caller, call, gate) {
-        Ended::Done(placed) => End::Placed(placed.place),
-        Ended::Full => End::Full,
-        _ => End::Other,
+/// Holds a caller until the moment has come, and counts that it came in time.
+fn hold(moment: &AtomicBool, met: &AtomicU64) {
+    for _ in 0..TURNS {
+        if moment.load(Ordering::SeqCst) {
+            met.fetch_add(1, Ordering::SeqCst);
+            return;
+        }
+        yield_now();
     }
 }
 
-/// How puts of five names and of the first one again end.
-pub(crate) fn puts<R: Wait>(rt: &R, shared: &Shared, caller: &mut Caller, gate: &Watch) -> [End; 6]
-    requires { MayCall shared.now caller.old }
-    ensures { StaysCaller shared.now caller.old caller.new }
-{
-    [
-        put(rt, shared, caller, b'a', gate),
-        put(rt, shared, caller, b'b', gate),
-        put(rt, shared, caller, b'c', gate),
-        put(rt, shared, caller, b'd', gate),
-        put(rt, shared, caller, b'e', gate),
-        put(rt, shared, caller, b'a', gate),
-    ]
+/// Holds caller 0 within its first call until caller 1 is within its second one, and caller 1 there until caller 0 is
+/// within its second one. Caller 1 begins once caller 0 has begun.
+#[derive(Drop)]
+pub(crate) struct Beside {
+    begun: AtomicBool,
+    second: AtomicBool,
+    next: AtomicBool,
+    /// Within how many calls each of the two has been.
+    zero: AtomicU64,
+    one: AtomicU64,
+    /// How many of the three waits ended in time.
+    pub met: AtomicU64,
 }
 
-/// The same on a fresh index, which is closed behind them: how they end, how many writes its history has, and the index
-/// of the last one's call. None where a caller is spent.
-fn ends<R: Wait>(
-    rt: &R,
-    alloc: Global,
-    layout: Layout,
-    gate: &Watch,
-) -> Result<Option<([End; 6], usize, u64)>, NoMemory>
-    requires layout { IsLayout layout }
-    requires one { layout.callers ≡ 1 }
-{
-    let core = fresh(alloc, layout)?;
-    let (shared, mut callers) = Shared::new(alloc, core)?;
-    let updater = take_last(&shared, &mut callers);
-    let mut caller = take_last(&shared, &mut callers);
-    let ends = puts(rt, &shared, &mut caller, gate);
-    put_back(&shared, &mut callers, caller)?;
-    put_back(&shared, &mut callers, updater)?;
-    if !have_steps(callers.as_slice()) {
-        return Ok(None);
+impl Beside {
+    pub(crate) fn new() -> Beside {
+        Beside {
+            begun: AtomicBool::new(false),
+            second: AtomicBool::new(false),
+            next: AtomicBool::new(false),
+            zero: AtomicU64::new(0),
+            one: AtomicU64::new(0),
+            met: AtomicU64::new(0),
+        }
     }
-    let core = shared.close(alloc, callers)?;
-    let history = core.history();
-    Ok(
-        history
-            .last()
-            .map(|write| (ends, history.len(), write.index)),
-    )
 }
 
-/// A gate is told of all steps of a whole put, over its four tries and a turn behind each. On one node of four slots the
-/// fifth name finds no room: a try takes 5 steps for the floor, 6 for the walk and 31 for the rest, and a turn with
-/// nothing to do takes the lock, loads the states of 8 lines and the status of the node twice, and gives the lock back.
-/// A put that ends full is a call as any other: it has an index of its own, and places nothing, so the history behind
-/// them has five writes, the last of the call of index 5. That one is of the first name again, and takes 5, 6 and 34
-/// steps.
-#[test]
-fn a_gate_sees_each_step_of_a_whole_put(rt: HostRuntime) -> Result<(), Fail> {
-    let gate = Watch::new();
-    let ends = ends(&rt, rt.alloc(), Layout::new(1, 4, 1)?, &gate)?;
-    let [zero, one, two, three, again] = [0, 1, 2, 3, 4].map(End::Placed);
-    let told = [zero, one, two, three, End::Full, again];
-    assert!(rt; ends == Some((told, 5, 5)));
-    let (tried, turned) = (5 + 6 + 31, 1 + 8 + 1 + 1 + 1);
-    let steps = gate.counts();
-    assert!(rt; gate.is_in_order() && steps == [5 + 6 + 34, 4 * (tried + turned)]);
-    Ok(())
+impl Gate for Beside {
+    fn before(&self, caller: u64, index: u64) {
+        match (caller, index) {
+            (0, 0) => self.begun.store(true, Ordering::SeqCst),
+            (1, 0) => hold(&self.begun, &self.met),
+            _ => {}
+        }
+    }
+
+    fn within(&self, caller: u64, step: u64) {
+        if step != 1 {
+            return;
+        }
+        let index = match caller {
+            0 => self.zero.fetch_add(1, Ordering::SeqCst),
+            1 => self.one.fetch_add(1, Ordering::SeqCst),
+            _ => return,
+        };
+        match (caller, index) {
+            (0, 0) => hold(&self.second, &self.met),
+            (0, 1) => self.next.store(true, Ordering::SeqCst),
+            (1, 1) => {
+                self.second.store(true, Ordering::SeqCst);
+                hold(&self.next, &self.met);
+            }
+            _ => {}
+        }
+    }
+}
+
+/// Holds caller 0 before its sixth call, and caller 1 before its first one, until caller 2, who turns the updater, has
+/// made a whole turn, whose steps it counts. That one begins once caller 0 has come to its sixth call.
+#[derive(Drop)]
+pub(crate) struct Turns {
+    filled: AtomicBool,
+    turned: AtomicBool,
+    /// How many steps the whole turn took.
+    pub steps: AtomicU64,
+    /// How many of the three waits ended in time.
+    pub met: AtomicU64,
+}
+
+impl Turns {
+    pub(crate) fn new() -> Turns {
+        Turns {
+            filled: AtomicBool::new(false),
+            turned: AtomicBool::new(false),
+            steps: AtomicU64::new(0),
+            met: AtomicU64::new(0),
+        }
+    }
+}
+
+impl Gate for Turns {
+    fn before(&self, caller: u64, index: u64) {
+        match (caller, index) {
+            (0, 5) => {
+                self.filled.store(true, Ordering::SeqCst);
+                hold(&self.turned, &self.met);
+            }
+            (1, 0) => hold(&self.turned, &self.met),
+            (2, 0) => hold(&self.filled, &self.met),
+            (2, 1) => self.turned.store(true, Ordering::SeqCst),
+            _ => {}
+        }
+    }
+
+    fn within(&self, caller: u64, _step: u64) {
+        if caller == 2 && !self.turned.load(Ordering::SeqCst) {
+            self.steps.fetch_add(1, Ordering::SeqCst);
+        }
+    }
+}
+
+/// Counts the calls of caller 0, and its steps.
+#[derive(Drop)]
+pub(crate) struct Watch {
+    /// How often it has begun a call.
+    calls: AtomicU64,
+    /// How many steps it has made in the call that began last, and in the one before.
+    pub steps: AtomicU64,
+    pub past: AtomicU64,
+    /// How many calls and steps were not the next one.
+    pub astray: AtomicU64,
+}
+
+impl Watch {
+    pub(crate) fn new() -> Watch {
+        Watch {
+            calls: AtomicU64::new(0),
+            steps: AtomicU64::new(0),
+            past: AtomicU64::new(0),
+            astray: AtomicU64::new(0),
+        }
+    }
+
+    /// Notes one more of a count, and whether it is the next one.
+    fn count(&self, count: &AtomicU64, number: u64) {
+        if count.fetch_add(1, Ordering::SeqCst) != number {
+            self.astray.fetch_add(1, Ordering::SeqCst);
+        }
+    }
+}
+
+impl Gate for Watch {
+    fn before(&self, caller: u64, index: u64) {
+        if caller == 0 {
+            self.count(&self.calls, index);
+            let steps = self.steps.swap(0, Ordering::SeqCst);
+            self.past.store(steps, Ordering::SeqCst);
+        }
+    }
+
+    fn within(&self, caller: u64, step: u64) {
+        if caller == 0 {
+            self.count(&self.steps, step);
+        }
+    }
 }

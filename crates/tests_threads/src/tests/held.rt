@@ -1,12 +1,13 @@
 //! Rounds of several callers whose gate holds them, so that they end in time only where their calls run beside each
 //! other.
 
+use super::gates::{Beside, Turns};
 use super::running::{SOUND, plan_of, run_gated};
 use cat_text::MemoryShelf;
-use catalog_cli::pac_index::Gate;
-use holding_gates::{Beside, Turns};
+use pac_index::Gate;
 use std::alloc::AllocGlobal;
 use std::sync::Wait;
+use std::sync::atomic::Ordering;
 use std::test::Fail;
 use std::thread::Threads;
 
@@ -25,12 +26,12 @@ fn ends_with<R: AllocGlobal + Threads + Wait + Sync, G: Gate>(
 
 #[test]
 fn callers_run_beside_each_other(rt: HostRuntime) -> Result<(), Fail> {
-    let gate = Beside::new(0);
+    let gate = Beside::new();
     let script = "0 put a 1\n0 put b 2\n0 put c 3\n0 put d 4\n0 put e 5\njoin\n\
         0 put a 7\n0 put b 8\n1 get d\n1 get e\n";
     let ended = ends_with(&rt, script, "\njoin 2 names 5\n", &gate);
-    assert_eq!(rt; ended, Some(true));
-    assert_eq!(rt; gate.met(), 3);
+    assert!(rt; ended == Some(true));
+    assert!(rt; gate.met.load(Ordering::SeqCst) == 3);
     Ok(())
 }
 
@@ -43,11 +44,12 @@ fn the_updater_turns_beside_callers(rt: HostRuntime) -> Result<(), Fail> {
     let script =
         "updater 1\n0 put a 1\n0 put b 2\n0 put c 3\n0 put d 4\n0 put e 5\n0 get a\n1 get a\n";
     let ended = ends_with(&rt, script, "\njoin 5 names 5\n", &gate);
-    assert_eq!(rt; ended, Some(true));
+    assert!(rt; ended == Some(true));
     let carried = 6 + 5 + 15 + 1 + 74 + 1;
-    assert_eq!(rt;
-        [gate.met(), gate.steps()],
-        [3, 1 + 16 + carried + 8 + 8 + 1]
-    );
+    let counts = [
+        gate.met.load(Ordering::SeqCst),
+        gate.steps.load(Ordering::SeqCst),
+    ];
+    assert!(rt; counts == [3, 1 + 16 + carried + 8 + 8 + 1]);
     Ok(())
 }

@@ -1,9 +1,8 @@
 //! The top call on words and a script, over an outside in memory.
 
 use cat_text::{FaultPlan, MemoryShelf, MemorySink, MemorySource};
-use catalog_cli::pac_index::Gate;
 use catalog_cli::{Status, catalog};
-use holding_gates::OpenGate;
+use pac_index::{Gate, OpenGate};
 use std::alloc::{AllocGlobal, Global};
 use std::sync::Wait;
 use std::thread::Threads;
@@ -12,7 +11,7 @@ use std::thread::Threads;
 /// number is 0.
 #[derive(Clone, Copy)]
 pub(crate) struct Outside {
-    pub largest: usize,
+    pub largest: u64,
     pub failing_read: u64,
     pub failing_write: u64,
 }
@@ -64,7 +63,7 @@ pub(crate) fn run_gated<R: AllocGlobal + Threads + Wait + Sync, G: Gate>(
     let alloc = rt.alloc();
     let words = words_of(alloc, line)?;
     let bytes = Vec::from_slice(alloc, script.as_bytes()).ok()?;
-    let largest = outside.largest.max(1);
+    let largest = outside.largest.max(1) as usize;
     let mut source = MemorySource::new(bytes, largest, plan_of(alloc, outside.failing_read)?);
     let mut sink = MemorySink::new(alloc, largest, plan_of(alloc, outside.failing_write)?);
     let status = catalog(rt, alloc, &words, &mut source, &mut sink, shelf, gate);
