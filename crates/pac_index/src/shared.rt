@@ -149,7 +149,7 @@ impl Shared {
                     place: machine.place(),
                 };
             }
-            // As `go_on`, without the call, which takes a twelfth of the time of a step.
+            // As `go_on`, written out: in rounds of several callers the call alone takes a twelfth of a step's time.
             pace.step();
             let got = self.act::<NextStep>(seat, machine.action());
             answer = machine.advance(got);
