@@ -1,6 +1,6 @@
 -- Calls that are on a name or turns of the updater: which of the two a call is, and what either leaves.
-use Rattle.std.proofs.Common.{◌≡◌, ℕ, inl, inr, length, refl, sym, ap, ◌∙◌, subst, arith}
-use Rattle.std.specs.Prelude.{Option, Some, true, is_some}
+use Rattle.std.proofs.Common.{◌≡◌, ◌⊎◌, ℕ, inl, inr, List, length, refl, sym, ap, ◌∙◌, subst, arith}
+use Rattle.std.specs.Prelude.{Option, Some, None, true, is_some}
 use mathlib.Core.Option.{some, some-injective}
 use lib.ListN.{get_elem?}
 use Rattle.pm_words.specs.declared.machine.Turn.{Turn}
@@ -19,13 +19,13 @@ use Rattle.updater.specs.declared.making.TurnReply.{TurnReply}
 use Rattle.updater.specs.Makings.{making_from, making_turned}
 use Rattle.index_core.specs.declared.party.CoreCall.{CoreCall}
 use Rattle.index_core.specs.declared.party.CoreCall.TheVariants as call
-use Rattle.index_core.specs.CoreCalls.{IfRecheck, IfTurn}
+use Rattle.index_core.specs.CoreCalls.{IfRecheck, IfTurn, IsRecheckAnd, IsTurnAnd, MayBegin}
 use Rattle.index_core.specs.declared.party.PartyState.{PartyState}
 use Rattle.index_core.specs.declared.party.Rechecking.{Rechecking}
 use Rattle.index_core.specs.declared.party.Stepped.{Stepped}
 use Rattle.index_core.specs.declared.party.Stepped.TheVariants.{Going}
 use Rattle.index_core.specs.Indexes.{HasInFlight, Index, IsBusy, KeepsRoom, Starts, StepsTo, told, view_of}
-use Rattle.index_core.specs.CoreCalls.{machine_of}
+use Rattle.index_core.specs.CoreCalls.{count_of, machine_of}
 use Rattle.index_core.specs.PartyStates.{recheck_after, recheck_reply, recheck_stepped, state_after, state_rechecked, state_turned, state_with, stepped_of, turn_after, turn_reply, turn_stepped}
 use Rattle.index_core.specs.Rechecks.{RecheckSteps, RecheckStepsTo, StartsRecheck, recheck_told}
 use Rattle.index_core.specs.Turns.{StartsTurn, TurnSteps, TurnStepsTo, turn_told}
@@ -60,6 +60,77 @@ a_recheck c P node version is holds = subst (λ (d : CoreCall). IfRecheck d P) (
 
 pub a_turn : (c : CoreCall) (P : ℕ → ℕ → Type 0) (stamp release : ℕ) → c ≡ call.Turn stamp release → P stamp release → IfTurn c P
 a_turn c P stamp release is holds = subst (λ (d : CoreCall). IfTurn d P) (sym is) holds
+
+-- a call that may be made is of one of three kinds, and of each something else is asked
+abbrev pub MayBe : Type 0 → (ℕ → ℕ → Type 0) → (ℕ → ℕ → Type 0) → CoreCall → Type 0
+MayBe X T R d = (X × MayBegin d) ⊎ (IsTurnAnd d T ⊎ IsRecheckAnd d R)
+
+module _ (X : Type 0) (T R : ℕ → ℕ → Type 0) where
+  part_asks : (low : List ℕ) (count : ℕ) → MayBe X T R (call.Part low count) → X
+  part_asks low count (inl may) = may.0
+  part_asks low count (inr (inl never)) = absurd never
+  part_asks low count (inr (inr never)) = absurd never
+
+  pub may_part : (d : CoreCall) (low : List ℕ) (count : ℕ) → d ≡ call.Part low count → MayBe X T R d → X
+  may_part d low count is may = part_asks low count (subst (MayBe X T R) is may)
+
+  turn_asks : (stamp release : ℕ) → MayBe X T R (call.Turn stamp release) → T stamp release
+  turn_asks stamp release (inl may) = absurd may.1
+  turn_asks stamp release (inr (inl turn)) = turn
+  turn_asks stamp release (inr (inr never)) = absurd never
+
+  pub may_turn : (d : CoreCall) (stamp release : ℕ) → d ≡ call.Turn stamp release → MayBe X T R d → T stamp release
+  may_turn d stamp release is may = turn_asks stamp release (subst (MayBe X T R) is may)
+
+  recheck_asks : (node version : ℕ) → MayBe X T R (call.Recheck node version) → R node version
+  recheck_asks node version (inl may) = absurd may.1
+  recheck_asks node version (inr (inl never)) = absurd never
+  recheck_asks node version (inr (inr recheck)) = recheck
+
+  pub may_recheck : (d : CoreCall) (node version : ℕ) → d ≡ call.Recheck node version → MayBe X T R d → R node version
+  may_recheck d node version is may = recheck_asks node version (subst (MayBe X T R) is may)
+
+  turns_not : (d : CoreCall) → IsNoTurn d → IsTurnAnd d T → ⊥
+  turns_not (call.Put name value limit) none turn = turn
+  turns_not (call.Get name) none turn = turn
+  turns_not (call.Del name limit) none turn = turn
+  turns_not (call.Part low count) none turn = turn
+  turns_not (call.Recheck node version) none turn = turn
+  turns_not (call.Turn stamp release) none turn = none stamp release refl
+
+  checks_not : (d : CoreCall) → IsNoRecheck d → IsRecheckAnd d R → ⊥
+  checks_not (call.Put name value limit) none recheck = recheck
+  checks_not (call.Get name) none recheck = recheck
+  checks_not (call.Del name limit) none recheck = recheck
+  checks_not (call.Part low count) none recheck = recheck
+  checks_not (call.Recheck node version) none recheck = none node version refl
+  checks_not (call.Turn stamp release) none recheck = recheck
+
+  pub may_name : (d : CoreCall) → IsNoTurn d → IsNoRecheck d → MayBe X T R d → X × MayBegin d
+  may_name d none unchecked (inl may) = may
+  may_name d none unchecked (inr (inl turn)) = absurd (turns_not d none turn)
+  may_name d none unchecked (inr (inr recheck)) = absurd (checks_not d unchecked recheck)
+
+-- what a call of one kind isn't
+pub part_no_turn : (d : CoreCall) (low : List ℕ) (count : ℕ) → d ≡ call.Part low count → IsNoTurn d
+part_no_turn d low count is stamp release same = let no : call.Part low count ≡ call.Turn stamp release = sym is ∙ same in cc
+
+pub part_no_recheck : (d : CoreCall) (low : List ℕ) (count : ℕ) → d ≡ call.Part low count → IsNoRecheck d
+part_no_recheck d low count is node version same = let no : call.Part low count ≡ call.Recheck node version = sym is ∙ same in cc
+
+pub turn_no_recheck : (d : CoreCall) (stamp release : ℕ) → d ≡ call.Turn stamp release → IsNoRecheck d
+turn_no_recheck d stamp release is node version same = let no : call.Turn stamp release ≡ call.Recheck node version = sym is ∙ same in cc
+
+pub turn_no_name : (d : CoreCall) (stamp release : ℕ) → d ≡ call.Turn stamp release → MayBegin d → ⊥
+turn_no_name d stamp release is may = subst MayBegin is may
+
+pub no_part_counts : (d : CoreCall) → ((low : List ℕ) (count : ℕ) → d ≡ call.Part low count → ⊥) → count_of d ≡ None
+no_part_counts (call.Put name value limit) none = refl
+no_part_counts (call.Get name) none = refl
+no_part_counts (call.Del name limit) none = refl
+no_part_counts (call.Part low count) none = absurd (none low count refl)
+no_part_counts (call.Recheck node version) none = refl
+no_part_counts (call.Turn stamp release) none = refl
 
 -- a step of a turn takes no room for writes
 pub turn_keeps_room : (old new : Index) (i : ℕ) (answer : Option TurnReply) → TurnSteps old i new answer → KeepsRoom old new

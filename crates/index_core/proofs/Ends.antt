@@ -12,7 +12,7 @@ use Rattle.index_core.specs.Indexes.{Index}
 use Rattle.index_core.specs.Lone.{HasShortWays, IsQuiet, IsStill}
 use Rattle.index_core.specs.Turns.{IsTurnedAnd, TurnsAlone}
 use Rattle.index_core.specs.Withins.{ComesInTime, ComesTo, CutsOff, CutsTurnOff, EndsInTime, EndsWithin, RanAlone}
-use Rattle.index_core.proofs.Either.{IsNoTurn, no_turn}
+use Rattle.index_core.proofs.Either.{IsNoTurn, a_turn, no_turn, turn_no_name}
 use Rattle.node_ops.specs.declared.recheck.Same.{Same}
 use Rattle.index_core.specs.Rechecks.{same_whole}
 use Rattle.index_core.specs.declared.party.CoreCall.TheVariants as call
@@ -56,6 +56,15 @@ recheck_ends answer result s0 s i node version d same is =
     of : (a : Option Same) → ComesTo a (λ given. Ran s0 i d s (same_whole given)) (Cuts s0 i d s)
     of (Some given) = ((λ may. absurd (recheck_no_name d node version same may)), no_turn d _ (recheck_no_turn d node version same))
     of None = ((λ may. absurd (recheck_no_name d node version same may)), no_turn d _ (recheck_no_turn d node version same))
+
+-- or a turn of the updater
+pub turn_ends : (answer : Option Turned) (result : Within) (s0 s : Index) (i stamp release : ℕ) (d : CoreCall) → d ≡ call.Turn stamp release → ComesTo answer (λ given. result ≡ within.Answered (whole.Turned given)) (result ≡ within.Cut)
+    → ComesTo answer (λ turned. TurnsAlone s0 stamp release turned s) (CutsTurnOff s0 i s) → EndsWithin result (Ran s0 i d s) (Cuts s0 i d s) (s ≡ s0)
+turn_ends answer result s0 s i stamp release d same is turns =
+    ends_by Turned answer (λ turned. whole.Turned turned) result (Ran s0 i d s) (Cuts s0 i d s) (s ≡ s0) is
+    (comes_to Turned (λ turned. TurnsAlone s0 stamp release turned s) (λ given. Ran s0 i d s (whole.Turned given)) (CutsTurnOff s0 i s) (Cuts s0 i d s) answer
+    (λ given turned. ((λ may. absurd (turn_no_name d stamp release same may)), a_turn d _ stamp release same turned))
+    (λ cut. ((λ may. absurd (turn_no_name d stamp release same may)), a_turn d _ stamp release same cut)) turns)
 
 -- what it finds in flight, and leaves
 pub stays_end : (answer : Option Turned) (result : Within) (s0 s : Index) (i before : ℕ) → 0 < before → IfSome answer (λ _. IsQuiet s0 × IsQuiet s) → IfSome answer (λ _. HasShortWays s) → (answer ≡ None → IsQuiet s0 → 0 < before → (party : ℕ) → party ≢ i → IsStill party s)

@@ -41,6 +41,7 @@ use Rattle.pac_index.specs.declared.rule.About.{About}
 use Rattle.pac_index.specs.declared.rule.AnsweredPart.{AnsweredPart}
 use Rattle.pac_index.specs.declared.rule.Member.{Member}
 use Rattle.index_core.specs.Heard.{RunningTold}
+use Rattle.pac_index.specs.Budgets.{StopsAt}
 use Rattle.pac_index.specs.Kept.{HasPart, answered_now, placed_by, noted, Goes, GoesTimely, view_in, machine_in, calling, added_now}
 use Rattle.pac_index.specs.Calls.{own_at, run_of, began, Runs, Answers, part_in, PartAnswers, StepsOn, turn_left}
 use Rattle.index_core.specs.MachineLaws.{IsNoEpoch, ReadyAfter, place_now, place_next}
@@ -262,3 +263,31 @@ runs_stepped c n old v w turn m next answer runs is on = subst (λ (u : Turn Run
 pub lessens : (m : Running) (turn : Turn Running (Once Placed)) → GoesBelow running_left (running_left m) turn → turn_left turn < turn_left (Go m)
 lessens m (Go n) less = omega arith
 lessens m (Done a) less = omega arith
+
+-- a part that is cut off behind a step: it never has a place below a limit
+no_limit : {A : Type 0} (o : Option A) → IfSome o (λ _. Unit {0})
+no_limit None = tt
+no_limit (Some x) = tt
+
+pub part_halts : (low : List ℕ) (count n : ℕ) (old v : Member) (turn : Turn Running (Once Placed)) (m : Running) → Runs (call.Part low count) n old turn v → turn ≡ Go m → StopsAt (call.Part low count) n old (placed_in (stage_of m)) v
+part_halts low count n old v turn m runs is =
+    let c = call.Part low count in
+    let now = subst (λ (t : Turn Running (Once Placed)). Runs c n old t v) is runs in
+    record {
+      machine = m;
+      flies = ap (λ (e : PartyState). e.machine) now.state;
+      about = now.about;
+      turn = ap (λ (e : PartyState). e.turn) now.state;
+      caller = ap (λ (e : PartyState). e.caller) now.state;
+      index_is = ap (λ (e : PartyState). e.index) now.state;
+      ran = now.ran;
+      taken = now.taken;
+      added = let a = now.added in omega arith;
+      none_free = now.none_free;
+      known = now.known;
+      op = op_told (op_of c) m now.op;
+      place_is = refl;
+      seen = now.seen;
+      below = no_limit (placed_in (stage_of m));
+      own = now.own;
+    }

@@ -277,3 +277,27 @@ part_on E s from count old b a next next' left left' parts parts' read part low 
       spare = let more = was.spare in omega arith;
       scans = scans (subst (λ (o : Option (List ℕ)). Scans from count (seen_by old) (seen_by b) o left parts) at was.scans) (part_read (IsRead low left (seen_by b) (seen_by a)) read part is told);
     }
+
+-- what a scan leaves that ends behind a part
+pub ends_behind : (s : Shared) (from : List ℕ) (count : ℕ) (old b a : Caller) (next : Option (List ℕ)) (left : ℕ) (parts : List ScanPart) → ReadSoFar s from count old b next left parts → StaysCaller s b a → a.index ≡ b.index → HasOnlyRead (seen_by b) (seen_by a) → HasPaid b a
+    → spare_of b ≤ spare_of a → StaysCaller s old a × (a.index ≡ old.index) × HasOnlyRead (seen_by old) (seen_by a) × HasPaid old a × (spare_of old ≤ spare_of a)
+ends_behind s from count old b a next left parts was stays index reads paid less =
+    let spare : spare_of old ≤ spare_of a = let more = was.spare in omega arith in
+    ((stays.0, stays.1 ∙ was.number), index ∙ was.index, back_trans (seen_by old) (seen_by b) (seen_by a) was.scans.reads reads, pays_then old.left b.left a.left (seen_by old).taken (seen_by b).taken (seen_by a).taken was.paid paid, spare)
+
+-- one that was cut off
+pub cut_behind : (old b a : Caller) → StillOrRests old b → b.index ≡ old.index → IsCutScan b a → IsCutScan old a
+cut_behind old b a still index is = record {
+  spent = is.spent;
+  cut = ⊎_elim
+      (λ (same : a ≡ b). ⊎_elim
+      (λ (first : b ≡ old). inl (same ∙ first))
+      (λ (rests : IsAtRest b). inr (subst (λ (o : Option CutCall). IsPartCut o old.index) (sym (ap (λ (d : Caller). d.cut) same ∙ rests.2)) tt))
+      still)
+      (λ (part : IsPartCut a.cut b.index). inr (subst (IsPartCut a.cut) index part))
+      is.cut;
+}
+
+pub cut_here : (E : Type 0) (o : Option ScanPart) (b a : Caller) → o ≡ None → PartEnds {E = E} (Ok o) b a → IsCutScan b a
+cut_here E (Some part) b a none ends = absurd (cc)
+cut_here E None b a none ends = ends

@@ -30,6 +30,7 @@ use Rattle.pac_index.specs.declared.caller.CutCall.{CutCall}
 use Rattle.pac_index.specs.declared.rule.About.{About}
 use Rattle.pac_index.specs.declared.rule.Member.{Member}
 use Rattle.pac_index.specs.Kept.{Begins}
+use Rattle.pac_index.specs.declared.writes.WriteNext.TheVariants as next
 use Rattle.pac_index.specs.declared.writes.WriteTry.TheVariants as write
 use Rattle.pac_index.specs.Budgets.{CutsOff, StopsAt, place_in}
 use Rattle.pac_index.specs.Cuts.{IsCutTry, IsCutWithin, IsTried, StopsTry}
@@ -99,6 +100,29 @@ module _ (parties : ℕ) (c : CoreCall) (b v a : Caller) (same : HasMadeNone v a
     room = record { tried = seen_by v; refused = t.answers; turned = turned; turn = turn.1; told = refl };
     spare = let less = t.spare in let room = room_same in omega arith;
   }
+
+  -- or it was cut off
+  cut_by : (answer : Once Placed) → (answer ≡ once.Again again.LogFull) ⊎ (answer ≡ once.Again again.NoFree) → IsAtRest v → v.index ≡ b.index → Answers c b.index (seen_by b) answer (seen_by v) → spare_of b ≤ spare_of v → HasTurnedWithin parties v None a → TryCutInTurn parties c b a
+  cut_by answer wants rests index answers less turn = record {
+    spent = turn.0;
+    index = same.0 ∙ index;
+    uncut = same.2 ∙ rests.2;
+    cut = record { answer = answer; wants = wants; tried = seen_by v; told = answers; pins = pins_of v; pins_now = pins_of a; cut = turn.1 };
+    spare = let room = room_same in omega (arith, less, room);
+  }
+
+  pub line_cut : TryAnswered c b (once.Again again.LogFull) v → HasTurnedWithin parties v None a → TryCut parties c b a
+  line_cut t turn = inr (cut_by (once.Again again.LogFull) (inl refl) t.rests t.index t.answers (let less = t.spare in omega arith) turn)
+
+  pub node_cut : TryAnswered c b (once.Again again.NoFree) v → HasTurnedWithin parties v None a → TryCut parties c b a
+  node_cut t turn = inr (cut_by (once.Again again.NoFree) (inr refl) t.rests t.index t.answers (let less = t.spare in omega arith) turn)
+
+-- a try with nothing behind it that ends the call
+pub ended_so : (parties : ℕ) (c : CoreCall) (b a : Caller) (e : Ended Placed) → NextSo c b (next.End e) a → WriteSo parties c b (write.Ended e) a
+ended_so parties c b a (ended.Done placed) so = so
+ended_so parties c b a (ended.Spent clock) so = so
+ended_so parties c b a ended.Full so = so
+ended_so parties c b a ended.Cut so = inl so
 
 pub turned_reads : (turned : Turned) (v w : Member) → HasMadeTurn turned v w → HasOnlyRead v w
 turned_reads turned v w is = back_trans v is.before w is.back (turn_reads is.last.0 is.before w (reply.Turned turned) is.last.1)

@@ -254,3 +254,26 @@ returns-in_default-clause-events g c =
       | then-needs_split w ↦ inr (split ∙ w.if-needs_split.true, subst (TriesWithin here.if-lacks_node.self here.args.call here.if-lacks_node.steps) (sym w.steps-is) w.try_alone-answer-then-needs_split.ensures.events)
       | else-needs_split w ↦ inl w.steps-is
     ])
+
+pub try_alone-answer-requires-clause-caller : goal.try_alone-answer-requires-clause-caller
+try_alone-answer-requires-clause-caller g c = c.requires.caller
+
+pub try_alone-answer-requires-clause-begins : goal.try_alone-answer-requires-clause-begins
+try_alone-answer-requires-clause-begins g c = c.requires.begins
+
+pub try_alone-answer-requires-clause-spare : goal.try_alone-answer-requires-clause-spare
+try_alone-answer-requires-clause-spare g c = c.requires.spare
+
+pub try_alone-answer-requires-clause-quiet : goal.try_alone-answer-requires-clause-quiet
+try_alone-answer-requires-clause-quiet g c = c.requires.quiet
+
+pub returns-in_default-clause-spare : goal.returns-in_default-clause-spare
+returns-in_default-clause-spare g c =
+    let room = node_room g (goal.at.returns-in_default-clause-runs g c).After-needs_split in
+    elim c.if-needs_split.branch [
+      | then-needs_split w ↦ subst (HasRoom c.args.self.now) (sym w.self-is) (let more = w.try_alone-answer-then-needs_split.ensures.spare in omega (arith, more, room))
+      | else-needs_split w ↦ subst (HasRoom c.args.self.now) (sym w.self-is) room
+    ]
+
+pub returns-in-Again-clause-index : goal.returns-in-Again-clause-index
+returns-in-Again-clause-index g c = c.count_call.ensures.index

@@ -1,8 +1,9 @@
-use Rattle.std.proofs.Common.{◌≡◌, ◌⊎◌, inl, inr, ℕ, ◌+◌, ◌≤◌, true, false, length, sym, ap, ◌∙◌, subst, arith}
+use Rattle.std.proofs.Common.{◌≡◌, ◌⊎◌, inl, inr, ℕ, ◌+◌, ◌<◌, ◌≤◌, true, false, length, sym, ap, ◌∙◌, subst, arith}
 use Rattle.call_stages.specs.declared.once.Once.{Once}
 use Rattle.call_stages.specs.declared.once.Placed.{Placed}
 use Rattle.pm_words.specs.declared.layout.Layout.{Layout}
-use Rattle.std.specs.Prelude.{Some, None}
+use Rattle.std.specs.Prelude.{Some, None, is_some}
+use Rattle.std.proofs.lemmas.Bool.{false≢true}
 use Rattle.lone_hops_law.specs.lone_updater_law.specs.CallLogs.{ready_lines}
 use Rattle.index_core.specs.Costs.{most_actions}
 use Rattle.index_core.specs.CoreCalls.{count_of}
@@ -375,7 +376,7 @@ returns-in_default-answer g c =
         locks = ran_locks _ _ _ _ _ all.tries all.ran all.few;
       };
       reads = λ get. (runs.reads get).words;
-      spent = λ none. cc;
+      spent = λ none. absurd (false≢true (sym (ap is_some none)));
       events = events_last s0 _ _ i d _ _ _ _ _ _ _ (node_events g at.After-needs_split (line_events g at.After-lacks_node)) last;
       in_time = λ short none.
           let needs = none_lacks g at.After-lacks_line none in
@@ -385,3 +386,99 @@ returns-in_default-answer g c =
           c.try_within.ensures.index (c.in-Some.ensures.tries.still i c.requires.still).calls c.in-Some.ensures.tries.tries c.in-Some.ensures.in_time c.try_within.ensures.events same short last;
       index = split.index;
     }
+
+pub try_within-requires-clause-caller : goal.try_within-requires-clause-caller
+try_within-requires-clause-caller g c = c.requires.caller
+
+pub try_within-requires-clause-begins : goal.try_within-requires-clause-begins
+try_within-requires-clause-begins g c = c.requires.begins
+
+pub try_within-requires-clause-spare : goal.try_within-requires-clause-spare
+try_within-requires-clause-spare g c = c.requires.spare
+
+pub try_within-requires-clause-still : goal.try_within-requires-clause-still
+try_within-requires-clause-still g c = c.requires.still
+
+pub try_behind_turn_within-requires-clause-begins : goal.try_behind_turn_within-requires-clause-begins
+try_behind_turn_within-requires-clause-begins g c = c.requires.begins
+
+pub try_behind_turn_within-requires-clause-caller : goal.try_behind_turn_within-requires-clause-caller
+try_behind_turn_within-requires-clause-caller g c =
+    let one = first g (goal.at.try_behind_turn_within-requires-clause-caller g c).After-lacks_line in
+    subst (λ (l : Layout). c.args.caller < l.callers) (sym one.0.layout) c.requires.caller
+
+pub try_behind_turn_within-requires-clause-spare : goal.try_behind_turn_within-requires-clause-spare
+try_behind_turn_within-requires-clause-spare g c =
+    let one = first g (goal.at.try_behind_turn_within-requires-clause-spare g c).After-lacks_line in
+    let back = back_line c.in-Some.answer (sym c.lacks_line.ensures ∙ c.if-lacks_line.true) in
+    stood_spare c.args.self.now c.try_within.new.self c.args.caller c.args.call c.in-Some.answer back.0 one.0 back.1 c.requires.spare
+
+pub try_behind_turn_within-requires-then-lacks_node-clause-begins : goal.try_behind_turn_within-requires-then-lacks_node-clause-begins
+try_behind_turn_within-requires-then-lacks_node-clause-begins g c = c.requires.begins
+
+pub try_behind_turn_within-requires-then-lacks_node-clause-caller : goal.try_behind_turn_within-requires-then-lacks_node-clause-caller
+try_behind_turn_within-requires-then-lacks_node-clause-caller g c =
+    let at = goal.at.try_behind_turn_within-requires-then-lacks_node-clause-caller g c in
+    let one = line g at.After-lacks_node (first g at.After-lacks_line) in
+    subst (λ (l : Layout). c.args.caller < l.callers) (sym one.0.layout) c.requires.caller
+
+pub try_behind_turn_within-requires-then-lacks_node-clause-spare : goal.try_behind_turn_within-requires-then-lacks_node-clause-spare
+try_behind_turn_within-requires-then-lacks_node-clause-spare g c =
+    let at = goal.at.try_behind_turn_within-requires-then-lacks_node-clause-spare g c in
+    let one = line g at.After-lacks_node (first g at.After-lacks_line) in
+    let back = back_node c.if-lacks_line.answer (sym c.lacks_node.ensures ∙ c.if-lacks_node.true) in
+    stood_spare c.args.self.now c.if-lacks_line.self c.args.caller c.args.call c.if-lacks_line.answer back.0 one.0 back.1 c.requires.spare
+
+pub try_within-requires-then-needs_split-clause-begins : goal.try_within-requires-then-needs_split-clause-begins
+try_within-requires-then-needs_split-clause-begins g c = c.requires.begins
+
+pub try_within-requires-then-needs_split-clause-caller : goal.try_within-requires-then-needs_split-clause-caller
+try_within-requires-then-needs_split-clause-caller g c =
+    let at = goal.at.try_within-requires-then-needs_split-clause-caller g c in
+    let one = node g at.After-needs_split (line g at.After-lacks_node (first g at.After-lacks_line)) in
+    subst (λ (l : Layout). c.args.caller < l.callers) (sym one.0.layout) c.requires.caller
+
+pub returns-in_default-clause-events : goal.returns-in_default-clause-events
+returns-in_default-clause-events g c = c.try_within.ensures.events
+
+pub returns-in_default-clause-index : goal.returns-in_default-clause-index
+returns-in_default-clause-index g c = c.try_within.ensures.index
+
+pub returns-in_default-clause-reads : goal.returns-in_default-clause-reads
+returns-in_default-clause-reads g c = c.try_within.ensures.reads
+
+pub returns-in_default-clause-spent : goal.returns-in_default-clause-spent
+returns-in_default-clause-spent g c = c.in_default.ensures.spent
+
+pub returns-in_default-try_behind_turn_within-clause-events : goal.returns-in_default-try_behind_turn_within-clause-events
+returns-in_default-try_behind_turn_within-clause-events g c = omega (arith, c.try_within.ensures.events, c.try_behind_turn_within.ensures.events)
+
+pub returns-in_default-try_behind_turn_within-clause-index : goal.returns-in_default-try_behind_turn_within-clause-index
+returns-in_default-try_behind_turn_within-clause-index g c = c.try_behind_turn_within.ensures.index
+
+pub returns-in_default-try_behind_turn_within-clause-spent : goal.returns-in_default-try_behind_turn_within-clause-spent
+returns-in_default-try_behind_turn_within-clause-spent g c = c.in_default-try_behind_turn_within.ensures.spent
+
+pub returns-in_default-try_behind_turn_within-2-clause-events : goal.returns-in_default-try_behind_turn_within-2-clause-events
+returns-in_default-try_behind_turn_within-2-clause-events g c =
+    let before = line_events g (goal.at.returns-in_default-try_behind_turn_within-2-clause-events g c).After-lacks_node in
+    let made = c.try_behind_turn_within-then-lacks_node.ensures.events in
+    omega (arith, before, made)
+
+pub returns-in_default-try_behind_turn_within-2-clause-index : goal.returns-in_default-try_behind_turn_within-2-clause-index
+returns-in_default-try_behind_turn_within-2-clause-index g c = c.try_behind_turn_within-then-lacks_node.ensures.index
+
+pub returns-in_default-try_behind_turn_within-2-clause-spent : goal.returns-in_default-try_behind_turn_within-2-clause-spent
+returns-in_default-try_behind_turn_within-2-clause-spent g c = c.in_default-try_behind_turn_within-2.ensures.spent
+
+pub returns-in_default-try_within-clause-index : goal.returns-in_default-try_within-clause-index
+returns-in_default-try_within-clause-index g c = c.try_within-then-needs_split.ensures.index
+
+pub returns-in_default-try_within-clause-spent : goal.returns-in_default-try_within-clause-spent
+returns-in_default-try_within-clause-spent g c = c.in_default-try_within.ensures.spent
+
+pub returns-in-Again-clause-index : goal.returns-in-Again-clause-index
+returns-in-Again-clause-index g c = c.count_call.ensures.index
+
+pub returns-in-Again-clause-spent : goal.returns-in-Again-clause-spent
+returns-in-Again-clause-spent g c = λ none. absurd (false≢true (sym (ap is_some none)))

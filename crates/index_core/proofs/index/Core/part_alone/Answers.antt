@@ -90,3 +90,15 @@ steps-preserved g c = (
 
 pub steps-smaller : goal.steps-smaller
 steps-smaller g c = (gone g c).1
+
+pub start_name-requires-clause-party : goal.start_name-requires-clause-party
+start_name-requires-clause-party g c = c.requires.caller
+
+pub start_name-requires-clause-begins : goal.start_name-requires-clause-begins
+start_name-requires-clause-begins g c = tt
+
+pub start_name-requires-clause-spare : goal.start_name-requires-clause-spare
+start_name-requires-clause-spare g c = omega arith
+
+pub listing-words-requires : goal.listing-words-requires
+listing-words-requires g c = c.has_listed.ensures.0 c.if-has_listed.true

@@ -1,5 +1,6 @@
-use Rattle.std.proofs.Common.{inl, refl, sym, subst, arith}
-use Rattle.std.specs.Prelude.{Some, None}
+use Rattle.std.proofs.Common.{inl, refl, sym, ap, subst, arith}
+use Rattle.std.specs.Prelude.{Some, None, is_some}
+use Rattle.std.proofs.lemmas.Bool.{false≢true}
 use Rattle.call_stages.specs.declared.once.Once.{Once}
 use Rattle.call_stages.specs.declared.once.Once.TheVariants as once
 use Rattle.node_ops.specs.declared.part.PartWords.{PartWords}
@@ -90,3 +91,45 @@ pub steps-smaller : goal.steps-smaller
 steps-smaller g c =
     let t = c.step_call-in-steps.ensures in
     (lone_goes c.args.self.now c.steps.self c.step_call-in-steps.new.self c.args.caller (call.Part c.args.low c.args.count) c.step_call-in-steps.result c.steps.invariant.0 (turns_on t.turned t.index t.spare.all) c.in_default-step_call.is).1
+
+pub start_name-requires-clause-party : goal.start_name-requires-clause-party
+start_name-requires-clause-party g c = c.requires.caller
+
+pub start_name-requires-clause-begins : goal.start_name-requires-clause-begins
+start_name-requires-clause-begins g c = tt
+
+pub start_name-requires-clause-spare : goal.start_name-requires-clause-spare
+start_name-requires-clause-spare g c = omega arith
+
+pub listing-words-requires : goal.listing-words-requires
+listing-words-requires g c = c.has_listed.ensures.0 c.if-has_listed.true
+
+pub overflow_sub-budget : goal.overflow_sub-budget
+overflow_sub-budget g c = omega (arith, c.if-budget-eq0.false)
+
+pub returns-then-has_listed-clause-events : goal.returns-then-has_listed-clause-events
+returns-then-has_listed-clause-events g c = omega (arith, c.step_call.ensures.tick, c.steps.invariant.1, c.if-budget-eq0.false)
+
+pub returns-then-has_listed-clause-index : goal.returns-then-has_listed-clause-index
+returns-then-has_listed-clause-index g c = c.step_call.ensures.index
+
+pub returns-then-has_listed-clause-spent : goal.returns-then-has_listed-clause-spent
+returns-then-has_listed-clause-spent g c = λ none. absurd (false≢true (sym (ap is_some none)))
+
+pub returns-in-Some-clause-events : goal.returns-in-Some-clause-events
+returns-in-Some-clause-events g c = omega (arith, c.step_call-in-steps.ensures.tick, c.steps.invariant.1, c.if-budget-eq0.false)
+
+pub returns-in-Some-clause-index : goal.returns-in-Some-clause-index
+returns-in-Some-clause-index g c = c.step_call-in-steps.ensures.index
+
+pub returns-in-Some-clause-spent : goal.returns-in-Some-clause-spent
+returns-in-Some-clause-spent g c = λ none. absurd (false≢true (sym (ap is_some none)))
+
+pub returns-then-budget-eq0-clause-events : goal.returns-then-budget-eq0-clause-events
+returns-then-budget-eq0-clause-events g c = c.steps.invariant.1
+
+pub returns-then-budget-eq0-clause-index : goal.returns-then-budget-eq0-clause-index
+returns-then-budget-eq0-clause-index g c = c.steps.invariant.0.index
+
+pub returns-then-budget-eq0-clause-spent : goal.returns-then-budget-eq0-clause-spent
+returns-then-budget-eq0-clause-spent g c = λ none. omega (arith, c.if-budget-eq0.true)

@@ -1,5 +1,6 @@
 use Rattle.std.proofs.Common.{◌<◌, refl, sym, ◌∙◌, ap, subst, arith}
-use Rattle.std.specs.Prelude.{Some}
+use Rattle.std.specs.Prelude.{Some, is_some}
+use Rattle.std.proofs.lemmas.Bool.{false≢true}
 use Rattle.call_stages.specs.declared.once.Once.{Once}
 use Rattle.node_ops.specs.declared.recheck.Same.{Same}
 use Rattle.index_core.specs.Indexes.{Index}
@@ -66,3 +67,44 @@ tries-preserved g c =
       omega (arith, c.step_recheck.ensures.tick, i.2, c.if-budget-eq0.false),
       (λ there. let late = i.3 there in omega (arith, less, c.step_recheck.ensures.tick, late)),
     )
+
+pub begin_recheck-requires-clause-caller : goal.begin_recheck-requires-clause-caller
+begin_recheck-requires-clause-caller g c = c.requires.caller
+
+pub begin_recheck-requires-clause-node : goal.begin_recheck-requires-clause-node
+begin_recheck-requires-clause-node g c = c.requires.node
+
+pub begin_recheck-requires-clause-still : goal.begin_recheck-requires-clause-still
+begin_recheck-requires-clause-still g c = c.requires.still
+
+pub overflow_sub-budget : goal.overflow_sub-budget
+overflow_sub-budget g c = omega (arith, c.if-budget-eq0.false)
+
+pub returns-in-Done-clause-events : goal.returns-in-Done-clause-events
+returns-in-Done-clause-events g c = omega (arith, c.step_recheck.ensures.tick, c.tries.invariant.2, c.if-budget-eq0.false)
+
+pub returns-in-Done-clause-in_time : goal.returns-in-Done-clause-in_time
+returns-in-Done-clause-in_time g c =
+    λ is.
+    let i = c.tries.invariant in
+    let some = lone_recheck_left c.args.self.now c.tries.self c.args.caller c.args.node c.args.version i.0 i.1 in
+    let late = i.3 is in
+    omega (arith, some, late, c.step_recheck.ensures.tick)
+
+pub returns-in-Done-clause-index : goal.returns-in-Done-clause-index
+returns-in-Done-clause-index g c = c.step_recheck.ensures.index
+
+pub returns-in-Done-clause-spent : goal.returns-in-Done-clause-spent
+returns-in-Done-clause-spent g c = λ none. absurd (false≢true (sym (ap is_some none)))
+
+pub returns-then-budget-eq0-clause-events : goal.returns-then-budget-eq0-clause-events
+returns-then-budget-eq0-clause-events g c = c.tries.invariant.2
+
+pub returns-then-budget-eq0-clause-spent : goal.returns-then-budget-eq0-clause-spent
+returns-then-budget-eq0-clause-spent g c = λ none. omega (arith, c.if-budget-eq0.true)
+
+pub tries-smaller : goal.tries-smaller
+tries-smaller g c = omega (arith, c.if-budget-eq0.false)
+
+pub tries-smaller-in-Some : goal.tries-smaller-in-Some
+tries-smaller-in-Some g c = omega (arith, c.if-budget-eq0.false)

@@ -1,5 +1,6 @@
 use Rattle.std.proofs.Common.{◌≡◌, ℕ, ◌-◌, ◌+◌, ◌<◌, length, arith, refl, ap, sym, ◌∙◌, subst}
 use Rattle.std.specs.Prelude.{Some, slice_set}
+use Rattle.std.proofs.lemmas.Result.{IfOk-from_err}
 use Rattle.call_stages.specs.declared.view.View.{View}
 use Rattle.index_core.specs.declared.party.PartyState.{PartyState}
 use Rattle.index_core.specs.declared.party.Rechecking.{Rechecking}
@@ -66,3 +67,33 @@ returns-clause-started c = record {
 
 pub returns-clause-index : goal.returns-clause-index
 returns-clause-index c = respare _ _ (invariant_of-self c).0
+
+pub returns-in_err-may_begin-clause-in_flight : goal.returns-in_err-may_begin-clause-in_flight
+returns-in_err-may_begin-clause-in_flight c = (λ _. c.in_err-may_begin.ensures.in_flight.0 refl, λ _. c.from_residual.ensures.0)
+
+pub returns-in_err-may_begin-clause-started : goal.returns-in_err-may_begin-clause-started
+returns-in_err-may_begin-clause-started c = IfOk-from_err c.from_residual.result _ c.from_residual.ensures.0
+
+pub returns-in_err-may_begin-clause-before : goal.returns-in_err-may_begin-clause-before
+returns-in_err-may_begin-clause-before c = c.may_begin.ensures.index
+
+pub returns-in_err-may_begin-clause-index : goal.returns-in_err-may_begin-clause-index
+returns-in_err-may_begin-clause-index c = c.may_begin.ensures.index
+
+pub returns-clause-in_flight : goal.returns-clause-in_flight
+returns-clause-in_flight c = c.in_ok-may_begin.ensures.in_flight
+
+pub returns-clause-err : goal.returns-clause-err
+returns-clause-err c = tt
+
+pub returns-clause-before : goal.returns-clause-before
+returns-clause-before c = c.in_ok-may_begin.ensures.index
+
+pub new-recheck-requires-clause-view : goal.new-recheck-requires-clause-view
+new-recheck-requires-clause-view c = c.seen_by-view.ensures.valid
+
+pub may_begin-requires : goal.may_begin-requires
+may_begin-requires c = omega (arith, c.requires.party)
+
+pub seen_by-view-requires : goal.seen_by-view-requires
+seen_by-view-requires c = c.requires.party

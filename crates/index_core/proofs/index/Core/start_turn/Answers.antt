@@ -1,5 +1,6 @@
 use Rattle.std.proofs.Common.{◌≡◌, ℕ, ◌-◌, ◌+◌, arith, refl, ap, sym, ◌∙◌, subst}
 use Rattle.std.specs.Prelude.{Some, slice_set}
+use Rattle.std.proofs.lemmas.Result.{IfOk-from_err}
 use Rattle.pm_words.specs.declared.layout.Layout.{Layout}
 use Rattle.updater.specs.Makings.{making_from}
 use Rattle.index_core.specs.PartyStates.{owed}
@@ -47,3 +48,27 @@ returns-clause-started c = record {
 
 pub returns-clause-index : goal.returns-clause-index
 returns-clause-index c = respare _ _ (invariant_of-self c).0
+
+pub returns-in_err-may_begin-clause-in_flight : goal.returns-in_err-may_begin-clause-in_flight
+returns-in_err-may_begin-clause-in_flight c = (λ _. c.in_err-may_begin.ensures.in_flight.0 refl, λ _. c.from_residual.ensures.0)
+
+pub returns-in_err-may_begin-clause-started : goal.returns-in_err-may_begin-clause-started
+returns-in_err-may_begin-clause-started c = IfOk-from_err c.from_residual.result _ c.from_residual.ensures.0
+
+pub returns-in_err-may_begin-clause-before : goal.returns-in_err-may_begin-clause-before
+returns-in_err-may_begin-clause-before c = c.may_begin.ensures.index
+
+pub returns-in_err-may_begin-clause-index : goal.returns-in_err-may_begin-clause-index
+returns-in_err-may_begin-clause-index c = c.may_begin.ensures.index
+
+pub returns-clause-in_flight : goal.returns-clause-in_flight
+returns-clause-in_flight c = c.in_ok-may_begin.ensures.in_flight
+
+pub returns-clause-err : goal.returns-clause-err
+returns-clause-err c = tt
+
+pub returns-clause-before : goal.returns-clause-before
+returns-clause-before c = c.in_ok-may_begin.ensures.index
+
+pub new-making-requires-clause-stamp : goal.new-making-requires-clause-stamp
+new-making-requires-clause-stamp c = c.requires.stamp

@@ -1,4 +1,6 @@
-use Rattle.std.proofs.Common.{refl, arith}
+use Rattle.std.proofs.Common.{refl, sym, ap, arith}
+use Rattle.std.specs.Prelude.{is_some}
+use Rattle.std.proofs.lemmas.Bool.{false≢true}
 use Rattle.index_core.proofs.Bursting.{turns_on}
 use Rattle.index_core.proofs.Busy.{still_is_idle}
 use Rattle.call_stages.specs.declared.once.Once.{Once}
@@ -67,3 +69,39 @@ steps-preserved g c = (
   (let costs = lone_costs c.args.self.now c.steps.self c.step_call.new.self c.args.caller c.args.call.now c.step_call.result c.steps.invariant.0 (turns_on c.step_call.ensures.turned c.step_call.ensures.index c.step_call.ensures.spare.all) c.in_default-step_call.is in
       omega (arith, costs, c.step_call.ensures.tick, c.steps.invariant.2)),
 )
+
+pub start_name-requires-clause-party : goal.start_name-requires-clause-party
+start_name-requires-clause-party g c = c.requires.caller
+
+pub start_name-requires-clause-begins : goal.start_name-requires-clause-begins
+start_name-requires-clause-begins g c = c.requires.begins
+
+pub start_name-requires-clause-spare : goal.start_name-requires-clause-spare
+start_name-requires-clause-spare g c = c.requires.spare
+
+pub overflow_sub-budget : goal.overflow_sub-budget
+overflow_sub-budget g c = omega (arith, c.if-budget-eq0.false)
+
+pub returns-in-Some-clause-before : goal.returns-in-Some-clause-before
+returns-in-Some-clause-before g c = c.start_name.ensures.before
+
+pub returns-in-Some-clause-events : goal.returns-in-Some-clause-events
+returns-in-Some-clause-events g c = omega (arith, c.step_call.ensures.tick, c.steps.invariant.1, c.if-budget-eq0.false)
+
+pub returns-in-Some-clause-index : goal.returns-in-Some-clause-index
+returns-in-Some-clause-index g c = c.step_call.ensures.index
+
+pub returns-in-Some-clause-spent : goal.returns-in-Some-clause-spent
+returns-in-Some-clause-spent g c = λ none. absurd (false≢true (sym (ap is_some none)))
+
+pub returns-then-budget-eq0-clause-before : goal.returns-then-budget-eq0-clause-before
+returns-then-budget-eq0-clause-before g c = c.start_name.ensures.before
+
+pub returns-then-budget-eq0-clause-events : goal.returns-then-budget-eq0-clause-events
+returns-then-budget-eq0-clause-events g c = c.steps.invariant.1
+
+pub returns-then-budget-eq0-clause-index : goal.returns-then-budget-eq0-clause-index
+returns-then-budget-eq0-clause-index g c = c.steps.invariant.0.index
+
+pub returns-then-budget-eq0-clause-spent : goal.returns-then-budget-eq0-clause-spent
+returns-then-budget-eq0-clause-spent g c = λ none. omega (arith, c.if-budget-eq0.true)

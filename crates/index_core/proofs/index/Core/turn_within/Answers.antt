@@ -1,6 +1,9 @@
-use Rattle.std.proofs.Common.{refl, ◌∙◌, ap, arith}
-use Rattle.std.specs.Prelude.{Some}
+use Rattle.std.proofs.Common.{◌≤◌, refl, sym, ◌∙◌, ap, subst, arith}
+use Rattle.std.specs.Prelude.{Some, is_some}
+use Rattle.std.proofs.lemmas.Bool.{false≢true}
+use Rattle.pm_words.specs.declared.layout.Layout.{Layout}
 use Rattle.updater.specs.declared.making.TurnReply.{TurnReply}
+use Rattle.index_core.specs.Indexes.{Index}
 use Rattle.index_core.proofs.Waiting.{turns_again, turns_begin_so, turns_cut, turns_end_so, turns_flies, turns_go_so, turns_late, turns_stay, turns_still}
 use Rattle.index_core.proofs.Retrying.{turned_short}
 use Rattle.index_core.proofs.index.Core.turn_within.Goals as goal
@@ -68,3 +71,59 @@ tries-preserved g c = (
       c.in-Some-Held.field-0-0 (c.in-Some-Held.is ∙ ap (λ (r : TurnReply). Some r) c.in-Some-Held.field-0-is) c.begin_turn-in-Some-Held.new.self c.step_turn.new.steps c.begin_turn-in-Some-Held.ensures.started,
   omega (arith, c.step_turn.ensures.tick, c.tries.invariant.1, c.if-budget-eq0.false),
 )
+
+pub begin_turn-requires-clause-party : goal.begin_turn-requires-clause-party
+begin_turn-requires-clause-party g c = c.requires.party
+
+pub begin_turn-requires-clause-stamp : goal.begin_turn-requires-clause-stamp
+begin_turn-requires-clause-stamp g c = c.requires.stamp
+
+pub begin_turn-requires-clause-still : goal.begin_turn-requires-clause-still
+begin_turn-requires-clause-still g c = c.requires.still
+
+pub begin_turn-requires-in-Some-Held-clause-stamp : goal.begin_turn-requires-in-Some-Held-clause-stamp
+begin_turn-requires-in-Some-Held-clause-stamp g c = c.requires.stamp
+
+pub begin_turn-requires-in-Some-Held-clause-party : goal.begin_turn-requires-in-Some-Held-clause-party
+begin_turn-requires-in-Some-Held-clause-party g c =
+    let cut = turns_cut c.args.self.now c.tries.self c.args.party c.args.stamp c.args.release c.args.steps.now c.tries.steps c.tries.invariant.0 in
+    subst (λ (l : Layout). c.args.party ≤ l.callers) (sym (ap (λ (v : Index). v.layout) c.step_turn.ensures.stepped.is ∙ cut.layout)) c.requires.party
+
+pub overflow_sub-budget : goal.overflow_sub-budget
+overflow_sub-budget g c = omega (arith, c.if-budget-eq0.false)
+
+pub returns-in-Some-Turned-clause-before : goal.returns-in-Some-Turned-clause-before
+returns-in-Some-Turned-clause-before g c = c.begin_turn.ensures.before
+
+pub returns-in-Some-Turned-clause-events : goal.returns-in-Some-Turned-clause-events
+returns-in-Some-Turned-clause-events g c = omega (arith, c.step_turn.ensures.tick, c.tries.invariant.1, c.if-budget-eq0.false)
+
+pub returns-in-Some-Turned-clause-index : goal.returns-in-Some-Turned-clause-index
+returns-in-Some-Turned-clause-index g c = c.step_turn.ensures.index
+
+pub returns-in-Some-Turned-clause-spent : goal.returns-in-Some-Turned-clause-spent
+returns-in-Some-Turned-clause-spent g c = λ none. absurd (false≢true (sym (ap is_some none)))
+
+pub returns-in-Some-Turned-clause-stays : goal.returns-in-Some-Turned-clause-stays
+returns-in-Some-Turned-clause-stays g c = λ none. absurd (false≢true (sym (ap is_some none)))
+
+pub returns-then-budget-eq0-clause-before : goal.returns-then-budget-eq0-clause-before
+returns-then-budget-eq0-clause-before g c = c.begin_turn.ensures.before
+
+pub returns-then-budget-eq0-clause-events : goal.returns-then-budget-eq0-clause-events
+returns-then-budget-eq0-clause-events g c = c.tries.invariant.1
+
+pub returns-then-budget-eq0-clause-quiet : goal.returns-then-budget-eq0-clause-quiet
+returns-then-budget-eq0-clause-quiet g c = tt
+
+pub returns-then-budget-eq0-clause-short : goal.returns-then-budget-eq0-clause-short
+returns-then-budget-eq0-clause-short g c = tt
+
+pub returns-then-budget-eq0-clause-spent : goal.returns-then-budget-eq0-clause-spent
+returns-then-budget-eq0-clause-spent g c = λ none. omega (arith, c.if-budget-eq0.true)
+
+pub tries-smaller : goal.tries-smaller
+tries-smaller g c = omega (arith, c.if-budget-eq0.false)
+
+pub tries-smaller-in-None : goal.tries-smaller-in-None
+tries-smaller-in-None g c = omega (arith, c.if-budget-eq0.false)

@@ -7,10 +7,11 @@ use Rattle.node_ops.specs.declared.part.PartWords.{PartWords}
 use Rattle.node_ops.specs.PartSteps.{IsEarly}
 use Rattle.node_ops.specs.RunningSteps.{listed_in}
 use Rattle.index_core.specs.declared.party.CoreCall.TheVariants as call
+use Rattle.pac_index.specs.Budgets.{Pays, StopsAt}
 use Rattle.pac_index.specs.Kept.{party}
 use Rattle.pac_index.specs.Calls.{PartAnswers}
-use Rattle.pac_index.proofs.Budgeting.{paid, pays_on}
-use Rattle.pac_index.proofs.Running.{going, lists_none, not_done, part_ends, part_moved, part_stops, runs_a_part, runs_stepped, stops_early}
+use Rattle.pac_index.proofs.Budgeting.{paid, pays_on, unpaid}
+use Rattle.pac_index.proofs.Running.{going, lists_none, not_done, part_ends, part_halts, part_moved, part_stops, runs_a_part, runs_stepped, stops_early}
 use Rattle.pac_index.proofs.shared.Shared.run_part.Goals as goal
 
 pub returns-in-Some-clause-ran : goal.returns-in-Some-clause-ran
@@ -56,3 +57,20 @@ steps-preserved g c =
       stops_early m c.go_on-answer.new.machine on.steps.told c.go_on-answer.result (runs_a_part c.args.low c.args.count c.args.index old (party c.steps.seat.me) _ m runs goes) none on.steps.turned,
       pays_on c.args.left.now c.steps.left c.pay.new.left old.taken (party c.steps.seat.me).taken (party c.go_on-answer.new.seat.me).taken c.steps.invariant.4 (paid c.pay.result _ _ c.if-not-pay.false c.pay.ensures) on.steps.goes.stepped.taken,
     )
+
+pub returns-then-not-pay : goal.returns-then-not-pay
+returns-then-not-pay g c =
+    let old = party c.args.seat.now.me in
+    let now = party c.steps.seat.me in
+    let goes = going c.steps.machine c.steps.answer c.in_default.not-Some in
+    let none = unpaid c.pay.result _ _ c.if-not-pay.true c.pay.ensures in
+    record {
+      seat = c.steps.invariant.0;
+      lone = c.steps.invariant.1;
+      ran = (
+        none.1 ∙ none.0,
+        subst (λ (place : Option _). StopsAt (call.Part c.args.low c.args.count) c.args.index old place now) (sym c.place.ensures)
+            (part_halts c.args.low c.args.count c.args.index old now (turn_of c.steps.machine c.steps.answer) c.steps.machine c.steps.invariant.2 goes),
+      );
+      paid = subst (λ (left : Option _). Pays c.args.left.now left old.taken now.taken) (sym none.1) c.steps.invariant.4;
+    }
