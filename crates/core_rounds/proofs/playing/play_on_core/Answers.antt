@@ -1,4 +1,4 @@
-use Rattle.std.proofs.Common.{◌+◌, ◌*◌, ◌≤◌, List, ap, sym, subst, ◌∙◌}
+use Rattle.std.proofs.Common.{◌+◌, ◌*◌, ◌<◌, ◌≤◌, All, List, ap, sym, subst, ◌∙◌}
 use Rattle.cat_history.specs.declared.plan.RoundPlan.{RoundPlan}
 use Rattle.cat_text.specs.declared.report.RoundReport.{RoundReport}
 use Rattle.recovery.specs.index_core.specs.Indexes.{Index}
@@ -56,3 +56,22 @@ returns g c =
           subst (λ (n : Index). Waits n (changes + changes_of_rounds (state_of core) reports) lines puts) (sym left.core)
           (leaves none changes lines puts (record { ready = waits.ready; lines = waits.lines; nodes = waits.nodes }));
     }
+
+pub play_on_map-requires-clause-lone : goal.play_on_map-requires-clause-lone
+play_on_map-requires-clause-lone g c = c.requires.playable.lone
+
+pub play_on_map-requires-clause-joined : goal.play_on_map-requires-clause-joined
+play_on_map-requires-clause-joined g c = c.requires.playable.joined
+
+pub play_on_map-requires-clause-told : goal.play_on_map-requires-clause-told
+play_on_map-requires-clause-told g c = c.requires.playable.told
+
+pub play_on_map-requires-clause-callers : goal.play_on_map-requires-clause-callers
+play_on_map-requires-clause-callers g c =
+    subst (λ (s : Index). All (λ (plan : RoundPlan). All (λ a. a.caller < s.layout.callers) plan.ops) c.args.plans.now)
+    (sym (c.of_core-map.ensures ∙ c.reserve.ensures.kept)) c.requires.playable.callers
+
+pub play_on_map-requires-clause-calls : goal.play_on_map-requires-clause-calls
+play_on_map-requires-clause-calls g c =
+    subst (λ (s : Index). calls_in c.args.plans.now * s.layout.nodes ≤ calls_left_of s) (sym (c.of_core-map.ensures ∙ c.reserve.ensures.kept))
+    (opened_calls c.requires.opened.0 c.args.core (calls_in c.args.plans.now) c.requires.opened.1 c.requires.playable.calls)

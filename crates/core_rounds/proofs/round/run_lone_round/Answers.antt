@@ -1,4 +1,4 @@
-use Rattle.std.proofs.Common.{◌≡◌, ℕ, ◌+◌, ◌<◌, ◌≤◌, ◌↔◌, cond, List, [], ◌∷◌, ◌++◌, length, get_or, take, map, All, rules, refl, ap, subst, ◌∙◌, sym, arith, length-append}
+use Rattle.std.proofs.Common.{◌≡◌, ℕ, ◌+◌, ◌*◌, ◌<◌, ◌≤◌, ◌↔◌, cond, List, [], ◌∷◌, ◌++◌, length, get_or, take, map, All, refl, ap, subst, ◌∙◌, sym, arith, length-append}
 use Rattle.std.specs.FinMap.{len}
 use Rattle.cat_history.specs.LoneRounds.{write_of, writes_of, IsAnswerNow, IsSpent}
 use Rattle.cat_history.specs.Records.{call_of, numbered}
@@ -7,7 +7,7 @@ use Rattle.core_rounds.specs.LoneCalls.{AreReportCalls}
 use Rattle.cat_history.specs.declared.op.CallerOp.{CallerOp}
 use Rattle.cat_history.specs.declared.record.Record.{Record}
 use Rattle.cat_history.specs.declared.record.Reply.TheVariants.{Full}
-use Rattle.core_rounds.specs.Rounds.{IsTurnDue}
+use Rattle.core_rounds.specs.Rounds.{IsPlayedSoFar, IsTurnDue}
 use Rattle.cat_history.proofs.LoneRoundLemmas.{lone_rounds_are_legal}
 use Rattle.cat_text.proofs.LoneReports.{lone_stand}
 use Rattle.shapes.specs.Runs.{Standing, opening}
@@ -16,18 +16,18 @@ use Rattle.caller_rounds.proofs.Rooms.{added-append}
 use Rattle.stopped_rounds.proofs.Stopping.{one_at_most, recorded}
 use Rattle.core_rounds.proofs.LoneRoundSteps.{writes_of-push, calls-push, calls-whole, along-push, ends-push, full-push, stands-push, anchors-push, bounds-push, told-push, none-so-far}
 use Rattle.std.proofs.lemmas.List.{take_all}
-use Rattle.core_rounds.specs.Updated.{change_by, changes_by}
+use Rattle.core_rounds.specs.Updated.{UsesUp, change_by, changes_by}
 use Rattle.core_rounds.specs.Waiting.{one_change, puts_among, writes_among}
 use Rattle.core_rounds.proofs.RoundWaits.{changes_in-push, waits-call}
-use Rattle.core_rounds.proofs.Using.{bounds-then}
+use Rattle.core_rounds.proofs.Using.{bounds-then, calls-for-one, none-at-err, uses-call, uses-none}
+use Rattle.core_rounds.proofs.CoreMaps.{on-err}
 use Rattle.core_rounds.proofs.round.run_lone_round.Goals.{then-is_placed_write, else-is_placed_write}
 use Rattle.core_rounds.proofs.round.run_lone_round.Goals as goal
 
 pub returns-in_err-records-clause-err : goal.returns-in_err-records-clause-err
 returns-in_err-records-clause-err g c =
     let first = g.M.UpdatedMap.state c.args.map.now in
-    let none = none-so-far first.slots first.most first.contents first.anchors c.args.plan.now in
-    search (rules, none)
+    on-err c.from_residual.result _ (none-so-far first.slots first.most first.contents first.anchors c.args.plan.now)
 
 pub answer-requires-clause-caller : goal.answer-requires-clause-caller
 answer-requires-clause-caller g c =
@@ -159,3 +159,76 @@ returns-clause-waits g c none changes writes puts waits =
     rw c.of.ensures
     (c.loop-index.invariant.waits none changes writes puts
     (subst (λ (asked : List CallerOp). M.waits c.args.map.now changes (writes + writes_among asked) (puts + puts_among asked)) (sym all) waits))
+
+pub answer-requires-clause-calls : goal.answer-requires-clause-calls
+answer-requires-clause-calls g c =
+    let all = ap length c.as_slice-asked.ensures in
+    let uses = c.loop-index.invariant.uses in
+    calls-for-one c.loop-index.index (length c.args.plan.now.ops) _ _ _ _ c.requires.calls (omega (arith, all, c.loop-index-test.true))
+    uses.calls_left uses.bounds.most
+
+pub answer-requires-clause-writes : goal.answer-requires-clause-writes
+answer-requires-clause-writes g c =
+    let all = ap length c.as_slice-asked.ensures in
+    omega (arith, all, c.requires.writes, c.loop-index.invariant.uses.writes_left, c.loop-index-test.true)
+
+pub returns-clause-uses : goal.returns-clause-uses
+returns-clause-uses g c =
+    let M = g.M.UpdatedMap in
+    let first = M.state c.args.map.now in
+    let same = ap length c.as_slice-asked.ensures in
+    let all : c.loop-index.index ≡ length c.args.plan.now.ops = omega (arith, same, c.loop-index-test.false) in
+    subst (λ (n : ℕ). UsesUp first (M.state c.loop-index.map) (n * first.most) n) all c.loop-index.invariant.uses
+
+pub returns-in_err-answer-clause-uses : goal.returns-in_err-answer-clause-uses
+returns-in_err-answer-clause-uses g c =
+    let all = ap length c.as_slice-asked.ensures in
+    uses-call _ _ _ c.loop-index.index _ (omega (arith, all, c.loop-index-test.true)) c.loop-index.invariant.uses c.answer.ensures.uses
+
+-- the calls before it were answered
+pub returns-in_err-answer-clause-err : goal.returns-in_err-answer-clause-err
+returns-in_err-answer-clause-err g c =
+    let M = g.M.UpdatedMap in
+    let first = M.state c.args.map.now in
+    let mid = M.state c.loop-index.map in
+    let new = M.state c.answer.new.map in
+    let same = c.in_err-answer.ensures.err in
+    let So = IsPlayedSoFar first.slots first.most first.contents first.anchors c.args.plan.now c.loop-index.index c.loop-index.records.items in
+    on-err c.from_residual-in_err-answer.result _ (
+      c.loop-index.index,
+      c.loop-index.records.items,
+      subst (λ m. So m new.anchors) (sym same.contents) (subst (λ a. So mid.contents a) (sym same.anchors) c.loop-index.invariant.played),
+    )
+
+pub returns-in_err-records-clause-uses : goal.returns-in_err-records-clause-uses
+returns-in_err-records-clause-uses g c = uses-none _ _ _
+
+pub returns-in_err-answer-clause-after : goal.returns-in_err-answer-clause-after
+returns-in_err-answer-clause-after g c = none-at-err c.from_residual-in_err-answer.result _ _ c.from_residual-in_err-answer.ensures.1
+
+pub returns-in_err-answer-clause-played : goal.returns-in_err-answer-clause-played
+returns-in_err-answer-clause-played g c = none-at-err c.from_residual-in_err-answer.result _ _ c.from_residual-in_err-answer.ensures.1
+
+pub returns-in_err-answer-clause-report : goal.returns-in_err-answer-clause-report
+returns-in_err-answer-clause-report g c = none-at-err c.from_residual-in_err-answer.result _ _ c.from_residual-in_err-answer.ensures.1
+
+pub returns-in_err-answer-clause-settled : goal.returns-in_err-answer-clause-settled
+returns-in_err-answer-clause-settled g c = none-at-err c.from_residual-in_err-answer.result _ _ c.from_residual-in_err-answer.ensures.1
+
+pub returns-in_err-answer-clause-waits : goal.returns-in_err-answer-clause-waits
+returns-in_err-answer-clause-waits g c = none-at-err c.from_residual-in_err-answer.result _ _ c.from_residual-in_err-answer.ensures.1
+
+pub returns-in_err-records-clause-after : goal.returns-in_err-records-clause-after
+returns-in_err-records-clause-after g c = none-at-err c.from_residual.result _ _ c.from_residual.ensures.1
+
+pub returns-in_err-records-clause-played : goal.returns-in_err-records-clause-played
+returns-in_err-records-clause-played g c = none-at-err c.from_residual.result _ _ c.from_residual.ensures.1
+
+pub returns-in_err-records-clause-report : goal.returns-in_err-records-clause-report
+returns-in_err-records-clause-report g c = none-at-err c.from_residual.result _ _ c.from_residual.ensures.1
+
+pub returns-in_err-records-clause-settled : goal.returns-in_err-records-clause-settled
+returns-in_err-records-clause-settled g c = none-at-err c.from_residual.result _ _ c.from_residual.ensures.1
+
+pub returns-in_err-records-clause-waits : goal.returns-in_err-records-clause-waits
+returns-in_err-records-clause-waits g c = none-at-err c.from_residual.result _ _ c.from_residual.ensures.1

@@ -1,4 +1,7 @@
-use Rattle.std.proofs.Common.{ℕ, suc, sym, ◌∙◌, subst, arith}
+use Rattle.std.proofs.Common.{ℕ, suc, ◌<◌, sym, ap, ◌∙◌, subst, arith, All}
+use Rattle.cat_history.specs.declared.op.CallerOp.{CallerOp}
+use Rattle.pm_words.specs.declared.layout.Layout.{Layout}
+use Rattle.thread_rounds.specs.index_core.specs.Indexes.{Index}
 use Rattle.std.proofs.lemmas.Result.{IfOk-weaker}
 use Rattle.version_lock.specs.Versions.{IsGeneration}
 use Rattle.crowd_rounds.proofs.CrowdRounds.{same-generation}
@@ -38,3 +41,16 @@ returns-in-Crashed g c =
     reported-crash c.args.core c.new_round.new.self c.args.plan.now c.in_ok-records.field-0 c.in-Crashed.image done.report done.core c.in_ok-new_round.ensures.ok c.in-Crashed.is c.in_ok-records.ensures.run
     c.requires.told (search arith) behind)
     c.recovered.ensures
+
+pub run_round-requires-clause-quiet : goal.run_round-requires-clause-quiet
+run_round-requires-clause-quiet g c κs within = c.in_ok-new_round.ensures.quiet
+
+pub run_round-requires-clause-start : goal.run_round-requires-clause-start
+run_round-requires-clause-start g c κs within = ap (λ (s : Index). s.history) c.in_ok-new_round.ensures.ok.is
+
+pub run_round-requires-clause-callers : goal.run_round-requires-clause-callers
+run_round-requires-clause-callers g c κs within =
+    subst (λ (l : Layout). All (λ (a : CallerOp). a.caller < l.callers) c.args.plan.now.ops) (sym (ap (λ (s : Index). s.layout) c.in_ok-new_round.ensures.ok.is)) c.requires.callers
+
+pub run_round-requires-clause-limit : goal.run_round-requires-clause-limit
+run_round-requires-clause-limit g c κs within = c.requires.limit

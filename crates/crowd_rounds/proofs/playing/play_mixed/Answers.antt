@@ -60,3 +60,19 @@ pub returns : goal.returns
 returns g c =
     let was = c.loop-at.invariant in
     all-played c.args.core c.loop-at.core c.args.plans.now c.loop-at.reports.items c.of.result was.first was.works (omega (arith, was.many, c.loop-at-test.false)) c.of.ensures
+
+pub play_segment-requires-clause-opened : goal.play_segment-requires-clause-opened
+play_segment-requires-clause-opened g c κs within = c.loop-at.invariant.opened c.loop-at-test.true
+
+pub loop-at-smaller : goal.loop-at-smaller
+loop-at-smaller g c =
+    let long = length-drop c.loop-at.at c.args.plans.now in
+    let size = ap length (rest c.args.plans.now c.loop-at.at) in
+    let some = c.in_ok-told.ensures.some (omega (arith, long, size, c.loop-at-test.true)) in
+    omega (arith, some, c.loop-at-test.true, c.len-at.ensures, c.in_ok-told.field-0.reports.ok)
+
+pub overflow_add-at : goal.overflow_add-at
+overflow_add-at g c =
+    let reports = c.loop-at.reports in
+    let told = c.in_ok-told.field-0.reports in
+    omega (arith, c.loop-at.invariant.many, reports.ok.0, reports.ok.1, reports.small, c.len-at.ensures, told.ok.0, told.ok.1, told.small)

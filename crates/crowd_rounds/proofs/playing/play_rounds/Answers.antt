@@ -1,11 +1,15 @@
-use Rattle.std.proofs.Common.{ℕ, ◌+◌, List, true, sym, ◌∙◌, subst, All}
+use Rattle.std.proofs.Common.{◌≡◌, ℕ, ◌+◌, List, true, sym, ◌∙◌, subst, All, arith}
+use Rattle.std.specs.FinMap.{len}
 use Rattle.std.proofs.lemmas.Result.{IfOk-weaker}
 use Rattle.cat_history.specs.declared.plan.RoundPlan.{RoundPlan}
 use Rattle.cat_text.specs.ReportGrammar.{IsReportRound}
 use Rattle.cat_text.specs.declared.report.RoundReport.{RoundReport}
 use Rattle.index_law.specs.Anchors.{anchors_in}
 use Rattle.thread_rounds.specs.index_core.specs.Indexes.{Index, map_of_index, world}
+use Rattle.thread_rounds.specs.index_core.specs.Weights.{weight_of}
 use Rattle.core_crashes.specs.core_rounds.specs.CoreMaps.{Waits}
+use Rattle.core_crashes.specs.core_rounds.specs.LoneCalls.{restarts}
+use Rattle.core_crashes.specs.core_rounds.specs.Rounds.{ArePlayed}
 use Rattle.core_crashes.specs.core_rounds.specs.Waiting.{HaveNoTurns, changes_made, puts_asked, writes_asked}
 use Rattle.core_crashes.specs.core_rounds.proofs.Restarting.{joined_lone_have_no_restart}
 use Rattle.core_crashes.specs.core_rounds.proofs.CrashWork.{plain_rounds_work}
@@ -46,3 +50,45 @@ returns-clause-works g c = IfOk-weaker c.play_mixed.result _ _ (λ done all. all
 pub returns-clause-waits : goal.returns-clause-waits
 returns-clause-waits g c =
     IfOk-weaker c.play_mixed.result _ _ (λ done all lone joined. absurd (c.if-restarts-eq0.false (c.restarts.ensures ∙ (joined_lone_have_no_restart c.args.plans.now).0 (lone, joined)))) c.play_mixed.ensures
+
+pub returns-then-restarts-eq0-clause-played : goal.returns-then-restarts-eq0-clause-played
+returns-then-restarts-eq0-clause-played g c =
+    let old = c.args.core in
+    let new = c.in_ok-reports.field-0.core in
+    subst (λ (reports : List RoundReport). ArePlayed old.layout.slots old.layout.nodes (weight_of old) (len (map_of_index old)) (map_of_index old) (anchors_in (world old)) c.args.plans.now reports (map_of_index new) (anchors_in (world new)))
+    (sym c.of.ensures) c.in_ok-reports.ensures.played
+
+pub returns-then-restarts-eq0-clause-layout : goal.returns-then-restarts-eq0-clause-layout
+returns-then-restarts-eq0-clause-layout g c = c.in_ok-reports.ensures.leaves.layout
+
+pub returns-then-restarts-eq0-clause-generation : goal.returns-then-restarts-eq0-clause-generation
+returns-then-restarts-eq0-clause-generation g c =
+    let none : restarts c.args.plans.now ≡ 0 = sym c.restarts.ensures ∙ c.if-restarts-eq0.true in
+    omega (arith, none, c.in_ok-reports.ensures.leaves.generation)
+
+pub returns-then-restarts-eq0-clause-index : goal.returns-then-restarts-eq0-clause-index
+returns-then-restarts-eq0-clause-index g c = c.in_ok-reports.ensures.leaves.index
+
+pub returns-then-restarts-eq0-clause-quiet : goal.returns-then-restarts-eq0-clause-quiet
+returns-then-restarts-eq0-clause-quiet g c = c.in_ok-reports.ensures.leaves.quiet
+
+pub returns-then-restarts-eq0-clause-settled : goal.returns-then-restarts-eq0-clause-settled
+returns-then-restarts-eq0-clause-settled g c = c.in_ok-reports.ensures.leaves.settled
+
+pub returns-clause-played : goal.returns-clause-played
+returns-clause-played g c = IfOk-weaker c.play_mixed.result _ _ (λ done all. all.played) c.play_mixed.ensures
+
+pub returns-clause-report : goal.returns-clause-report
+returns-clause-report g c = IfOk-weaker c.play_mixed.result _ _ (λ done all. all.told) c.play_mixed.ensures
+
+pub returns-clause-layout : goal.returns-clause-layout
+returns-clause-layout g c = IfOk-weaker c.play_mixed.result _ _ (λ done all. all.layout) c.play_mixed.ensures
+
+pub returns-clause-generation : goal.returns-clause-generation
+returns-clause-generation g c = IfOk-weaker c.play_mixed.result _ _ (λ done all. all.generation) c.play_mixed.ensures
+
+pub returns-clause-index : goal.returns-clause-index
+returns-clause-index g c = IfOk-weaker c.play_mixed.result _ _ (λ done all. all.index) c.play_mixed.ensures
+
+pub returns-clause-quiet : goal.returns-clause-quiet
+returns-clause-quiet g c = IfOk-weaker c.play_mixed.result _ _ (λ done all. all.quiet) c.play_mixed.ensures

@@ -1,4 +1,4 @@
-use Rattle.std.proofs.Common.{◌≡◌, ℕ, suc, ◌*◌, ◌^◌, ◌<◌, ◌≤◌, length, take, sym, ap, ◌∙◌, subst, arith, All}
+use Rattle.std.proofs.Common.{◌≡◌, ℕ, suc, ◌*◌, ◌^◌, ◌<◌, ◌≤◌, length, take, [], ◌∷◌, sym, ap, ◌∙◌, subst, arith, All, length-append}
 use Rattle.std.proofs.lemmas.List.Elements.{All-take}
 use Rattle.cat_history.specs.declared.op.CallerOp.{CallerOp}
 use Rattle.cat_history.specs.declared.plan.RoundPlan.{RoundPlan}
@@ -98,3 +98,23 @@ returns-clause-works g c =
     stretch-works c.requires.opened.0 c.args.core c.in_ok-reports.field-0.core c.in_ok-report.field-0.core c.args.plans.now c.plain_at_first-count.result c.in_ok-reports.field-0.reports.items c.push.new.self.items
     c.index-plans-count.result c.in_ok-report.field-0.report c.requires.opened.1 c.in_ok-reports.ensures c.plain_at_first-count.ensures (omega (arith, few, other)) c.index-plans-count.is
     c.in_ok-report.ensures c.in_ok-push.ensures.items
+
+pub play_plain-requires-clause-opened : goal.play_plain-requires-clause-opened
+play_plain-requires-clause-opened g c = c.requires.opened
+
+pub play_restart-requires-clause-index : goal.play_restart-requires-clause-index
+play_restart-requires-clause-index g c κs within = c.in_ok-reports.ensures.leaves.index
+
+pub play_restart-requires-clause-quiet : goal.play_restart-requires-clause-quiet
+play_restart-requires-clause-quiet g c κs within = c.in_ok-reports.ensures.leaves.quiet
+
+pub play_restart-requires-clause-stamps : goal.play_restart-requires-clause-stamps
+play_restart-requires-clause-stamps g c κs within = c.in_ok-reports.ensures.leaves.stamps
+
+pub returns-clause-some : goal.returns-clause-some
+returns-clause-some g c some =
+    let pushed = ap length c.in_ok-push.ensures.items ∙ length-append c.in_ok-reports.field-0.reports.items (c.in_ok-report.field-0.report ∷ []) in
+    omega (arith, pushed)
+
+pub returns-clause-opened : goal.returns-clause-opened
+returns-clause-opened g c less = (c.in_ok-report.ensures.image, c.in_ok-report.ensures.opened)

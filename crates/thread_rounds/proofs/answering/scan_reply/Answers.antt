@@ -1,4 +1,4 @@
-use Rattle.std.proofs.Common.{ℕ, ◌<◌, ◌^◌, false, true, length, subst, arith}
+use Rattle.std.proofs.Common.{ℕ, ◌<◌, ◌^◌, false, true, length, inl, inr, refl, subst, arith}
 use Rattle.std.specs.Prelude.{Ok}
 use Rattle.pac_index.specs.Callers.{seen_by}
 use Rattle.pac_index.specs.CutScans.{ScanEnds}
@@ -36,3 +36,13 @@ pub returns-in-Cut-clause-told : goal.returns-in-Cut-clause-told
 returns-in-Cut-clause-told g c =
     let long : length c.in-Cut.parts < 2 ^ 64 = search arith in
     (scan-told c.args.from c.args.count true (seen_by c.args.caller.now) (seen_by c.scan_at.new.caller) c.in-Cut.parts (cut-parts g c), long)
+
+pub returns-in-Done-clause-ends : goal.returns-in-Done-clause-ends
+returns-in-Done-clause-ends g c =
+    let ends = subst (λ (s : Scanned). ScanEnds {E = ℕ} (Ok s) c.args.caller.now c.scan_at.new.caller) c.in-Done.is c.in_ok-parts.ensures.ends in
+    inl (record { answered = refl; rests = ends.0; next = ends.1 })
+
+pub returns-in-Cut-clause-ends : goal.returns-in-Cut-clause-ends
+returns-in-Cut-clause-ends g c =
+    let ends = subst (λ (s : Scanned). ScanEnds {E = ℕ} (Ok s) c.args.caller.now c.scan_at.new.caller) c.in-Cut.is c.in_ok-parts.ensures.ends in
+    inr (record { begun = λ is. cc; spent = ends.0.spent })

@@ -1,4 +1,6 @@
-use Rattle.std.proofs.Common.{sym, subst}
+use Rattle.std.proofs.Common.{◌<◌, sym, subst}
+use Rattle.std.specs.Prelude.{All}
+use Rattle.cat_history.specs.declared.op.CallerOp.{CallerOp}
 use Rattle.std.proofs.lemmas.Result.{IfOk-weaker}
 use Rattle.pac_index.specs.index_core.specs.Indexes.{parties_of}
 use Rattle.pac_index.specs.declared.rule.About.{About}
@@ -44,3 +46,15 @@ returns-in-Some g c = record {
       c.in_ok-shared.ensures.opened c.in_ok-played.ensures c.in_ok-callers.ensures round c.in-Some.crash c.in-Some.is ended)
       c.crashed.ensures;
 }
+
+pub all_play-requires-clause-callers : goal.all_play-requires-clause-callers
+all_play-requires-clause-callers g c κs lives =
+    let opened = c.in_ok-shared.ensures.opened in
+    subst (λ (a : About). HasCallers c.in_ok-shared.shared (parties_of a.layout) c.in_ok-shared.callers.items) (sym opened.about) opened.callers_of
+
+pub all_play-requires-clause-new : goal.all_play-requires-clause-new
+all_play-requires-clause-new g c κs lives = c.in_ok-shared.ensures.opened.fresh
+
+pub all_play-requires-clause-asked : goal.all_play-requires-clause-asked
+all_play-requires-clause-asked g c κs lives =
+    subst (λ (a : About). All (λ (o : CallerOp). o.caller < a.layout.callers) c.args.plan.now.ops) (sym c.in_ok-shared.ensures.opened.about) c.requires.callers

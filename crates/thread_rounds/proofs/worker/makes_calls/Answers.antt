@@ -1,11 +1,15 @@
-use Rattle.std.proofs.Common.{◌≡◌, ℕ, ◌+◌, ◌<◌, ◌^◌, List, [], ◌∷◌, ◌++◌, length, get_or, sym, ap, subst, ◌∙◌, arith}
+use Rattle.std.proofs.Common.{◌≡◌, ℕ, ◌+◌, ◌<◌, ◌^◌, List, [], ◌∷◌, ◌++◌, length, get_or, take, sym, ap, subst, ◌∙◌, arith}
 use Rattle.cat_history.specs.declared.op.CallerOp.{CallerOp}
 use Rattle.cat_history.specs.declared.record.Record.{Record}
 use Rattle.pac_index.specs.declared.caller.Caller.{Caller}
-use Rattle.pac_index.specs.Callers.{IsCallerOf}
+use Rattle.std.proofs.lemmas.List.{take_all}
+use Rattle.caller_rounds.specs.CallerRounds.{asked_of}
+use Rattle.cat_history.specs.declared.op.Op.{Op}
+use Rattle.pac_index.specs.Callers.{IsCallerOf, seen_by}
+use Rattle.pac_index.specs.Kept.{placed_by}
 use Rattle.thread_rounds.specs.Made.{made}
-use Rattle.thread_rounds.specs.Played.{budget_of}
-use Rattle.thread_rounds.proofs.Playing.{PlaysSoFar, index-is, none-made, one-made}
+use Rattle.thread_rounds.specs.Played.{HasPlayed, budget_of}
+use Rattle.thread_rounds.proofs.Playing.{PlaysSoFar, begins-playing, index-is, none-made, one-made}
 use Rattle.thread_rounds.proofs.worker.makes_calls.Goals.{then-call-number+in_ok-reply+in_ok-push, else-call-number}
 use Rattle.thread_rounds.proofs.worker.makes_calls.Goals as goal
 
@@ -45,3 +49,32 @@ loop-at-preserved g c =
             (none-made plan c.args.caller.number budget c.loop-at.at c.loop-at.caller c.loop-at.index c.loop-at.records.items before.2 c.index-asked-at.result less there (λ same. w.if-call-number.false (same ∙ sym before.1))))),
       )
     ]
+
+pub loop-at-init : goal.loop-at-init
+loop-at-init g c =
+    let plan = c.args.plan.now in
+    let number = c.args.caller.number in
+    let new = c.requires.new in
+    let bound = c.bound.new.self in
+    let left = c.bound.ensures.left in (
+      c.bound.ensures.caller c.args.shared.now c.requires.may.0,
+      c.number-number.ensures,
+      subst (PlaysSoFar plan number (budget_of plan.crash number) 0 bound 0) (sym c.new-records.ensures.items)
+          (begins-playing plan number (budget_of plan.crash number) bound (ap (λ (k : Caller). k.number) left) (ap (λ (k : Caller). placed_by number (seen_by k).seen) left ∙ ap (placed_by number) new.seen)
+          (ap (λ (k : Caller). (seen_by k).added) left ∙ new.added) (ap (λ (k : Caller). k.index) left ∙ new.index)
+          (ap (λ (k : Caller). k.left) left ∙ c.budget_of.ensures ∙ ap (budget_of plan.crash) c.number-number.ensures) c.bound.ensures.rests),
+    )
+
+pub returns : goal.returns
+returns g c =
+    let plan = c.args.plan.now in
+    let number = c.args.caller.number in
+    let played = c.loop-at.invariant.2 in
+    let past = c.loop-at-test.false in
+    let asked : asked_of number (take c.loop-at.at plan.ops) ≡ asked_of number plan.ops =
+    ap (asked_of number) (take_all c.loop-at.at plan.ops (omega (arith, past, ap length c.as_slice-asked.ensures))) in
+    record {
+      of = c.loop-at.invariant.0;
+      number = played.number_is;
+      has = subst (λ (ops : List Op). HasPlayed plan.limit number (budget_of plan.crash number) ops c.loop-at.caller c.loop-at.records.items) asked played.has;
+    }

@@ -28,3 +28,11 @@ returns-else-number-callers g c =
           (subst (λ (l : List Record). HasPlayed plan.limit number (budget_of plan.crash number) [] turned l) (sym c.new.ensures.items)
           (nothing-played plan.limit number (budget_of plan.crash number) turned none (read.added ∙ c.requires.new.added) c.makes_turns-caller.ensures.uncut rests));
     }
+
+pub makes_calls-requires-clause-may : goal.makes_calls-requires-clause-may
+makes_calls-requires-clause-may g c κs lives =
+    let below = c.if-number-callers.true in
+    (c.requires.caller, omega (arith, below, c.number.ensures, ap (λ l. l.callers) c.layout.ensures.layout, c.callers.ensures))
+
+pub returns-then-number-callers : goal.returns-then-number-callers
+returns-then-number-callers g c = c.makes_calls.ensures

@@ -1,8 +1,11 @@
-use Rattle.std.proofs.Common.{◌≤◌, refl, sym, subst, arith}
+use Rattle.std.specs.FinMap.{remove}
+use Rattle.shapes.specs.Anchors.{del_anchors}
+use Rattle.cat_history.specs.Maps.{at}
+use Rattle.std.proofs.Common.{◌≤◌, refl, sym, subst, arith, ◌≡◌, ◌<◌}
 use Rattle.shapes.specs.Anchors.{merges}
 use Rattle.index_law.specs.Anchors.{anchors_in}
 use Rattle.recovery.specs.index_core.specs.Indexes.{Index, map_of_index, world}
-use Rattle.core_rounds.specs.CoreMaps.{Waits}
+use Rattle.core_rounds.specs.CoreMaps.{Waits, calls_left_of, writes_left_of}
 use Rattle.core_rounds.specs.Updated.{WaitBehind}
 use Rattle.core_rounds.specs.Waiting.{one_if}
 use Rattle.core_rounds.proofs.CoreMaps.{told_name, removal_counted, stays_run, uses_of}
@@ -51,3 +54,43 @@ pub returns-else-is_some-clause-weighs : goal.returns-else-is_some-clause-weighs
 returns-else-is_some-clause-weighs g c =
     subst (λ (s : Index). weight_of c.call_alone.new.core ≤ weight_of s) c.self.view_is
     (let none = no_put_adds c.in-Ok.old (op.Del c.args.name.now) refl in omega (arith, none, c.in-Ok.ensures.weighs))
+
+pub call_alone-requires-clause-index : goal.call_alone-requires-clause-index
+call_alone-requires-clause-index g c = c.self.invariant.0.index
+
+pub call_alone-requires-clause-quiet : goal.call_alone-requires-clause-quiet
+call_alone-requires-clause-quiet g c = c.self.invariant.0.quiet
+
+pub call_alone-requires-clause-stamps : goal.call_alone-requires-clause-stamps
+call_alone-requires-clause-stamps g c = c.self.invariant.0.stamps
+
+pub call_alone-requires-clause-caller : goal.call_alone-requires-clause-caller
+call_alone-requires-clause-caller g c = subst (λ (s : Index). c.args.caller < s.layout.callers) (sym c.self.view_is) c.requires.caller
+
+pub call_alone-requires-clause-calls_left : goal.call_alone-requires-clause-calls_left
+call_alone-requires-clause-calls_left g c = subst (λ (s : Index). 0 < calls_left_of s) (sym c.self.view_is) c.requires.calls
+
+pub call_alone-requires-clause-writes_left : goal.call_alone-requires-clause-writes_left
+call_alone-requires-clause-writes_left g c = subst (λ (s : Index). 0 < writes_left_of s) (sym c.self.view_is) c.requires.writes
+
+pub returns-then-is_some-clause-old : goal.returns-then-is_some-clause-old
+returns-then-is_some-clause-old g c = subst (λ (s : Index). c.in-Ok.old ≡ at (map_of_index s) c.args.name.now) c.self.view_is c.in-Ok.ensures.old
+
+pub returns-then-is_some-clause-after : goal.returns-then-is_some-clause-after
+returns-then-is_some-clause-after g c = subst (λ (s : Index). map_of_index c.call_alone.new.core ≡ remove (map_of_index s) c.args.name.now) c.self.view_is c.in-Ok.ensures.ok
+
+pub returns-then-is_some-clause-anchors : goal.returns-then-is_some-clause-anchors
+returns-then-is_some-clause-anchors g c =
+    subst (λ (s : Index). anchors_in (world c.call_alone.new.core) ≡ del_anchors s.layout.slots (map_of_index s) (anchors_in (world s)) c.args.name.now)
+    c.self.view_is c.in-Ok.ensures.anchors
+
+pub returns-else-is_some-clause-old : goal.returns-else-is_some-clause-old
+returns-else-is_some-clause-old g c = subst (λ (s : Index). c.in-Ok.old ≡ at (map_of_index s) c.args.name.now) c.self.view_is c.in-Ok.ensures.old
+
+pub returns-else-is_some-clause-after : goal.returns-else-is_some-clause-after
+returns-else-is_some-clause-after g c = subst (λ (s : Index). map_of_index c.call_alone.new.core ≡ remove (map_of_index s) c.args.name.now) c.self.view_is c.in-Ok.ensures.ok
+
+pub returns-else-is_some-clause-anchors : goal.returns-else-is_some-clause-anchors
+returns-else-is_some-clause-anchors g c =
+    subst (λ (s : Index). anchors_in (world c.call_alone.new.core) ≡ del_anchors s.layout.slots (map_of_index s) (anchors_in (world s)) c.args.name.now)
+    c.self.view_is c.in-Ok.ensures.anchors

@@ -1,6 +1,7 @@
-use Rattle.std.proofs.Common.{refl, sym, subst, arith}
-use Rattle.recovery.specs.index_core.specs.Indexes.{Index}
-use Rattle.core_rounds.specs.CoreMaps.{Waits}
+use Rattle.cat_history.specs.Maps.{at}
+use Rattle.std.proofs.Common.{refl, sym, subst, arith, ◌≡◌, ◌<◌}
+use Rattle.recovery.specs.index_core.specs.Indexes.{Index, map_of_index}
+use Rattle.core_rounds.specs.CoreMaps.{Waits, calls_left_of}
 use Rattle.core_rounds.proofs.Waiting.{no_more, none_changed}
 use Rattle.core_rounds.proofs.CoreMaps.{no_put_adds, same_of, uses_of}
 use Rattle.cat_history.specs.declared.op.NameOp.TheVariants as op
@@ -19,3 +20,21 @@ pub returns-clause-waits : goal.returns-clause-waits
 returns-clause-waits g c changes writes puts waits =
     let here = subst (λ (s : Index). Waits s changes writes puts) (sym c.self.view_is) waits in
     none_changed c.call_alone.new.core (c.in-Ok.ensures.waits changes writes puts (no_more c.self.inside.core here))
+
+pub call_alone-requires-clause-index : goal.call_alone-requires-clause-index
+call_alone-requires-clause-index g c = c.self.invariant.0.index
+
+pub call_alone-requires-clause-quiet : goal.call_alone-requires-clause-quiet
+call_alone-requires-clause-quiet g c = c.self.invariant.0.quiet
+
+pub call_alone-requires-clause-stamps : goal.call_alone-requires-clause-stamps
+call_alone-requires-clause-stamps g c = c.self.invariant.0.stamps
+
+pub call_alone-requires-clause-caller : goal.call_alone-requires-clause-caller
+call_alone-requires-clause-caller g c = subst (λ (s : Index). c.args.caller < s.layout.callers) (sym c.self.view_is) c.requires.caller
+
+pub call_alone-requires-clause-calls_left : goal.call_alone-requires-clause-calls_left
+call_alone-requires-clause-calls_left g c = subst (λ (s : Index). 0 < calls_left_of s) (sym c.self.view_is) c.requires.calls
+
+pub returns-clause-number : goal.returns-clause-number
+returns-clause-number g c = subst (λ (s : Index). c.in-Ok.old ≡ at (map_of_index s) c.args.name.now) c.self.view_is c.in-Ok.ensures.old

@@ -1,6 +1,6 @@
-use Rattle.std.proofs.Common.{subst}
+use Rattle.std.proofs.Common.{subst, ◌<◌, sym}
 use Rattle.recovery.specs.index_core.specs.Indexes.{Index}
-use Rattle.core_rounds.specs.CoreMaps.{Waits}
+use Rattle.core_rounds.specs.CoreMaps.{Waits, calls_left_of}
 use Rattle.core_rounds.specs.Updated.{WaitOn}
 use Rattle.core_rounds.proofs.CoreMaps.{same_of, uses_of}
 use Rattle.core_rounds.proofs.core_map.CoreMapUpdatedMap.part.Goals as goal
@@ -22,3 +22,15 @@ returns-in_err-listed_pairs-clause-waits g c = subst (λ (s : Index). WaitOn (Wa
 
 pub returns-clause-waits : goal.returns-clause-waits
 returns-clause-waits g c = subst (λ (s : Index). WaitOn (Waits s) (Waits c.list_alone-words.new.core)) c.self.view_is c.list_alone-words.ensures.waits
+
+pub list_alone-words-requires-clause-index : goal.list_alone-words-requires-clause-index
+list_alone-words-requires-clause-index g c = c.self.invariant.0.index
+
+pub list_alone-words-requires-clause-quiet : goal.list_alone-words-requires-clause-quiet
+list_alone-words-requires-clause-quiet g c = c.self.invariant.0.quiet
+
+pub list_alone-words-requires-clause-caller : goal.list_alone-words-requires-clause-caller
+list_alone-words-requires-clause-caller g c = subst (λ (s : Index). c.args.caller < s.layout.callers) (sym c.self.view_is) c.requires.caller
+
+pub list_alone-words-requires-clause-calls_left : goal.list_alone-words-requires-clause-calls_left
+list_alone-words-requires-clause-calls_left g c = subst (λ (s : Index). 0 < calls_left_of s) (sym c.self.view_is) c.requires.calls

@@ -1,10 +1,13 @@
-use Rattle.std.proofs.Common.{◌+◌, ◌≤◌, refl, subst, arith}
+use Rattle.std.specs.FinMap.{insert}
+use Rattle.shapes.specs.Anchors.{put_anchors}
+use Rattle.cat_history.specs.Maps.{at}
+use Rattle.std.proofs.Common.{◌+◌, ◌≤◌, refl, subst, arith, ◌≡◌, ◌<◌, sym}
 use Rattle.std.specs.Prelude.{is_none}
 use Rattle.shapes.specs.Anchors.{splits}
 use Rattle.index_law.specs.Anchors.{anchors_in}
 use Rattle.recovery.specs.index_core.specs.Indexes.{Index, map_of_index, world}
 use Rattle.recovery.specs.index_core.specs.Weights.{weight_of}
-use Rattle.core_rounds.specs.CoreMaps.{Waits}
+use Rattle.core_rounds.specs.CoreMaps.{Waits, calls_left_of, writes_left_of}
 use Rattle.core_rounds.specs.Updated.{WaitBehind}
 use Rattle.core_rounds.specs.Waiting.{one_if}
 use Rattle.core_rounds.proofs.CoreMaps.{few_names, on-err, put_adds, put_counted, same_counted, same_of}
@@ -68,3 +71,43 @@ pub returns-else-is_none-clause-weighs : goal.returns-else-is_none-clause-weighs
 returns-else-is_none-clause-weighs g c =
     subst (λ (s : Index). weight_of c.call_alone.new.core ≤ weight_of s + one_if (is_none c.in_ok-old.old)) c.self.view_is
     (let adds = put_adds c.in_ok-old.old c.args.name.now c.args.value in omega (arith, adds, c.in_ok-old.ensures.weighs))
+
+pub call_alone-requires-clause-index : goal.call_alone-requires-clause-index
+call_alone-requires-clause-index g c = c.self.invariant.0.index
+
+pub call_alone-requires-clause-quiet : goal.call_alone-requires-clause-quiet
+call_alone-requires-clause-quiet g c = c.self.invariant.0.quiet
+
+pub call_alone-requires-clause-stamps : goal.call_alone-requires-clause-stamps
+call_alone-requires-clause-stamps g c = c.self.invariant.0.stamps
+
+pub call_alone-requires-clause-caller : goal.call_alone-requires-clause-caller
+call_alone-requires-clause-caller g c = subst (λ (s : Index). c.args.caller < s.layout.callers) (sym c.self.view_is) c.requires.caller
+
+pub call_alone-requires-clause-calls_left : goal.call_alone-requires-clause-calls_left
+call_alone-requires-clause-calls_left g c = subst (λ (s : Index). 0 < calls_left_of s) (sym c.self.view_is) c.requires.calls
+
+pub call_alone-requires-clause-writes_left : goal.call_alone-requires-clause-writes_left
+call_alone-requires-clause-writes_left g c = subst (λ (s : Index). 0 < writes_left_of s) (sym c.self.view_is) c.requires.writes
+
+pub returns-then-is_none-clause-old : goal.returns-then-is_none-clause-old
+returns-then-is_none-clause-old g c = subst (λ (s : Index). c.in_ok-old.old ≡ at (map_of_index s) c.args.name.now) c.self.view_is c.in_ok-old.ensures.old
+
+pub returns-then-is_none-clause-ok : goal.returns-then-is_none-clause-ok
+returns-then-is_none-clause-ok g c = subst (λ (s : Index). map_of_index c.call_alone.new.core ≡ insert (map_of_index s) c.args.name.now c.args.value) c.self.view_is c.in_ok-old.ensures.ok
+
+pub returns-then-is_none-clause-splits : goal.returns-then-is_none-clause-splits
+returns-then-is_none-clause-splits g c =
+    subst (λ (s : Index). anchors_in (world c.call_alone.new.core) ≡ put_anchors s.layout.slots (map_of_index s) (anchors_in (world s)) c.args.name.now)
+    c.self.view_is c.in_ok-old.ensures.anchors
+
+pub returns-else-is_none-clause-old : goal.returns-else-is_none-clause-old
+returns-else-is_none-clause-old g c = subst (λ (s : Index). c.in_ok-old.old ≡ at (map_of_index s) c.args.name.now) c.self.view_is c.in_ok-old.ensures.old
+
+pub returns-else-is_none-clause-ok : goal.returns-else-is_none-clause-ok
+returns-else-is_none-clause-ok g c = subst (λ (s : Index). map_of_index c.call_alone.new.core ≡ insert (map_of_index s) c.args.name.now c.args.value) c.self.view_is c.in_ok-old.ensures.ok
+
+pub returns-else-is_none-clause-splits : goal.returns-else-is_none-clause-splits
+returns-else-is_none-clause-splits g c =
+    subst (λ (s : Index). anchors_in (world c.call_alone.new.core) ≡ put_anchors s.layout.slots (map_of_index s) (anchors_in (world s)) c.args.name.now)
+    c.self.view_is c.in_ok-old.ensures.anchors
