@@ -1,11 +1,15 @@
 -- How the bytes that one read or one write moves add up, where they are told.
 use Rattle.std.proofs.Common.{◌≡◌, ℕ, ◌+◌, ◌<◌, ◌≤◌, Option, List, [], ◌++◌, None, Some, IfSome, OnErr, Result, Ok, Err}
-use Rattle.std.proofs.Common.{arith, length, take, drop, sym, ap, ◌∙◌, subst, append-nil, length-append}
+use Rattle.std.proofs.Common.{arith, length, take, drop, sym, ap, ◌∙◌, subst, append-nil, length-append, true, false, refl}
+use Rattle.std.specs.Prelude.{◌↔◌}
+use Rattle.std.proofs.lemmas.Bool.{false≢true}
 use Rattle.std.proofs.lemmas.List.{drop-drop, length-take-le, take-append-drop}
 use Rattle.std.proofs.Math.Seq.{take-append_seam}
 use Rattle.std.specs.Io.KnownBytes.{Appends, Consumes, IsAtEnd, Keeps}
 use Rattle.std.proofs.KnownBytes.{Appends-kept, Consumes-trans}
 use Rattle.cat_text.specs.Outside.{AppendsPart, ConsumesAtMost, Moves}
+use Rattle.cat_text.specs.declared.outside.fault.OutsideFault.{OutsideFault}
+use Rattle.cat_text.specs.declared.outside.fault.OutsideFault.TheVariants.{Failed, NoMemory}
 
 -- what went to the text, read by read, is what the source lost
 pub Consumes-moved : (a b c : Option (List ℕ)) (before after : List ℕ) (count : ℕ)
@@ -68,3 +72,19 @@ front-moved xs ys place count fits =
     subst (λ n. take n (front ++ ys) ≡ front) (length-take-le count rest fits) (take-append_seam front ys) in
     sym (ap (λ l. l ++ drop (place + count) xs) reads
     ∙ ap (λ l. front ++ l) (sym (drop-drop count place xs)) ∙ take-append-drop count rest)
+
+-- a call that did not fail was not to fail
+pub went_on : {P N : Type 0} → (P → ⊥) → ((false ≡ true) ↔ N) → P ↔ N
+went_on never plan = (λ p. absurd (never p), λ n. absurd (false≢true (plan.1 n)))
+
+-- a call that failed was to fail
+pub gave_up : {P N : Type 0} → P → ((true ≡ true) ↔ N) → P ↔ N
+gave_up p plan = (λ _. plan.0 refl, λ _. p)
+
+-- an answer for want of memory is not one of a call that failed
+pub no_memory : {T : Type 0} (r : Result T OutsideFault) (fault : OutsideFault) → r ≡ Err fault → fault ≡ NoMemory → r ≡ Err Failed → ⊥
+no_memory r fault is lacks failed = cc
+
+-- nor is an answer `Ok`
+pub not_ok : {T : Type 0} (value : T) (r : Result T OutsideFault) → r ≡ Ok value → r ≡ Err Failed → ⊥
+not_ok value r is failed = cc

@@ -1,12 +1,13 @@
 -- A run on a file, from what it read, what it played, and what it saved.
-use Rattle.std.proofs.Common.{ℕ, List, subst, inl, inr}
+use Rattle.std.proofs.Common.{ℕ, ◌≤◌, List, subst, refl, arith, inl, inr}
 use Rattle.std.specs.Prelude.{Option, Some, None}
 use Rattle.cat_script.specs.Scripts.{IsScript}
 use Rattle.cat_script.specs.declared.script.Script.{Script}
 use Rattle.cat_text.specs.Shelves.{FileMap, KeepsFiles, SavesFile}
 use Rattle.pm_words.specs.Images.{Row}
-use Rattle.catalog_cli.specs.Files.{HasImage, IsSaveRefused, SavesImage}
-use Rattle.catalog_cli.specs.Runs.{AreBytesLeft, IsPlayRefused, IsRunLeft, IsRunOn, IsRunOnFile, IsRunRefused}
+use Rattle.catalog_cli.specs.Files.{HasImage, IsLoadRefused, IsSaveRefused, SavesImage}
+use Rattle.catalog_cli.specs.Refused.{IsUnread}
+use Rattle.catalog_cli.specs.Runs.{AreBytesLeft, HasScript, IsPlayRefused, IsRunLeft, IsRunOn, IsRunOnFile, IsRunRefused}
 use Rattle.catalog_cli.specs.declared.status.ImageRefusal.TheVariants as image
 use Rattle.catalog_cli.specs.declared.status.Status.{Status}
 use Rattle.catalog_cli.specs.declared.status.Status.TheVariants as status
@@ -60,3 +61,59 @@ not-saved left files between files' name bytes text old new shelves shelves' sta
     inr (text, ran-on-file left files between files' name bytes text old new source had run kept saves)
 not-saved left files between files' name bytes text old new shelves shelves' status.NoMemory source had run kept refused = keeps-after files between files' kept refused
 not-saved left files between files' name bytes text old new shelves shelves' (status.Image refusal) source had run kept refused = absurd refused
+
+-- what leaves the files as they were, whatever it is answered
+pub left-so : (left : Option (List ℕ)) (files files' : Option FileMap) (name : List ℕ) (answer : Status) → KeepsFiles files files' → IsRunLeft left files files' name answer
+left-so left files files' name status.Done kept = kept
+left-so left files files' name status.Usage kept = kept
+left-so left files files' name (status.Script what) kept = kept
+left-so left files files' name status.Read kept = kept
+left-so left files files' name status.Write kept = kept
+left-so left files files' name status.Shelf kept = inl kept
+left-so left files files' name status.NoMemory kept = kept
+left-so left files files' name (status.Image refusal) kept = kept
+
+-- a script that wasn't read
+pub not-read-on : (left : Option (List ℕ)) (files : Option FileMap) (name : List ℕ) (reads reads' shelves shelves' : ℕ) (answer : Status) →
+    IsUnread left reads reads' answer → IsRunRefused left files name reads reads' shelves shelves' answer
+not-read-on left files name reads reads' shelves shelves' status.Done refused = absurd refused
+not-read-on left files name reads reads' shelves shelves' status.Usage refused = absurd refused
+not-read-on left files name reads reads' shelves shelves' (status.Script what) refused = inl (what, refused, refl)
+not-read-on left files name reads reads' shelves shelves' status.Read refused = refused
+not-read-on left files name reads reads' shelves shelves' status.Write refused = absurd refused
+not-read-on left files name reads reads' shelves shelves' status.Shelf refused = absurd refused
+not-read-on left files name reads reads' shelves shelves' status.NoMemory refused = tt
+not-read-on left files name reads reads' shelves shelves' (status.Image refusal) refused = absurd refused
+
+-- a file that wasn't loaded
+pub not-loaded : (left : Option (List ℕ)) (files : Option FileMap) (name : List ℕ) (reads reads' shelves shelves' : ℕ) (answer : Status) → HasScript left →
+    IsLoadRefused files shelves shelves' name answer → IsRunRefused left files name reads reads' shelves shelves' answer
+not-loaded left files name reads reads' shelves shelves' status.Done script refused = absurd refused
+not-loaded left files name reads reads' shelves shelves' status.Usage script refused = absurd refused
+not-loaded left files name reads reads' shelves shelves' (status.Script what) script refused = absurd refused
+not-loaded left files name reads reads' shelves shelves' status.Read script refused = absurd refused
+not-loaded left files name reads reads' shelves shelves' status.Write script refused = absurd refused
+not-loaded left files name reads reads' shelves shelves' status.Shelf script refused = (script, refused)
+not-loaded left files name reads reads' shelves shelves' status.NoMemory script refused = tt
+not-loaded left files name reads reads' shelves shelves' (status.Image image.Missing) script refused = (script, refused)
+not-loaded left files name reads reads' shelves shelves' (status.Image image.Exists) script refused = absurd refused
+not-loaded left files name reads reads' shelves shelves' (status.Image (image.Bytes fault)) script refused = (script, refused)
+not-loaded left files name reads reads' shelves shelves' (status.Image (image.Damaged rule word)) script refused = absurd refused
+not-loaded left files name reads reads' shelves shelves' (status.Image image.Generations) script refused = absurd refused
+
+-- or not saved
+pub not-saved-on : (left : Option (List ℕ)) (files between files' : Option FileMap) (name : List ℕ) (new : Row) (reads reads' before shelves shelves' : ℕ) (answer : Status) → HasScript left → before ≤ shelves →
+    IsSaveRefused between files' shelves shelves' name new answer → IsRunRefused left files name reads reads' before shelves' answer
+not-saved-on left files between files' name new reads reads' before shelves shelves' status.Done script rises refused = absurd refused
+not-saved-on left files between files' name new reads reads' before shelves shelves' status.Usage script rises refused = absurd refused
+not-saved-on left files between files' name new reads reads' before shelves shelves' (status.Script what) script rises refused = absurd refused
+not-saved-on left files between files' name new reads reads' before shelves shelves' status.Read script rises refused = absurd refused
+not-saved-on left files between files' name new reads reads' before shelves shelves' status.Write script rises refused = absurd refused
+not-saved-on left files between files' name new reads reads' before shelves shelves' status.Shelf script rises refused = (script, (let rose = refused.0 in omega (arith, rose, rises)))
+not-saved-on left files between files' name new reads reads' before shelves shelves' status.NoMemory script rises refused = tt
+not-saved-on left files between files' name new reads reads' before shelves shelves' (status.Image refusal) script rises refused = absurd refused
+
+-- what wasn't touched
+pub kept-first : (files : Option FileMap) → KeepsFiles files files
+kept-first None = tt
+kept-first (Some told) = refl

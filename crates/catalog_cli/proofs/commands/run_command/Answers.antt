@@ -1,5 +1,6 @@
 use Rattle.catalog_cli.proofs.FileOutcomes.{left-then}
-use Rattle.catalog_cli.proofs.Outcomes.{printed, printed-part, printed-named}
+use Rattle.std.proofs.KnownBytes.{Keeps-refl}
+use Rattle.catalog_cli.proofs.Outcomes.{ends-so, printed, printed-part, printed-named, writes-none}
 use Rattle.catalog_cli.specs.Headline.{seen}
 use Rattle.std.proofs.Common.{inr, ap}
 use Rattle.std.specs.Prelude.{Err}
@@ -34,3 +35,17 @@ returns-clause-files g c =
 
 pub returns-in-Ok-write_whole-clause-read_to_end : goal.returns-in-Ok-write_whole-clause-read_to_end
 returns-in-Ok-write_whole-clause-read_to_end g c reads after = c.in-Ok.ensures.read_to_end reads
+
+pub returns-in-Err-clause-cause : goal.returns-in-Err-clause-cause
+returns-in-Err-clause-cause g c =
+    let made = c.text_of.new in
+    let told = seen (g.S.Source.left c.args.script.now) (g.H.Shelf.files c.args.shelf.now) (g.H.Shelf.files made.shelf) (g.S.Source.faults c.args.script.now) (g.S.Source.faults made.script)
+    (g.H.Shelf.faults c.args.shelf.now) (g.H.Shelf.faults made.shelf) in
+    ends-so _ told _ c.in-Err.status c.in-Err.ensures.cause
+
+pub returns-in-Err-clause-sink : goal.returns-in-Err-clause-sink
+returns-in-Err-clause-sink g c =
+    let made = c.text_of.new in
+    let told = seen (g.S.Source.left c.args.script.now) (g.H.Shelf.files c.args.shelf.now) (g.H.Shelf.files made.shelf) (g.S.Source.faults c.args.script.now) (g.S.Source.faults made.script)
+    (g.H.Shelf.faults c.args.shelf.now) (g.H.Shelf.faults made.shelf) in
+    writes-none _ told _ c.in-Err.status c.in-Err.ensures.cause (Keeps-refl _)

@@ -5,7 +5,8 @@ use Rattle.catalog_cli.specs.Headline.{seen}
 use Rattle.catalog_cli.specs.Headline.Prints.{reports, sums_up, makes_file, lists_words}
 use Rattle.cat_command.specs.Commands.{IsCommand}
 use Rattle.catalog_cli.proofs.FileOutcomes.{not-run, not-told, run-not-of-words}
-use Rattle.catalog_cli.proofs.Outcomes.{not-of-words}
+use Rattle.catalog_cli.proofs.Outcomes.{no-command, no-command-keeps, no-report, no-report-keeps, not-of-words}
+use Rattle.catalog_cli.proofs.FileRuns.{kept-first}
 use Rattle.catalog_cli.proofs.commands.text_of.Goals as goal
 
 pub returns-in_err-text-in-Gen-clause-cause : goal.returns-in_err-text-in-Gen-clause-cause
@@ -49,3 +50,32 @@ returns-in-Run-clause-cause g c =
 pub returns-in-Run-clause-nothing_read : goal.returns-in-Run-clause-nothing_read
 returns-in-Run-clause-nothing_read g c =
     IfErr-weaker c.run_file.result _ _ (λ status refused of_words. absurd (run-not-of-words _ _ _ _ _ _ _ status refused of_words)) c.run_file.ensures.refused
+
+pub returns-in_err-layout-clause-cause : goal.returns-in_err-layout-clause-cause
+returns-in_err-layout-clause-cause g c =
+    let p = err_from_is_err_and c.from_residual.result c.from_residual.ensures.1 in
+    let files = g.H.Shelf.files c.args.shelf.now in
+    rw (p.1, p.2) (no-command _ (seen (g.S.Source.left c.args.script.now) files files (g.S.Source.faults c.args.script.now) (g.S.Source.faults c.args.script.now)
+    (g.H.Shelf.faults c.args.shelf.now) (g.H.Shelf.faults c.args.shelf.now)) c.in_err-layout.field-0.0 c.in_err-layout.ensures.refused)
+
+pub returns-in_err-layout-clause-files_then : goal.returns-in_err-layout-clause-files_then
+returns-in_err-layout-clause-files_then g c =
+    let p = err_from_is_err_and c.from_residual.result c.from_residual.ensures.1 in
+    let files = g.H.Shelf.files c.args.shelf.now in
+    rw (p.1, p.2) (no-command-keeps _ (seen (g.S.Source.left c.args.script.now) files files (g.S.Source.faults c.args.script.now) (g.S.Source.faults c.args.script.now)
+    (g.H.Shelf.faults c.args.shelf.now) (g.H.Shelf.faults c.args.shelf.now)) c.in_err-layout.field-0.0 c.in_err-layout.ensures.refused (kept-first files))
+
+pub returns-in-Play-clause-cause : goal.returns-in-Play-clause-cause
+returns-in-Play-clause-cause g c =
+    let files = g.H.Shelf.files c.args.shelf.now in
+    let faults = g.H.Shelf.faults c.args.shelf.now in
+    let told = seen (g.S.Source.left c.args.script.now) files files (g.S.Source.faults c.args.script.now) (g.S.Source.faults c.report_of.new.script) faults faults in
+    IfErr-weaker c.report_of.result _ _ (λ status refusal.
+    no-report _ c.in-Play.layout told status (subst (IsCommand _) c.in-Play.is c.in_ok-layout.ensures.command) refusal) c.report_of.ensures.refusal
+
+pub returns-in-Play-clause-files_then : goal.returns-in-Play-clause-files_then
+returns-in-Play-clause-files_then g c =
+    let files = g.H.Shelf.files c.args.shelf.now in
+    let faults = g.H.Shelf.faults c.args.shelf.now in
+    let told = seen (g.S.Source.left c.args.script.now) files files (g.S.Source.faults c.args.script.now) (g.S.Source.faults c.report_of.new.script) faults faults in
+    IfErr-weaker c.report_of.result _ _ (λ status refusal. no-report-keeps _ c.in-Play.layout.callers told status refusal (kept-first files)) c.report_of.ensures.refusal
